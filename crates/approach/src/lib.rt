@@ -1,0 +1,62 @@
+// The approach length of document 01, exact over its whole domain: the promise that planning, schedule and program cite.
+ghost use mathlib.Core.Path.{_≡_};
+ghost use mathlib.Core.Bool.{true};
+ghost use Rattle.approach.specs.Approach.{approachLength, inDomain, approach};
+
+pub enum Approach {
+    // Whole millimetres.
+    Length(u32),
+    // The formula is not asked there.
+    Outside,
+}
+
+// Whether the formula is asked there.
+fn in_domain(along: u32, across: u32, straight: u32, runout: u32, reach: u32, offset: u32) -> bool
+    ensures { λ r. ⌜ r ≡ inDomain along across straight runout reach offset ⌝ }
+{
+    (1 <= along)
+        & (along <= 100)
+        & (across <= 10)
+        & (straight <= 100000)
+        & (1 <= runout)
+        & (runout <= 200000)
+        & (reach <= 30000)
+        & (offset <= 40000)
+        & (offset < reach)
+}
+
+// The formula, rounded up; no step of it leaves 64 bits.
+fn whole_length(along: u64, across: u64, straight: u64, runout: u64, reach: u64, offset: u64) -> u64
+    requires { ⌜ inDomain along across straight runout reach offset ≡ true ⌝ }
+    ensures { λ r. ⌜ r ≡ approachLength along across straight runout reach offset ⌝ }
+{
+    let along_reach = along * reach;
+    let dividend = runout * (along_reach + across * straight - along * offset);
+    let divisor = across * runout + along_reach;
+    (dividend + (divisor - 1)) / divisor
+}
+
+// Flare `across` for `along` (b for a) after a straight part T; runout length L, hazard reach R and barrier offset m.
+pub fn approach_length(
+    along: u32,
+    across: u32,
+    straight: u32,
+    runout: u32,
+    reach: u32,
+    offset: u32,
+) -> Approach
+    ensures { λ r. ⌜ r ≡ approach along across straight runout reach offset ⌝ }
+{
+    if in_domain(along, across, straight, runout, reach, offset) {
+        let length = whole_length(
+            along as u64,
+            across as u64,
+            straight as u64,
+            runout as u64,
+            reach as u64,
+            offset as u64,
+        );
+        return Approach::Length(length as u32);
+    }
+    Approach::Outside
+}

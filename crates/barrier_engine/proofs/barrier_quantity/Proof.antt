@@ -1,0 +1,26 @@
+-- `barrier_engine::barrier_quantity` meets its contract: quantity's reply, case by case. Assumes nothing.
+use mathlib.Core.Path.{_≡_, sym, ap, _∙_}
+use borrow.Author.Needs.{needs}
+use Rattle.schedule.specs.Calls.{quantityReply}
+use Rattle.barrier_engine.specs.Interface.{replyOf}
+use Rattle.barrier_engine.proofs.barrier_quantity.Statement.{statement}
+use Rattle.barrier_engine.proofs.barrier_quantity.Tie as tie
+
+returns : tie.Need-returns
+unfolding replyOf
+returns c = ap replyOf (sym (ap quantityReply (c .before .millimetres .given .1)) ∙ c .before .before .before .quantity .ensures)
+
+returns-2 : tie.Need-returns-2
+unfolding replyOf
+returns-2 c = c .refused .ensures ∙ ap replyOf (sym (ap quantityReply (c .before .before .refusal .given .1)) ∙ c .before .before .before .before .quantity .ensures)
+
+pub barrier-quantity-spec : {M : Type 1} → statement M
+barrier-quantity-spec =
+    tie.close
+    (tie.spec
+    (λ c κs. search needs)
+    (λ c. search needs)
+    (λ c. search needs)
+    (λ c κs. search needs)
+    returns
+    returns-2)

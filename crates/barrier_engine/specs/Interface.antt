@@ -1,0 +1,21 @@
+-- The C interface's structs for each answer of the calls.
+-- Assumes nothing.
+use Prim.Native.Nat.{ℕ, _+_}
+use Rattle.refusal.specs.Answer.{Answer, accepted, refused}
+use Rattle.schedule.specs.Calls.{Found, found, nowhere}
+use Rattle.barrier_engine.specs.declared.Reply.{Reply}
+use Rattle.barrier_engine.specs.declared.Record.{Record}
+
+abbrev pub reply : (number value : ℕ) → Reply
+reply number value = record { number = number; value = value }
+
+-- Number 0 is done; else the refusal's number and what it returns.
+unfoldable pub replyOf : Answer ℕ → Reply
+replyOf (accepted value) = reply 0 value
+replyOf (refused number value) = reply number value
+
+-- The record's first byte, and the index behind its last.
+unfoldable pub recordOf : Answer Found → Record
+recordOf (accepted (found p)) = record { number = 0; found = 1; start = p .at; end = p .at + p .len }
+recordOf (accepted nowhere) = record { number = 0; found = 0; start = 0; end = 0 }
+recordOf (refused number value) = record { number = number; found = 0; start = 0; end = 0 }

@@ -1,0 +1,88 @@
+// The engine's C interface: numbers, slices as pointer and length, and replies as plain structs. include/barrier.h declares it.
+use refusal::Refusal;
+use schedule::reply::Located;
+use schedule::reply::Plan;
+use schedule::reply::Quantity;
+ghost use mathlib.Core.Path.{_≡_};
+ghost use lib.ListN.{length};
+ghost use Rattle.refusal.specs.Refusal.{numberOf, valueOf};
+ghost use Rattle.schedule.specs.Calls.{plan, bytesWritten, outputAfter, quantity, lookup};
+ghost use Rattle.barrier_engine.specs.Interface.{replyOf, recordOf, reply};
+
+// Number 0: done, with the bytes written or the millimetres; else document 01's refusal number and what it returns.
+#[repr(C)]
+pub struct Reply {
+    pub number: u64,
+    pub value: u64,
+}
+
+// Number 0, 8 or 10; where found is 1, the record's bytes are [start, end) of the schedule asked for, else both are 0.
+#[repr(C)]
+pub struct Record {
+    pub number: u64,
+    pub found: u64,
+    pub start: u64,
+    pub end: u64,
+}
+
+fn refused(refusal: Refusal) -> Reply
+    ensures { λ r. ⌜ r ≡ reply (numberOf refusal) (valueOf refusal) ⌝ }
+{
+    Reply {
+        number: refusal::refusal_number(refusal),
+        value: refusal::refusal_value(refusal),
+    }
+}
+
+#[no_mangle]
+pub extern "C" fn barrier_plan(job: &[u8], side: u64, out: &mut [u8]) -> Reply
+    ensures { λ r. ⌜ r ≡ replyOf (bytesWritten (plan (now (job .entry)) side (length (now (out .entry))))) ⌝ }
+    ensures { λ _. ⌜ now (out .exit) ≡ outputAfter (plan (now (job .entry)) side (length (now (out .entry)))) (now (out .entry)) ⌝ }
+{
+    match schedule::plan::plan(job, side, out) {
+        Plan::Written(bytes) => Reply {
+            number: 0,
+            value: bytes as u64,
+        },
+        Plan::Refused(refusal) => refused(refusal),
+    }
+}
+
+#[no_mangle]
+pub extern "C" fn barrier_quantity(schedule: &[u8], level: u64, p: u64, q: u64) -> Reply
+    ensures { λ r. ⌜ r ≡ replyOf (quantity (now (schedule .entry)) level p q) ⌝ }
+{
+    match schedule::quantity::quantity(schedule, level, p, q) {
+        Quantity::Millimetres(millimetres) => Reply {
+            number: 0,
+            value: millimetres,
+        },
+        Quantity::Refused(refusal) => refused(refusal),
+    }
+}
+
+#[no_mangle]
+pub extern "C" fn barrier_lookup(right: &[u8], left: &[u8], side: u64, station: u64) -> Record
+    ensures { λ r. ⌜ r ≡ recordOf (lookup (now (right .entry)) (now (left .entry)) side station) ⌝ }
+{
+    match schedule::lookup::locate(right, left, side, station) {
+        Located::Found { start, end } => Record {
+            number: 0,
+            found: 1,
+            start: start as u64,
+            end: end as u64,
+        },
+        Located::Nothing => Record {
+            number: 0,
+            found: 0,
+            start: 0,
+            end: 0,
+        },
+        Located::Refused(refusal) => Record {
+            number: refusal::refusal_number(refusal),
+            found: 0,
+            start: 0,
+            end: 0,
+        },
+    }
+}

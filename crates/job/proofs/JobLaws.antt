@@ -1,0 +1,181 @@
+-- What a job that could be read is known to satisfy: each number lies in its range, and there are as many hazards as the header says.
+-- Assumes nothing.
+use Prim.Native.Nat.{ℕ, zero, suc, _+_, _-_, _≤_, _<_}
+use native.Mathlib.Omega.{arith}
+use native.Mathlib.Nat.{zero-add}
+use mathlib.Core.Path.{_≡_, sym, subst, ap, _∙_}
+use mathlib.Core.Logic.{_⊎_, inl, inr}
+use mathlib.Core.Bool.{true}
+use mathlib.Core.List.{List, [], _∷_, _++_, List·Memᴰ, List·Memᴰ·not-nil, List·Memᴰ·append-cases, List·Memᴰ·eq-of-singleton}
+use lib.ListN.{length, length-append}
+use lib.Dec.{leb}
+use borrow.Author.Tests.{leb-true}
+use Rattle.refusal.specs.Answer.{accepted, unless-refuse}
+use Rattle.refusal.specs.Refusal.{refusal}
+use Rattle.refusal.specs.declared.Refusal.{Refusal}
+use Rattle.refusal.proofs.TestLaws.{and-left, and-right}
+use Rattle.refusal.proofs.AnswerLaws.{bound, tested}
+use Rattle.number.specs.Number.{numberAt}
+use Rattle.job.specs.declared.Header.{Header}
+use Rattle.job.specs.declared.Hazard.{Hazard}
+use Rattle.refusal.specs.declared.Outcome.the-variants.{Done, Refused}
+use Rattle.job.specs.declared.read.JobRead.{JobRead}
+use Rattle.job.specs.Job.{Job, jobOf, Range, within, _to_, headerRanges, hazardRanges, nextInHeader, nextInHazard, Fields, readFields, readHeader, headerOf, hazardOf, Hazards, readHazards, readJob}
+use Rattle.job.specs.Reply.{HeaderReading, headerReading, headerAt, jobAnswer}
+
+-- The numbers read after `got`: each in its range.
+abbrev pub FieldsIn : (List ℕ → Range) → ℕ → List ℕ → List ℕ → Type 0
+FieldsIn rangeOf zero got numbers = got ≡ numbers
+FieldsIn rangeOf (suc k) got numbers = (x : ℕ) × (within (rangeOf got) x ≡ true) × FieldsIn rangeOf k (got ++ x ∷ []) numbers
+
+pub fields-in : (rangeOf : List ℕ → Range) (number : ℕ) (valueOf : List ℕ → ℕ) (k : ℕ) (got s : List ℕ) (at : ℕ) (f : Fields) → readFields rangeOf number valueOf k got s at ≡ accepted f → FieldsIn rangeOf k got (f .numbers)
+unfolding readFields
+fields-in rangeOf number valueOf zero got s at f e = let w : record { numbers = got; next = at } ≡ f = cc in ap (λ (z : Fields). z .numbers) w
+fields-in rangeOf number valueOf (suc k) got s at f e =
+    let b1 = bound (numberAt s at) _ f e in
+    let b2 = bound (unless-refuse (within (rangeOf got) (b1 .first .value)) number (valueOf got)) _ f (b1 .rest) in
+    (b1 .first .value, tested _ number (valueOf got) _ (b2 .taken), fields-in rangeOf number valueOf k (got ++ b1 .first .value ∷ []) s (b1 .first .next) f (b2 .rest))
+
+pub within-low : (r : Range) (x : ℕ) → within r x ≡ true → r .low ≤ x
+within-low r x h = leb-true _ _ (and-left _ (leb x (r .high)) h)
+
+pub within-high : (r : Range) (x : ℕ) → within r x ≡ true → x ≤ r .high
+within-high r x h = leb-true _ _ (and-right (leb (r .low) x) _ h)
+
+-- A header's ranges.
+pub record HeaderFits (h : Header) : Type 0 where
+  pub kind : h .kind ≡ 1
+  pub road : h .begin < h .end
+  pub road-end : h .end ≤ 2000000000
+  pub forward-low : 1 ≤ h .forward
+  pub forward-top : h .forward ≤ 200000
+  pub opposite-top : h .opposite ≤ 200000
+  pub clear-low : 1 ≤ h .zone
+  pub clear-top : h .zone ≤ 30000
+  pub way-top : h .way ≤ 20000
+  pub offset-top : h .offset ≤ 20000
+  pub deflection-low : 1 ≤ h .deflection
+  pub deflection-top : h .deflection ≤ 5000
+  pub along-low : 1 ≤ h .along
+  pub along-top : h .along ≤ 100
+  pub across-top : h .across ≤ 10
+  pub straight-top : h .straight ≤ 100000
+  pub continuity-top : h .continuity ≤ 200000
+  pub count : h .count ≤ 256
+
+header-fits : (numbers : List ℕ) → FieldsIn nextInHeader 14 [] numbers → HeaderFits (headerOf numbers)
+unfolding headerRanges
+header-fits numbers f1 =
+    let f2 = f1 .2 in let f3 = f2 .2 in let f4 = f3 .2 in let f5 = f4 .2 in let f6 = f5 .2 in let f7 = f6 .2 in let f8 = f7 .2 in
+    let f9 = f8 .2 in let f10 = f9 .2 in let f11 = f10 .2 in let f12 = f11 .2 in let f13 = f12 .2 in let f14 = f13 .2 in
+    subst (λ (l : List ℕ). HeaderFits (headerOf l)) (f14 .2)
+    (record {
+      kind = omega (arith, within-low (1 to 1) (f1 .0) (f1 .1), within-high (1 to 1) (f1 .0) (f1 .1));
+      road = omega (arith, within-low ((f2 .0 + 1) to 2000000000) (f3 .0) (f3 .1));
+      road-end = within-high ((f2 .0 + 1) to 2000000000) _ (f3 .1);
+      forward-low = within-low (1 to 200000) _ (f4 .1);
+      forward-top = within-high (1 to 200000) _ (f4 .1);
+      opposite-top = within-high (0 to 200000) _ (f5 .1);
+      clear-low = within-low (1 to 30000) _ (f6 .1);
+      clear-top = within-high (1 to 30000) _ (f6 .1);
+      way-top = within-high (0 to 20000) _ (f7 .1);
+      offset-top = within-high (0 to 20000) _ (f8 .1);
+      deflection-low = within-low (1 to 5000) _ (f9 .1);
+      deflection-top = within-high (1 to 5000) _ (f9 .1);
+      along-low = within-low (1 to 100) _ (f10 .1);
+      along-top = within-high (1 to 100) _ (f10 .1);
+      across-top = within-high (0 to 10) _ (f11 .1);
+      straight-top = within-high (0 to 100000) _ (f12 .1);
+      continuity-top = within-high (0 to 200000) _ (f13 .1);
+      count = within-high (0 to 256) _ (f14 .1);
+    })
+
+-- Of a hazard, its ranges.
+pub record HazardFits (h : Header) (z : Hazard) : Type 0 where
+  pub side : z .side ≤ 1
+  pub begins : h .begin ≤ z .start
+  pub long : z .start < z .end
+  pub ends : z .end ≤ h .end
+  pub offsets : z .near ≤ z .far
+  pub far-top : z .far ≤ 60000
+  pub level-low : 1 ≤ z .level
+  pub level-top : z .level ≤ 6
+
+hazard-fits : (h : Header) (numbers : List ℕ) → FieldsIn (nextInHazard h) 6 [] numbers → HazardFits h (hazardOf numbers)
+unfolding hazardRanges
+hazard-fits h numbers f =
+    subst (λ (l : List ℕ). HazardFits h (hazardOf l)) (f .2 .2 .2 .2 .2 .2)
+    (record {
+      side = within-high (0 to 1) _ (f .1);
+      begins = within-low ((h .begin) to (h .end - 1)) _ (f .2 .1);
+      long = omega (arith, within-low ((f .2 .0 + 1) to (h .end)) (f .2 .2 .0) (f .2 .2 .1));
+      ends = within-high ((f .2 .0 + 1) to (h .end)) _ (f .2 .2 .1);
+      offsets = within-low ((f .2 .2 .2 .0) to 60000) _ (f .2 .2 .2 .2 .1);
+      far-top = within-high ((f .2 .2 .2 .0) to 60000) _ (f .2 .2 .2 .2 .1);
+      level-low = within-low (1 to 6) _ (f .2 .2 .2 .2 .2 .1);
+      level-top = within-high (1 to 6) _ (f .2 .2 .2 .2 .2 .1);
+    })
+
+-- All hazards read fit, and there are as many as asked for.
+pub record HazardsFit (h : Header) (k : ℕ) (zs : List Hazard) : Type 0 where
+  pub count : length zs ≡ k
+  pub each : (z : Hazard) → List·Memᴰ z zs → HazardFits h z
+
+snoc-each : (h : Header) (got : List Hazard) (y : Hazard) → ((z : Hazard) → List·Memᴰ z got → HazardFits h z) → HazardFits h y → (z : Hazard) → List·Memᴰ z (got ++ y ∷ []) → HazardFits h z
+snoc-each h got y all one z m = go (List·Memᴰ·append-cases got m)
+  where
+    go : List·Memᴰ z got ⊎ List·Memᴰ z (y ∷ []) → HazardFits h z
+    go (inl k) = all z k
+    go (inr k) = rw (List·Memᴰ·eq-of-singleton k) one
+
+pub hazards-fit : (h : Header) (k : ℕ) (got : List Hazard) (s : List ℕ) (at : ℕ) (r : Hazards) → ((z : Hazard) → List·Memᴰ z got → HazardFits h z) → readHazards h k got s at ≡ accepted r → HazardsFit h (length got + k) (r .list)
+unfolding readHazards
+hazards-fit h zero got s at r all e =
+    let w : record { list = got; next = at } ≡ r = cc in
+    subst (λ (x : Hazards). HazardsFit h (length got + 0) (x .list)) w (record { count = omega arith; each = all })
+hazards-fit h (suc k) got s at r all e =
+    let b1 = bound (readFields (nextInHazard h) 4 (λ _. length got) 6 [] s at) _ r e in
+    let fit = hazard-fits h (b1 .first .numbers) (fields-in (nextInHazard h) 4 (λ _. length got) 6 [] s at (b1 .first) (b1 .taken)) in
+    let rest = hazards-fit h k (got ++ hazardOf (b1 .first .numbers) ∷ []) s (b1 .first .next) r (snoc-each h got (hazardOf (b1 .first .numbers)) all fit) (b1 .rest) in
+    subst (λ (n : ℕ). HazardsFit h n (r .list)) (count (hazardOf (b1 .first .numbers))) rest
+  where
+    count : (y : Hazard) → length (got ++ y ∷ []) + k ≡ length got + suc k
+    count y = rw (length-append got (y ∷ [])) (omega arith)
+
+-- A header that could be read.
+pub header-at-fits : (s : List ℕ) (x : HeaderReading) → headerAt s ≡ accepted x → HeaderFits (x .header)
+unfolding headerAt readHeader
+header-at-fits s x e =
+    let b = bound (readHeader s) (λ f. accepted (headerReading f)) x e in
+    let same : headerReading (b .first) ≡ x = cc in
+    subst (λ (y : HeaderReading). HeaderFits (y .header)) same (header-fits (b .first .numbers) (fields-in nextInHeader 3 (λ got. length got + 1) 14 [] s 0 (b .first) (b .taken)))
+
+-- A job that could be read.
+pub record JobFits (j : Job) : Type 0 where
+  pub header : HeaderFits (j .header)
+  pub hazards : HazardsFit (j .header) (j .header .count) (j .hazards)
+
+pub job-fits : (s : List ℕ) (j : Job) → readJob s ≡ accepted j → JobFits j
+unfolding readJob readHeader
+job-fits s j e =
+    let b1 = bound (readHeader s) _ j e in
+    let b2 = bound (readHazards (headerOf (b1 .first .numbers)) (headerOf (b1 .first .numbers) .count) [] s (b1 .first .next)) _ j (b1 .rest) in
+    let b3 = bound (unless-refuse (leb (length s) (b2 .first .next)) 7 (b2 .first .next)) _ j (b2 .rest) in
+    finish (b1 .first) (b2 .first) (header-fits (b1 .first .numbers) (fields-in nextInHeader 3 (λ got. length got + 1) 14 [] s 0 (b1 .first) (b1 .taken)))
+    (subst (λ (n : ℕ). HazardsFit (headerOf (b1 .first .numbers)) n (b2 .first .list)) (zero-add _) (hazards-fit (headerOf (b1 .first .numbers)) (headerOf (b1 .first .numbers) .count) [] s (b1 .first .next) (b2 .first) (λ z m. absurd (List·Memᴰ·not-nil m)) (b2 .taken))) (b3 .rest)
+  where
+    finish : (f : Fields) (r : Hazards) → HeaderFits (headerOf (f .numbers)) → HazardsFit (headerOf (f .numbers)) (headerOf (f .numbers) .count) (r .list) → accepted (record { header = headerOf (f .numbers); hazards = r .list }) ≡ accepted j → JobFits j
+    finish f r hf hr c =
+        let w : record { header = headerOf (f .numbers); hazards = r .list } ≡ j = cc in
+        subst JobFits w (record { header = hf; hazards = hr })
+
+-- What `read_job` answers, by its outcome.
+module _ (s : List ℕ) (r : JobRead) (read : jobAnswer r ≡ readJob s) where
+  pub job-done : r .outcome ≡ Done → readJob s ≡ accepted (jobOf (r .job))
+  job-done e = sym read ∙ rw e
+
+  pub job-refused : {x : Refusal} → r .outcome ≡ Refused x → readJob s ≡ refusal x
+  job-refused e = sym read ∙ rw e
+
+  pub stored-fits : r .outcome ≡ Done → JobFits (jobOf (r .job))
+  stored-fits e = job-fits s (jobOf (r .job)) (job-done e)

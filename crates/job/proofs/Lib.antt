@@ -1,0 +1,5 @@
+pub mod JobLaws
+pub mod FieldLaws
+pub mod HeaderLaws
+pub mod HazardLaws
+pub mod RestLaws

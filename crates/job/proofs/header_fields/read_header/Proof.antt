@@ -1,0 +1,37 @@
+-- `job::header_fields::read_header` meets its contract. The loop's invariant: the numbers read stand in the array, and what is left to read
+-- gives the answer. The measure is how many are left.
+-- Assumes nothing.
+use Prim.Native.Nat.{_-_}
+use native.Mathlib.Omega.{arith}
+use borrow.Author.Needs.{needs}
+use Rattle.job.proofs.HeaderLaws.{HeaderLeft, all-left, one-less, header-refused, header-read}
+use Rattle.job.proofs.header_fields.read_header.Statement.{statement}
+use Rattle.job.proofs.header_fields.read_header.Tie as tie
+
+abbrev Inv-loop : tie.InvT-loop
+Inv-loop s numbers₀ at₀ k₀ numbers at k = HeaderLeft s numbers at k
+
+abbrev μ-loop : tie.MeasureT-loop
+μ-loop s numbers₀ at₀ k₀ numbers at k = 14 - k
+
+returns : tie.Need-returns Inv-loop μ-loop
+returns c =
+    let r = c .before .before .before in
+    let l = r .before .before .before .loop in
+    header-refused (r .read-field .result) (l .inv) (r .before .before .loop-test .taken) (r .before .header-range .ensures) (r .read-field .ensures) (c .before .refusal .given .1)
+
+loop-again : tie.Need-loop-again Inv-loop μ-loop
+loop-again c =
+    let r = c .before .before .before in
+    let l = r .before .before .before .loop in
+    one-less (r .read-field .result) (l .inv) (r .before .before .loop-test .taken) (r .before .header-range .ensures) (r .read-field .ensures) (c .before .reading .given .1)
+
+returns-2 : tie.Need-returns-2 Inv-loop μ-loop
+returns-2 c = rw (c .header-of .ensures) (header-read (c .before .before .loop .inv) (c .before .loop-test .left))
+
+pub read-header-spec : {M : Type 1} → statement M
+read-header-spec =
+    tie.close
+    (tie.spec Inv-loop μ-loop (λ c. all-left) (λ c. search needs) (λ c κs. search needs) (λ c. omega arith) (λ c κs. search needs)
+    (λ c. search needs) (λ c. omega arith) (λ c. search needs) (λ c. search needs) returns
+    (λ c. omega arith) (λ c. omega arith) loop-again (λ c κs. search needs) returns-2)

@@ -1,0 +1,136 @@
+-- The job in bytes: its header and hazards, and its reading with refusals 1 to 4 and 7 in their order.
+-- Assumes nothing.
+use Prim.Native.Nat.{ℕ, zero, suc, _+_, _-_}
+use mathlib.Core.Bool.{Bool, _&&_}
+use mathlib.Core.List.{List, [], _∷_, _++_}
+use lib.ListN.{length, getD, take}
+use lib.Dec.{leb}
+use Rattle.refusal.specs.Answer.{Answer, accepted, _>>=_, unless-refuse}
+use Rattle.number.specs.Number.{numberAt}
+use Rattle.job.specs.declared.Header.{Header}
+use Rattle.job.specs.declared.Hazard.{Hazard}
+use Rattle.job.specs.declared.StoredJob.{StoredJob}
+
+pub record Job : Type 0 where
+  pub header : Header
+  pub hazards : List Hazard
+
+-- The job that is stored: the header's count says how many of the hazards are its own.
+abbrev pub jobOf : StoredJob → Job
+jobOf j = record { header = j .header; hazards = take (j .header .count) (j .hazards) }
+
+-- The tables
+
+-- A range, both ends included.
+pub record Range : Type 0 where
+  pub low : ℕ
+  pub high : ℕ
+
+infix 70 _to_
+abbrev pub _to_ : ℕ → ℕ → Range
+l to h = record { low = l; high = h }
+
+abbrev pub within : Range → ℕ → Bool
+within r x = leb (r .low) x && leb x (r .high)
+
+-- The header table's ranges, in order, where the road begins at A.
+unfoldable pub headerRanges : (A : ℕ) → List Range
+headerRanges A =
+    -- 1: kind
+    1 to 1
+    -- 2: A, road begin
+    ∷ 0 to 1999999999
+    -- 3: B, road end
+    ∷ (A + 1) to 2000000000
+    -- 4: LF, runout length of forward traffic (rising stations)
+    ∷ 1 to 200000
+    -- 5: LO, runout length of opposite traffic; 0 means one-way or separated
+    ∷ 0 to 200000
+    -- 6: C, clear-zone width
+    ∷ 1 to 30000
+    -- 7: W, travelled-way edge to centreline
+    ∷ 0 to 20000
+    -- 8: M, barrier offset from that edge
+    ∷ 0 to 20000
+    -- 9: D, deflection allowance
+    ∷ 1 to 5000
+    -- 10, 11: flare: b across for a along; a, then b (0: no flare)
+    ∷ 1 to 100
+    ∷ 0 to 10
+    -- 12: T, straight barrier before the flare
+    ∷ 0 to 100000
+    -- 13: G, continuity limit
+    ∷ 0 to 200000
+    -- 14: h, hazard count
+    ∷ 0 to 256
+    ∷ []
+
+-- "Side (0 right, 1 left); s, from A to B − 1; e, from s + 1 to B; near offset n, 0 to 60,000; far offset f, n to 60,000; level 1 to 6."
+unfoldable pub hazardRanges : (A B s n : ℕ) → List Range
+hazardRanges A B s n = 0 to 1 ∷ A to (B - 1) ∷ (s + 1) to B ∷ 0 to 60000 ∷ n to 60000 ∷ 1 to 6 ∷ []
+
+-- The range of the next number, after the numbers `got`.
+abbrev pub nextInHeader : (got : List ℕ) → Range
+nextInHeader got = getD (headerRanges (getD got 1 0)) (length got) (0 to 0)
+
+abbrev pub nextInHazard : Header → (got : List ℕ) → Range
+nextInHazard h got = getD (hazardRanges (h .begin) (h .end) (getD got 1 0) (getD got 3 0)) (length got) (0 to 0)
+
+-- Reading
+
+-- Numbers read one after the other, and the index behind them.
+pub record Fields : Type 0 where
+  pub numbers : List ℕ
+  pub next : ℕ
+
+-- "Numbers as they stand, each for 1, 2 and its range": k more after `got`. Out of range is the refusal `number`, with a value that the numbers before it give.
+unfoldable pub readFields : (rangeOf : List ℕ → Range) (number : ℕ) (valueOf : List ℕ → ℕ) (k : ℕ) (got s : List ℕ) (at : ℕ) → Answer Fields
+readFields rangeOf number valueOf zero got s at = accepted (record { numbers = got; next = at })
+readFields rangeOf number valueOf (suc k) got s at =
+    numberAt s at >>= λ x.
+    unless-refuse (within (rangeOf got) (x .value)) number (valueOf got) >>= λ _.
+    readFields rangeOf number valueOf k (got ++ x .value ∷ []) s (x .next)
+
+-- Refusal 3 returns the header number, 1 to 14.
+unfoldable pub readHeader : (s : List ℕ) → Answer Fields
+readHeader s = readFields nextInHeader 3 (λ got. length got + 1) 14 [] s 0
+
+abbrev pub headerOf : List ℕ → Header
+headerOf l = record {
+  kind = getD l 0 0;
+  begin = getD l 1 0;
+  end = getD l 2 0;
+  forward = getD l 3 0;
+  opposite = getD l 4 0;
+  zone = getD l 5 0;
+  way = getD l 6 0;
+  offset = getD l 7 0;
+  deflection = getD l 8 0;
+  along = getD l 9 0;
+  across = getD l 10 0;
+  straight = getD l 11 0;
+  continuity = getD l 12 0;
+  count = getD l 13 0;
+}
+
+abbrev pub hazardOf : List ℕ → Hazard
+hazardOf l = record { side = getD l 0 0; start = getD l 1 0; end = getD l 2 0; near = getD l 3 0; far = getD l 4 0; level = getD l 5 0 }
+
+pub record Hazards : Type 0 where
+  pub list : List Hazard
+  pub next : ℕ
+
+-- k more hazards after those in `got`. Refusal 4 returns the hazard's index from 0.
+unfoldable pub readHazards : Header → (k : ℕ) (got : List Hazard) (s : List ℕ) (at : ℕ) → Answer Hazards
+readHazards h zero got s at = accepted (record { list = got; next = at })
+readHazards h (suc k) got s at =
+    readFields (nextInHazard h) 4 (λ _. length got) 6 [] s at >>= λ z.
+    readHazards h k (got ++ hazardOf (z .numbers) ∷ []) s (z .next)
+
+-- "No field may be missing. Nothing follows": refusal 7 returns the index of the first byte left over.
+unfoldable pub readJob : (s : List ℕ) → Answer Job
+readJob s =
+    readHeader s >>= λ f.
+    readHazards (headerOf (f .numbers)) (headerOf (f .numbers) .count) [] s (f .next) >>= λ r.
+    unless-refuse (leb (length s) (r .next)) 7 (r .next) >>= λ _.
+    accepted (record { header = headerOf (f .numbers); hazards = r .list })

@@ -1,0 +1,74 @@
+-- What each reading function answers, and the part of the job's reading that it answers for.
+-- Assumes nothing.
+use Prim.Native.Nat.{ℕ}
+use mathlib.Core.List.{List, []}
+use lib.ListN.{length}
+use lib.Dec.{leb}
+use Rattle.refusal.specs.Answer.{Answer, accepted, _>>=_, unless-refuse}
+use Rattle.refusal.specs.Refusal.{numberOf, valueOf, refusal, outcome}
+use Rattle.refusal.specs.declared.Refusal.{Refusal}
+use Rattle.number.specs.Number.{Reading, numberAt}
+use Rattle.job.specs.declared.Header.{Header}
+use Rattle.job.specs.declared.Hazard.{Hazard}
+use Rattle.job.specs.declared.field.Field.{Field}
+use Rattle.job.specs.declared.field.Field.the-variants as Field
+use Rattle.job.specs.declared.header_fields.HeaderRead.{HeaderRead}
+use Rattle.job.specs.declared.header_fields.HeaderRead.the-variants as HeaderRead
+use Rattle.job.specs.declared.hazard_fields.HazardRead.{HazardRead}
+use Rattle.job.specs.declared.hazard_fields.HazardRead.the-variants as HazardRead
+use Rattle.job.specs.declared.read.JobRead.{JobRead}
+use Rattle.job.specs.Job.{Job, jobOf, Range, within, Fields, nextInHazard, readFields, readHeader, headerOf, hazardOf, readHazards}
+
+-- One number, for 1, 2 and its range; out of range is the refusal `outside`.
+unfoldable pub fieldAt : Range → (outside : Refusal) (s : List ℕ) (at : ℕ) → Answer Reading
+fieldAt range outside s at =
+    numberAt s at >>= λ x.
+    unless-refuse (within range (x .value)) (numberOf outside) (valueOf outside) >>= λ _.
+    accepted x
+
+abbrev pub fieldAnswer : Field → Answer Reading
+fieldAnswer (Field.Number n) = accepted (record { value = n .value; next = n .next })
+fieldAnswer (Field.Refused r) = refusal r
+
+-- A header, and the byte index behind it.
+pub record HeaderReading : Type 0 where
+  pub header : Header
+  pub next : ℕ
+
+abbrev pub headerReading : Fields → HeaderReading
+headerReading f = record { header = headerOf (f .numbers); next = f .next }
+
+-- The header at the beginning of the bytes.
+unfoldable pub headerAt : (s : List ℕ) → Answer HeaderReading
+headerAt s = readHeader s >>= λ f. accepted (headerReading f)
+
+abbrev pub headerAnswer : HeaderRead → Answer HeaderReading
+headerAnswer (HeaderRead.Header h n) = accepted (record { header = h; next = n })
+headerAnswer (HeaderRead.Refused r) = refusal r
+
+-- A hazard, and the byte index behind it.
+pub record HazardReading : Type 0 where
+  pub hazard : Hazard
+  pub next : ℕ
+
+abbrev pub hazardReading : Fields → HazardReading
+hazardReading f = record { hazard = hazardOf (f .numbers); next = f .next }
+
+-- The hazard with an index, from byte index `at` on.
+unfoldable pub hazardAt : Header → (index : ℕ) (s : List ℕ) (at : ℕ) → Answer HazardReading
+hazardAt h index s at = readFields (nextInHazard h) 4 (λ _. index) 6 [] s at >>= λ f. accepted (hazardReading f)
+
+abbrev pub hazardAnswer : HazardRead → Answer HazardReading
+hazardAnswer (HazardRead.Hazard z n) = accepted (record { hazard = z; next = n })
+hazardAnswer (HazardRead.Refused r) = refusal r
+
+-- What follows the header: k more hazards after those in `got`, and nothing more.
+unfoldable pub restAt : Header → (k : ℕ) (got : List Hazard) (s : List ℕ) (at : ℕ) → Answer Job
+restAt h k got s at =
+    readHazards h k got s at >>= λ r.
+    unless-refuse (leb (length s) (r .next)) 7 (r .next) >>= λ _.
+    accepted (record { header = h; hazards = r .list })
+
+-- The job that was read, or the refusal.
+abbrev pub jobAnswer : JobRead → Answer Job
+jobAnswer r = outcome (r .outcome) (jobOf (r .job))

@@ -1,0 +1,95 @@
+// The header's fourteen numbers.
+use super::Header;
+use super::field::Field;
+use super::field::read_field;
+use refusal::Refusal;
+ghost use mathlib.Core.Path.{_≡_};
+ghost use Prim.Native.Nat.{_<_, _≤_};
+ghost use lib.ListN.{getD};
+ghost use Rattle.job.specs.Job.{_to_, headerRanges, headerOf};
+ghost use Rattle.job.specs.Reply.{headerAt, headerAnswer};
+
+pub enum HeaderRead {
+    // The header, and the index behind it.
+    Header { header: Header, next: usize },
+    Refused(Refusal),
+}
+
+// The ends of a range, both included: low, then high.
+pub struct Bounds(pub u32, pub u32);
+
+// The header table's ranges, where the road begins at 0.
+const RANGES: [Bounds; 14] = [
+    Bounds(1, 1), // 1: kind
+    Bounds(0, 1999999999), // 2: A
+    Bounds(1, 2000000000), // 3: B, here above A = 0
+    Bounds(1, 200000), // 4: LF
+    Bounds(0, 200000), // 5: LO
+    Bounds(1, 30000), // 6: C
+    Bounds(0, 20000), // 7: W
+    Bounds(0, 20000), // 8: M
+    Bounds(1, 5000), // 9: D
+    Bounds(1, 100), // 10: a
+    Bounds(0, 10), // 11: b
+    Bounds(0, 100000), // 12: T
+    Bounds(0, 200000), // 13: G
+    Bounds(0, 256), // 14: h
+];
+
+// The range of the header number behind k others, where the road begins at begin; the road's end lies behind that.
+fn header_range(k: usize, begin: u32) -> Bounds
+    requires { ⌜ k < 14 ⌝ }
+    requires { ⌜ begin ≤ 1999999999 ⌝ }
+    ensures { λ r. ⌜ (r .0) to (r .1) ≡ getD (headerRanges begin) k (0 to 0) ⌝ }
+{
+    let range = RANGES[k];
+    if k == 2 {
+        return Bounds(begin + 1, range.1);
+    }
+    range
+}
+
+// The fourteen numbers by their names.
+pub fn header_of(numbers: [u32; 14]) -> Header
+    ensures { λ r. ⌜ r ≡ headerOf numbers ⌝ }
+{
+    Header {
+        kind: numbers[0],
+        begin: numbers[1],
+        end: numbers[2],
+        forward: numbers[3],
+        opposite: numbers[4],
+        zone: numbers[5],
+        way: numbers[6],
+        offset: numbers[7],
+        deflection: numbers[8],
+        along: numbers[9],
+        across: numbers[10],
+        straight: numbers[11],
+        continuity: numbers[12],
+        count: numbers[13],
+    }
+}
+
+pub fn read_header(s: &[u8]) -> HeaderRead
+    ensures { λ r. ⌜ headerAnswer r ≡ headerAt (now (s .entry)) ⌝ }
+{
+    let mut numbers = [0u32; 14];
+    let mut at: usize = 0;
+    let mut k: usize = 0;
+    while k < 14 {
+        let range = header_range(k, numbers[1]);
+        match read_field(s, at, range.0, range.1, Refusal::HeaderRange(k + 1)) {
+            Field::Number(reading) => {
+                numbers[k] = reading.value;
+                at = reading.next;
+            }
+            Field::Refused(refusal) => return HeaderRead::Refused(refusal),
+        }
+        k += 1;
+    }
+    HeaderRead::Header {
+        header: header_of(numbers),
+        next: at,
+    }
+}

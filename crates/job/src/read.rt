@@ -1,0 +1,89 @@
+// A job read from its bytes.
+use super::Hazard;
+use super::Header;
+use super::StoredJob;
+use super::hazard_fields::HazardRead;
+use super::hazard_fields::read_hazard;
+use super::header_fields::HeaderRead;
+use super::header_fields::header_of;
+use super::header_fields::read_header;
+use refusal::Outcome;
+use refusal::Refusal;
+ghost use mathlib.Core.Path.{_≡_};
+ghost use mathlib.Core.List.{[]};
+ghost use Prim.Native.Nat.{_<_, _≤_};
+ghost use lib.ListN.{length};
+ghost use Rattle.job.specs.Job.{readJob};
+ghost use Rattle.job.specs.Reply.{restAt, jobAnswer};
+
+// The outcome, and beside it the job where it is Done.
+pub struct JobRead {
+    pub outcome: Outcome,
+    pub job: StoredJob,
+}
+
+// A job with no hazard stored.
+fn unfilled(header: Header) -> StoredJob
+    ensures { λ r. ⌜ (r .header ≡ header) × (length (r .hazards) ≡ 256) ⌝ }
+{
+    let none = Hazard {
+        side: 0,
+        start: 0,
+        end: 0,
+        near: 0,
+        far: 0,
+        level: 0,
+    };
+    let hazards = [none; 256];
+    StoredJob { header, hazards }
+}
+
+// The hazards behind the header, from index first on; nothing may follow them.
+fn read_rest(s: &[u8], first: usize, header: Header) -> JobRead
+    requires { ⌜ 0 < header .end ⌝ }
+    requires { ⌜ header .count ≤ 256 ⌝ }
+    ensures { λ r. ⌜ jobAnswer r ≡ restAt header (header .count) [] (now (s .entry)) first ⌝ }
+{
+    let mut job = unfilled(header);
+    let count = header.count as usize;
+    let mut at = first;
+    let mut i: usize = 0;
+    while i < count {
+        match read_hazard(s, at, header, i) {
+            HazardRead::Hazard { hazard, next } => {
+                job.hazards[i] = hazard;
+                at = next;
+            }
+            HazardRead::Refused(refusal) => {
+                return JobRead {
+                    outcome: Outcome::Refused(refusal),
+                    job,
+                };
+            }
+        }
+        i += 1;
+    }
+    if at < s.len() {
+        return JobRead {
+            outcome: Outcome::Refused(Refusal::LeftOver(at)),
+            job,
+        };
+    }
+    JobRead {
+        outcome: Outcome::Done,
+        job,
+    }
+}
+
+// The job that the bytes are, or the first refusal of 1 to 4 and 7 in the paper's order.
+pub fn read_job(s: &[u8]) -> JobRead
+    ensures { λ r. ⌜ jobAnswer r ≡ readJob (now (s .entry)) ⌝ }
+{
+    match read_header(s) {
+        HeaderRead::Header { header, next } => read_rest(s, next, header),
+        HeaderRead::Refused(refusal) => JobRead {
+            outcome: Outcome::Refused(refusal),
+            job: unfilled(header_of([0; 14])),
+        },
+    }
+}

@@ -1,0 +1,6 @@
+pub mod ReachLaws
+pub mod EnvelopeLaws
+pub mod TestedLaws
+pub mod AcceptLaws
+pub mod SideLaws
+pub mod JobRunLaws

@@ -1,0 +1,139 @@
+-- Which traffic reaches a hazard: the paper's sentences, and where the approach length is asked.
+-- Assumes nothing.
+use Prim.Native.Nat.{ℕ, _+_, _≤_, _<_, min}
+use native.Mathlib.Omega.{arith}
+use native.Mathlib.Nat.{add-zero}
+use native.Mathlib.Decide.{ℕ-discrete}
+use mathlib.Core.Path.{_≡_, refl, sym, _∙_}
+use mathlib.Core.Logic.{_⊎_, inl, inr}
+use mathlib.Core.Bool.{Bool, true, false, _&&_, _||_, and-false}
+use lib.Dec.{ltb, eqb}
+use borrow.Author.Tests.{ltb-true, lt-ltb, le-ltb, eq-eqb}
+use Rattle.refusal.specs.Choice.{if_then_else_}
+use Rattle.refusal.proofs.TestLaws.{and-left, and-right, and-intro, or-cases, or-left, or-right}
+use Rattle.approach.specs.declared.Approach.the-variants.{Length}
+use Rattle.approach.specs.Approach.{approachLength, approach}
+use Rattle.approach.proofs.ApproachLaws.{Domain, domain-in, approach-inside, length-fits}
+use Rattle.job.specs.declared.Header.{Header}
+use Rattle.job.specs.declared.Hazard.{Hazard}
+use Rattle.job.proofs.JobLaws.{HeaderFits, HazardFits}
+use Rattle.planning.specs.Envelope.{Traffic, forward, opposite, present, adjacent, runout, farther, reaches, reached, reachOf, offsetOf, lengthening}
+
+-- The paper's sentences
+
+-- "Adjacent traffic reaches the hazard if n < C; then R is the lesser of f and C, and m = M."
+pub reaches-adjacent :
+    (h : Header) (z : Hazard) (t : Traffic) → adjacent h (z .side) t ≡ true
+    → (reaches h z t ≡ (present h t && ltb (z .near) (h .zone))) × (reachOf h z t ≡ min (z .far) (h .zone)) × (offsetOf h z t ≡ h .offset)
+unfolding reaches reachOf offsetOf farther
+reaches-adjacent h z t e = rw e (rw add-zero, rw add-zero, rw add-zero)
+
+-- "Far traffic reaches it if n + W < C; then R is the lesser of f + W and C, and m = M + W."
+pub reaches-far :
+    (h : Header) (z : Hazard) (t : Traffic) → adjacent h (z .side) t ≡ false
+    → (reaches h z t ≡ (present h t && ltb (z .near + h .way) (h .zone)))
+    × (reachOf h z t ≡ min (z .far + h .way) (h .zone))
+    × (offsetOf h z t ≡ h .offset + h .way)
+unfolding reaches reachOf offsetOf farther
+reaches-far h z t e = rw e (refl, refl, refl)
+
+-- A hazard is reached exactly if n < C: far traffic reaches only where adjacent traffic does.
+same-test : (a b : Bool) → (a ≡ true → b ≡ true) → (b ≡ true → a ≡ true) → a ≡ b
+same-test true b f g = sym (f refl)
+same-test false true f g = g refl
+same-test false false f g = refl
+
+in-zone : (h : Header) (z : Hazard) (t : Traffic) → reaches h z t ≡ true → z .near + farther h (z .side) t < h .zone
+unfolding reaches
+in-zone h z t r = ltb-true (z .near + farther h (z .side) t) (h .zone) (and-right (present h t) _ r)
+
+adjacent-reaches : (h : Header) (z : Hazard) (t : Traffic) → present h t ≡ true → adjacent h (z .side) t ≡ true → ltb (z .near) (h .zone) ≡ true → reaches h z t ≡ true
+adjacent-reaches h z t p a l = rw (reaches-adjacent h z t a .0) (and-intro p l)
+
+pub reached-near : (h : Header) (z : Hazard) → z .side ≤ 1 → reached h z ≡ ltb (z .near) (h .zone)
+unfolding reached
+reached-near h z s = same-test (reached h z) (ltb (z .near) (h .zone)) to from
+  where
+    to : (reaches h z forward || reaches h z opposite) ≡ true → ltb (z .near) (h .zone) ≡ true
+    to r = go (or-cases (reaches h z forward) (reaches h z opposite) r)
+      where
+        go : (reaches h z forward ≡ true) ⊎ (reaches h z opposite ≡ true) → ltb (z .near) (h .zone) ≡ true
+        go (inl q) = lt-ltb (z .near) (h .zone) (omega (arith, in-zone h z forward q))
+        go (inr q) = lt-ltb (z .near) (h .zone) (omega (arith, in-zone h z opposite q))
+
+    from : ltb (z .near) (h .zone) ≡ true → (reaches h z forward || reaches h z opposite) ≡ true
+    from l = go (ℕ-discrete (z .side) 0) (ℕ-discrete (h .opposite) 0)
+      where
+        go : Dec (z .side ≡ 0) → Dec (h .opposite ≡ 0) → (reaches h z forward || reaches h z opposite) ≡ true
+        go (yes a) b = or-left _ (adjacent-reaches h z forward refl (or-left _ (eq-eqb _ _ a)) l)
+        go (no a) (yes b) = or-left _ (adjacent-reaches h z forward refl (or-right (eqb (z .side) 0) (eq-eqb _ _ b)) l)
+        go (no a) (no b) = or-right (reaches h z forward) (adjacent-reaches h z opposite (lt-ltb 0 (h .opposite) (omega arith)) (eq-eqb (z .side) 1 (omega arith)) l)
+
+-- The approach length of a traffic
+
+-- A traffic is present where its runout length is above 0.
+pub present-runout : (h : Header) → HeaderFits h → (t : Traffic) → present h t ≡ ltb 0 (runout h t)
+present-runout h f forward = sym (lt-ltb 0 (h .forward) (f .forward-low))
+present-runout h f opposite = refl
+
+runout-top : (h : Header) → HeaderFits h → (t : Traffic) → runout h t ≤ 200000
+runout-top h f forward = f .forward-top
+runout-top h f opposite = f .opposite-top
+
+pub farther-top : (h : Header) → HeaderFits h → (side : ℕ) (t : Traffic) → farther h side t ≤ h .way
+unfolding farther
+farther-top h f side t = go (adjacent h side t)
+  where
+    go : (b : Bool) → (if b then 0 else h .way) ≤ h .way
+    go true = omega arith
+    go false = omega arith
+
+-- A hazard in its ranges that stands clear of the barrier, M + D ≤ n.
+module _ (h : Header) (z : Hazard) (hf : HeaderFits h) (zf : HazardFits h z) (clear : h .offset + h .deflection ≤ z .near) (t : Traffic) where
+  -- A reaching traffic asks for a length in the formula's domain.
+  pub reaching-domain : reaches h z t ≡ true → Domain (h .along) (h .across) (h .straight) (runout h t) (reachOf h z t) (offsetOf h z t)
+  unfolding reaches reachOf offsetOf
+  reaching-domain r =
+      let runs : ltb 0 (runout h t) ≡ true = sym (present-runout h hf t) ∙ and-left (present h t) _ r in
+      record {
+        along-low = hf .along-low;
+        along-top = hf .along-top;
+        across-top = hf .across-top;
+        straight-top = hf .straight-top;
+        runout-low = ltb-true 0 (runout h t) runs;
+        runout-top = runout-top h hf t;
+        reach-top = omega (arith, hf .clear-top);
+        offset-top = omega (arith, hf .offset-top, hf .way-top, farther-top h hf (z .side) t);
+        offset-below = omega (arith, in-zone h z t r, hf .deflection-low, zf .offsets);
+      }
+
+  -- Its lengthening is the length that the approach crate promises.
+  pub reaching-approach : reaches h z t ≡ true → approach (h .along) (h .across) (h .straight) (runout h t) (reachOf h z t) (offsetOf h z t) ≡ Length (lengthening h z t)
+  unfolding lengthening
+  reaching-approach r = rw r (approach-inside _ _ _ _ _ _ (domain-in _ _ _ _ _ _ (reaching-domain r)))
+
+  pub lengthening-top : lengthening h z t ≤ 200000
+  unfolding lengthening
+  lengthening-top = go (reaches h z t) reaching-domain
+    where
+      go : (b : Bool) → (b ≡ true → Domain (h .along) (h .across) (h .straight) (runout h t) (reachOf h z t) (offsetOf h z t)) → (if b then approachLength (h .along) (h .across) (h .straight) (runout h t) (reachOf h z t) (offsetOf h z t) else 0) ≤ 200000
+      go true d = length-fits _ _ _ _ _ _ (d refl)
+      go false d = omega arith
+
+  -- The length asked for with a traffic's own numbers.
+  pub lengthening-asked :
+      {L w R : ℕ} → L ≡ runout h t → w ≡ farther h (z .side) t → R ≡ min (z .far + w) (h .zone) → 0 < L → z .near + w < h .zone
+      → approach (h .along) (h .across) (h .straight) L R (h .offset + w) ≡ Length (lengthening h z t)
+  unfolding reaches reachOf offsetOf
+  lengthening-asked {L} {w} {R} p q e some near =
+      let r : reaches h z t ≡ true = and-intro (present-runout h hf t ∙ lt-ltb 0 (runout h t) (omega arith)) (lt-ltb (z .near + farther h (z .side) t) (h .zone) (omega arith)) in
+      rw (e, p, q) (reaching-approach r)
+
+-- A traffic that does not reach lengthens by nothing.
+pub lengthening-absent : (h : Header) (z : Hazard) (t : Traffic) → HeaderFits h → runout h t ≡ 0 → 0 ≡ lengthening h z t
+unfolding lengthening reaches
+lengthening-absent h z t f e = simp (present-runout h f t, le-ltb 0 (runout h t) (omega arith))
+
+pub lengthening-beyond : (h : Header) (z : Hazard) (t : Traffic) → h .zone ≤ z .near + farther h (z .side) t → 0 ≡ lengthening h z t
+unfolding lengthening reaches
+lengthening-beyond h z t l = simp (le-ltb (z .near + farther h (z .side) t) (h .zone) l, and-false)

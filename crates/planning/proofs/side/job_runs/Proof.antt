@@ -1,0 +1,38 @@
+-- `planning::side::job_runs` meets its contract: what `side_envelopes` gives fits the builder of runs. Assumes nothing.
+use mathlib.Core.Path.{_≡_, sym, ap, _∙_}
+use borrow.Author.Needs.{needs}
+use Rattle.refusal.specs.Answer.{accepted}
+use Rattle.job.specs.Job.{jobOf}
+use Rattle.planning.proofs.SideLaws.{stored-envelopes, runs-done, runs-refused}
+use Rattle.planning.proofs.side.job_runs.Statement.{statement}
+use Rattle.planning.proofs.side.job_runs.Tie as tie
+
+required-runs-requires : tie.Need-required-runs-requires
+required-runs-requires c κs =
+    let s = c .before .before .before .before .before in
+    let tested = c .before .before .before .before .side-envelopes in
+    stored-envelopes (jobOf (s .args .job)) (s .args .side) (tested .result) (tested .ensures .0) (s .pre) (tested .ensures .1) (c .before .before .enum-told .given .1)
+
+returns : tie.Need-returns
+returns c =
+    let s = c .before .before .before .before .before .before in
+    let tested = c .before .before .before .before .before .side-envelopes in
+    ap accepted (c .required-runs .ensures .runs) ∙ sym (runs-done (jobOf (s .args .job)) (s .args .side) (tested .result) (tested .ensures .0) (c .before .before .before .enum-told .given .1))
+
+returns-2 : tie.Need-returns-2
+returns-2 c =
+    let s = c .before .before .before .before .before in
+    let tested = c .before .before .before .before .side-envelopes in
+    sym (runs-refused (jobOf (s .args .job)) (s .args .side) (tested .result) (tested .ensures .0) (c .before .before .outcome .given .1))
+
+pub job-runs-spec : {M : Type 1} → statement M
+job-runs-spec =
+    tie.close
+    (tie.spec
+    (λ c κs. search needs)
+    (λ c. search needs)
+    required-runs-requires
+    (λ c. search needs)
+    (λ c κs. search needs)
+    returns
+    returns-2)

@@ -1,0 +1,93 @@
+-- Which traffic reaches a hazard, its envelope, and refusals 5 and 6.
+-- Assumes nothing.
+use Prim.Native.Nat.{ℕ, _+_, _-_, min}
+use mathlib.Core.Bool.{Bool, true, false, _&&_, _||_, not}
+use mathlib.Core.List.{List, [], _∷_}
+use lib.Dec.{ltb, eqb}
+use Rattle.refusal.specs.Choice.{if_then_else_}
+use Rattle.refusal.specs.Answer.{Answer, accepted, _>>=_, unless-refuse}
+use Rattle.approach.specs.Approach.{approachLength}
+use Rattle.job.specs.declared.Header.{Header}
+use Rattle.job.specs.declared.Hazard.{Hazard}
+use Rattle.job.specs.Job.{Job, readJob}
+use Rattle.runs.specs.declared.Stretch.{Stretch}
+
+-- Traffic
+
+pub data Traffic : Type 0 where
+  forward opposite : Traffic
+
+-- "LO 0 means one-way or separated": there is no opposite traffic then.
+abbrev pub present : Header → Traffic → Bool
+present h forward = true
+present h opposite = ltb 0 (h .opposite)
+
+-- "The adjacent traffic of the right side is forward; of the left side opposite. With LO = 0, forward is adjacent to both sides and there is no far traffic."
+abbrev pub adjacent : Header → (side : ℕ) → Traffic → Bool
+adjacent h side forward = eqb side 0 || eqb (h .opposite) 0
+adjacent h side opposite = eqb side 1
+
+abbrev pub runout : Header → Traffic → ℕ
+runout h forward = h .forward
+runout h opposite = h .opposite
+
+-- Reach
+
+-- What a traffic adds to the offsets of a side: nothing where it is adjacent, W where it is far.
+unfoldable pub farther : Header → (side : ℕ) → Traffic → ℕ
+farther h side t = if adjacent h side t then 0 else h .way
+
+-- "Adjacent traffic reaches the hazard if n < C. Far traffic reaches it if n + W < C."
+unfoldable pub reaches : Header → Hazard → Traffic → Bool
+reaches h z t = present h t && ltb (z .near + farther h (z .side) t) (h .zone)
+
+unfoldable pub reached : Header → Hazard → Bool
+reached h z = reaches h z forward || reaches h z opposite
+
+-- "R is the lesser of f and C, and m = M"; of far traffic "the lesser of f + W and C, and m = M + W".
+unfoldable pub reachOf : Header → Hazard → Traffic → ℕ
+reachOf h z t = min (z .far + farther h (z .side) t) (h .zone)
+
+unfoldable pub offsetOf : Header → Hazard → Traffic → ℕ
+offsetOf h z t = h .offset + farther h (z .side) t
+
+-- By how much a traffic lengthens the envelope at the end that it approaches: its approach length where it reaches the hazard.
+unfoldable pub lengthening : Header → Hazard → Traffic → ℕ
+lengthening h z t =
+    if reaches h z t
+    then approachLength (h .along) (h .across) (h .straight) (runout h t) (reachOf h z t) (offsetOf h z t)
+    else 0
+
+-- Envelope
+
+-- "A reached hazard's envelope is [s, e), lengthened by each reaching traffic's approach length at the end that it approaches."
+-- "Forward traffic approaches from lower stations, opposite from higher." The subtraction is exact where refusal 6 does not hold.
+unfoldable pub envelope : Header → Hazard → Stretch
+envelope h z = record { start = z .start - lengthening h z forward; end = z .end + lengthening h z opposite; level = z .level }
+
+-- The envelopes of a side. "A hazard that nobody reaches has none."
+unfoldable pub envelopes : Header → (side : ℕ) → List Hazard → List Stretch
+envelopes h side [] = []
+envelopes h side (z ∷ zs) =
+    let r = envelopes h side zs in
+    if eqb (z .side) side && reached h z then envelope h z ∷ r else r
+
+abbrev pub sideEnvelopes : Job → (side : ℕ) → List Stretch
+sideEnvelopes j side = envelopes (j .header) side (j .hazards)
+
+-- Refusals 5 and 6
+
+-- 5: "reached hazard with n < M + D". 6: "envelope begins before A or ends after B", by sums. Both return the hazard index.
+unfoldable pub testHazard : Header → (index : ℕ) → Hazard → Answer (Unit {0})
+testHazard h i z =
+    unless-refuse (not (reached h z && ltb (z .near) (h .offset + h .deflection))) 5 i >>= λ _.
+    unless-refuse (not (reached h z && (ltb (z .start) (h .begin + lengthening h z forward) || ltb (h .end) (z .end + lengthening h z opposite)))) 6 i
+
+-- "Hazards in order, both sides, 5 before 6."
+unfoldable pub testHazards : Header → (index : ℕ) → List Hazard → Answer (Unit {0})
+testHazards h i [] = accepted tt
+testHazards h i (z ∷ zs) = testHazard h i z >>= λ _. testHazards h (i + 1) zs
+
+-- "An accepted job is one to which none of 1 to 7 applies."
+unfoldable pub acceptJob : (s : List ℕ) → Answer Job
+acceptJob s = readJob s >>= λ j. testHazards (j .header) 0 (j .hazards) >>= λ _. accepted j

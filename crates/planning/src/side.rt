@@ -1,0 +1,66 @@
+// From a job in bytes to the runs of a side.
+use super::accept::side_envelopes;
+use job::StoredJob;
+use refusal::Outcome;
+use runs::RunList;
+ghost use mathlib.Core.Path.{_≡_};
+ghost use Rattle.job.specs.Job.{jobOf};
+ghost use Rattle.job.proofs.JobLaws.{JobFits};
+ghost use Rattle.planning.specs.Reply.{testedRuns, acceptedRuns, runsAnswer};
+
+// The outcome, and beside it the runs where it is Done.
+pub struct SideRuns {
+    pub outcome: Outcome,
+    pub runs: RunList,
+}
+
+// No runs, beside a refusal.
+fn no_runs() -> RunList {
+    RunList {
+        count: 0,
+        starts: [0; 512],
+        ends: [0; 512],
+        levels: [0; 512],
+    }
+}
+
+// The runs of a side of a job that could be read.
+fn job_runs(job: StoredJob, side: u32) -> SideRuns
+    requires { ⌜ JobFits (jobOf job) ⌝ }
+    ensures { λ r. ⌜ runsAnswer r ≡ testedRuns (jobOf job) side ⌝ }
+{
+    let tested = side_envelopes(job, side);
+    let outcome = tested.outcome;
+    match outcome {
+        Outcome::Done => {
+            let envelopes = tested.envelopes;
+            let header = job.header;
+            SideRuns {
+                outcome: Outcome::Done,
+                runs: runs::required::required_runs(envelopes, header.continuity),
+            }
+        }
+        Outcome::Refused(refusal) => SideRuns {
+            outcome: Outcome::Refused(refusal),
+            runs: no_runs(),
+        },
+    }
+}
+
+// The runs of a side of the job that the bytes are, or the first refusal of 1 to 7.
+pub fn side_runs(s: &[u8], side: u32) -> SideRuns
+    ensures { λ r. ⌜ runsAnswer r ≡ acceptedRuns (now (s .entry)) side ⌝ }
+{
+    let read = job::read::read_job(s);
+    let outcome = read.outcome;
+    match outcome {
+        Outcome::Done => {
+            let job = read.job;
+            job_runs(job, side)
+        }
+        Outcome::Refused(refusal) => SideRuns {
+            outcome: Outcome::Refused(refusal),
+            runs: no_runs(),
+        },
+    }
+}

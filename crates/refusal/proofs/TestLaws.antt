@@ -1,0 +1,81 @@
+-- Tests as facts: `&&`, `||`, `any` and `keep`.
+-- Assumes nothing.
+use Prim.Native.Nat.{ℕ}
+use mathlib.Core.Path.{_≡_, refl, sym, subst, _∙_}
+use mathlib.Core.Logic.{_⊎_, inl, inr, _↔_}
+use mathlib.Core.Bool.{Bool, true, false, _&&_, _||_, not, false≢true}
+use mathlib.Core.List.{List, [], _∷_, List·Memᴰ, List·Memᴰ·head, List·Memᴰ·tail, List·Memᴰ·cases-cons, List·Memᴰ·not-nil}
+use Rattle.refusal.specs.Choice.{if_then_else_, any, keep}
+
+pub and-left : (a b : Bool) → a && b ≡ true → a ≡ true
+and-left true b e = refl
+and-left false b e = e
+
+pub and-right : (a b : Bool) → a && b ≡ true → b ≡ true
+and-right true b e = e
+and-right false b e = absurd (false≢true e)
+
+pub and-intro : {a b : Bool} → a ≡ true → b ≡ true → a && b ≡ true
+and-intro {a} {b} p q = rw (p, q)
+
+pub or-cases : (a b : Bool) → a || b ≡ true → (a ≡ true) ⊎ (b ≡ true)
+or-cases true b e = inl refl
+or-cases false b e = inr e
+
+pub or-left : {a : Bool} (b : Bool) → a ≡ true → a || b ≡ true
+or-left b p = rw p
+
+pub or-right : (a : Bool) {b : Bool} → b ≡ true → a || b ≡ true
+or-right true p = refl
+or-right false p = p
+
+-- a test is true or false
+pub decided : (b : Bool) → (b ≡ true) ⊎ (b ≡ false)
+decided true = inl refl
+decided false = inr refl
+
+pub not-both : {b : Bool} → b ≡ true → b ≡ false → ⊥
+not-both p q = false≢true (sym q ∙ p)
+
+module _ {A : Type 0} where
+  -- an element of a list that passes a test
+  pub record Passing (p : A → Bool) (l : List A) : Type 0 where
+    pub one : A
+    pub member : List·Memᴰ one l
+    pub passes : p one ≡ true
+
+  pub any-elim : (p : A → Bool) (l : List A) → any p l ≡ true → Passing p l
+  unfolding any
+  any-elim p [] e = absurd (false≢true e)
+  any-elim p (x ∷ xs) e = go (or-cases (p x) (any p xs) e) (any-elim p xs)
+    where
+      go : (p x ≡ true) ⊎ (any p xs ≡ true) → (any p xs ≡ true → Passing p xs) → Passing p (x ∷ xs)
+      go (inl h) r = record { one = x; member = List·Memᴰ·head refl; passes = h }
+      go (inr h) r = let w = r h in record { one = w .one; member = List·Memᴰ·tail (w .member); passes = w .passes }
+
+  pub any-intro : (p : A → Bool) {x : A} {l : List A} → List·Memᴰ x l → p x ≡ true → any p l ≡ true
+  unfolding any
+  any-intro p (List·Memᴰ·head {x = y} {xs = ys} e) h = or-left (any p ys) (subst (λ (z : A). p z ≡ true) e h)
+  any-intro p (List·Memᴰ·tail {x = y} m) h = or-right (p y) (any-intro p m h)
+
+  pub keep-elim : (p : A → Bool) {x : A} (l : List A) → List·Memᴰ x (keep p l) → List·Memᴰ x l × (p x ≡ true)
+  unfolding keep
+  keep-elim p [] m = absurd (List·Memᴰ·not-nil m)
+  keep-elim p {x} (y ∷ ys) m = go (p y) refl m (keep-elim p ys)
+    where
+      here : p y ≡ true → (x ≡ y) ⊎ List·Memᴰ x (keep p ys) → (List·Memᴰ x (keep p ys) → List·Memᴰ x ys × (p x ≡ true)) → List·Memᴰ x (y ∷ ys) × (p x ≡ true)
+      here e (inl q) r = (List·Memᴰ·head q, rw q e)
+      here e (inr k) r = let w = r k in (List·Memᴰ·tail (w .0), w .1)
+
+      go : (b : Bool) → p y ≡ b → List·Memᴰ x (if b then y ∷ keep p ys else keep p ys) → (List·Memᴰ x (keep p ys) → List·Memᴰ x ys × (p x ≡ true)) → List·Memᴰ x (y ∷ ys) × (p x ≡ true)
+      go true e k r = here e (List·Memᴰ·cases-cons k) r
+      go false e k r = let w = r k in (List·Memᴰ·tail (w .0), w .1)
+
+  pub keep-intro : (p : A → Bool) {x : A} {l : List A} → List·Memᴰ x l → p x ≡ true → List·Memᴰ x (keep p l)
+  unfolding keep
+  keep-intro p {x} (List·Memᴰ·head {x = y} {xs = ys} e) h = rw (subst (λ (z : A). p z ≡ true) e h) (List·Memᴰ·head e)
+  keep-intro p {x} (List·Memᴰ·tail {x = y} {xs = ys} m) h = go (p y) (keep-intro p m h)
+    where
+      go : (b : Bool) → List·Memᴰ x (keep p ys) → List·Memᴰ x (if b then y ∷ keep p ys else keep p ys)
+      go true k = List·Memᴰ·tail k
+      go false k = k

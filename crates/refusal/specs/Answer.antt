@@ -1,0 +1,21 @@
+-- An answer that may be a refusal. The order of the tests is the order of the refusals.
+-- Assumes nothing.
+use Prim.Native.Nat.{ℕ}
+use mathlib.Core.Bool.{Bool, true, false}
+
+-- A value, or a refusal: its number in document 01's table, and what is returned with it.
+pub data Answer (A : Type 0) : Type 0 where
+  accepted : A → Answer A
+  refused : (number value : ℕ) → Answer A
+
+module _ {A B : Type 0} where
+  -- What follows an answer; a refusal stays.
+  infixl 15 _>>=_
+  abbrev pub _>>=_ : Answer A → (A → Answer B) → Answer B
+  accepted a >>= f = f a
+  refused k v >>= f = refused k v
+
+-- Refuse unless the test passes.
+abbrev pub unless-refuse : Bool → (number value : ℕ) → Answer (Unit {0})
+unless-refuse true k v = accepted tt
+unless-refuse false k v = refused k v

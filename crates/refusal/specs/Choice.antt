@@ -1,0 +1,21 @@
+-- Choice by a test, and tests over a list.
+-- Assumes nothing.
+use mathlib.Core.Bool.{Bool, true, false, _||_}
+use mathlib.Core.List.{List, [], _∷_}
+
+module _ {ℓ} {A : Type ℓ} where
+  infix 20 if_then_else_
+  abbrev pub if_then_else_ : Bool → A → A → A
+  if true then a else b = a
+  if false then a else b = b
+
+module _ {ℓ} {A : Type ℓ} where
+  -- some element passes the test
+  unfoldable pub any : (A → Bool) → List A → Bool
+  any p [] = false
+  any p (x ∷ xs) = p x || any p xs
+
+  -- the elements that pass the test
+  unfoldable pub keep : (A → Bool) → List A → List A
+  keep p [] = []
+  keep p (x ∷ xs) = let r = keep p xs in if p x then x ∷ r else r

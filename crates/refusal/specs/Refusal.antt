@@ -1,0 +1,41 @@
+-- Document 01's table of refusals: the number of each row, and what it returns.
+-- Assumes nothing.
+use Prim.Native.Nat.{ℕ}
+use Rattle.refusal.specs.declared.Refusal.{Refusal}
+use Rattle.refusal.specs.declared.Refusal.the-variants.{Ended, Malformed, HeaderRange, HazardRange, NearBarrier, OffRoad, LeftOver, Argument, Room, Schedule}
+use Rattle.refusal.specs.declared.Outcome.{Outcome}
+use Rattle.refusal.specs.declared.Outcome.the-variants.{Done, Refused}
+use Rattle.refusal.specs.Answer.{Answer, accepted, refused}
+
+abbrev pub numberOf : Refusal → ℕ
+numberOf (Ended at) = 1
+numberOf (Malformed at) = 2
+numberOf (HeaderRange number) = 3
+numberOf (HazardRange index) = 4
+numberOf (NearBarrier index) = 5
+numberOf (OffRoad index) = 6
+numberOf (LeftOver at) = 7
+numberOf Argument = 8
+numberOf (Room needed) = 9
+numberOf Schedule = 10
+
+abbrev pub valueOf : Refusal → ℕ
+valueOf (Ended at) = at
+valueOf (Malformed at) = at
+valueOf (HeaderRange number) = number
+valueOf (HazardRange index) = index
+valueOf (NearBarrier index) = index
+valueOf (OffRoad index) = index
+valueOf (LeftOver at) = at
+valueOf Argument = 0
+valueOf (Room needed) = needed
+valueOf Schedule = 0
+
+-- The refusal as an answer.
+abbrev pub refusal : {A : Type 0} → Refusal → Answer A
+refusal r = refused (numberOf r) (valueOf r)
+
+-- A value beside an outcome: it says nothing where the outcome is a refusal.
+abbrev pub outcome : {A : Type 0} → Outcome → A → Answer A
+outcome Done a = accepted a
+outcome (Refused r) a = refusal r

@@ -1,0 +1,68 @@
+// Document 01's table of refusals: one case for each row, with the value that the row returns.
+ghost use mathlib.Core.Path.{_≡_};
+ghost use Rattle.refusal.specs.Refusal.{numberOf, valueOf};
+
+pub enum Refusal {
+    // The job's bytes end before or inside the number that begins at this index.
+    Ended(usize),
+    // The number that begins at this index is overlong, too great or not in shortest form.
+    Malformed(usize),
+    // This header number, 1 to 14, is outside its range.
+    HeaderRange(usize),
+    // A field of the hazard with this index is outside its range.
+    HazardRange(usize),
+    // The hazard with this index is reached and stands nearer than barrier offset and deflection allow.
+    NearBarrier(usize),
+    // The envelope of the hazard with this index leaves the road.
+    OffRoad(usize),
+    // Bytes follow the last hazard, from this index on.
+    LeftOver(usize),
+    // A side above 1, a level outside 1 to 6, or a range whose end lies before its beginning.
+    Argument,
+    // The output is shorter than the bytes needed.
+    Room(usize),
+    // A schedule that is not the writing of a run list.
+    Schedule,
+}
+
+// The row's number in the table.
+pub fn refusal_number(refusal: Refusal) -> u64
+    ensures { λ r. ⌜ r ≡ numberOf refusal ⌝ }
+{
+    match refusal {
+        Refusal::Ended(_) => 1,
+        Refusal::Malformed(_) => 2,
+        Refusal::HeaderRange(_) => 3,
+        Refusal::HazardRange(_) => 4,
+        Refusal::NearBarrier(_) => 5,
+        Refusal::OffRoad(_) => 6,
+        Refusal::LeftOver(_) => 7,
+        Refusal::Argument => 8,
+        Refusal::Room(_) => 9,
+        Refusal::Schedule => 10,
+    }
+}
+
+// What the row returns.
+pub fn refusal_value(refusal: Refusal) -> u64
+    ensures { λ r. ⌜ r ≡ valueOf refusal ⌝ }
+{
+    match refusal {
+        Refusal::Ended(at) => at as u64,
+        Refusal::Malformed(at) => at as u64,
+        Refusal::HeaderRange(number) => number as u64,
+        Refusal::HazardRange(index) => index as u64,
+        Refusal::NearBarrier(index) => index as u64,
+        Refusal::OffRoad(index) => index as u64,
+        Refusal::LeftOver(at) => at as u64,
+        Refusal::Argument => 0,
+        Refusal::Room(needed) => needed as u64,
+        Refusal::Schedule => 0,
+    }
+}
+
+// How a step ended whose value stands beside it: an enum holds no array.
+pub enum Outcome {
+    Done,
+    Refused(Refusal),
+}

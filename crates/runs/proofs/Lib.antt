@@ -1,0 +1,9 @@
+pub mod LevelLaws
+pub mod GapLaws
+pub mod RunLaws
+pub mod RequiredLaws
+pub mod WalkLaws
+pub mod FillLaws
+pub mod SweepLaws
+pub mod StoreLaws
+pub mod BuildLaws

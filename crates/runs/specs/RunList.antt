@@ -1,0 +1,58 @@
+-- Run lists: what a run is, which lists are run lists, the level that one shows.
+-- Assumes nothing.
+use Prim.Native.Nat.{ℕ, zero, suc, _-_, _<_}
+use mathlib.Core.Bool.{Bool, true, _&&_, not}
+use mathlib.Core.List.{List, [], _∷_, _++_}
+use mathlib.Core.Path.{_≡_}
+use mathlib.Core.Logic.{_≢_}
+use lib.ListN.{length, getD, take}
+use lib.Dec.{ltb, leb, eqb}
+use Rattle.refusal.specs.Choice.{if_then_else_}
+use Rattle.runs.specs.declared.Stretch.{Stretch}
+use Rattle.runs.specs.declared.RunList.{RunList}
+use Rattle.runs.specs.declared.Envelopes.{Envelopes}
+use Rattle.runs.specs.Level.{Has}
+
+-- "A run is a longest stretch of one required level above 0."
+pub record IsRun (f : ℕ → ℕ) (r : Stretch) : Type 0 where
+  pub long : r .start < r .end
+  pub above : 0 < r .level
+  pub one-level : (t : ℕ) → Has r t → f t ≡ r .level
+  pub starts : 0 < r .start → f (r .start - 1) ≢ r .level
+  pub ends : f (r .end) ≢ r .level
+
+abbrev pub mostRuns : ℕ
+mostRuns = 511
+
+abbrev pub lastStation : ℕ
+lastStation = 2000000000
+
+-- Runs after one that ended at e with level v: rising, "lengths from 1, levels 1 to 6, ends up to 2,000,000,000, touching runs of different level".
+unfoldable pub risingRuns : (e v : ℕ) → List Stretch → Bool
+risingRuns e v [] = true
+risingRuns e v (r ∷ rs) =
+    leb e (r .start) && ltb (r .start) (r .end) && leb (r .end) lastStation && leb 1 (r .level) && leb (r .level) 6
+    && not (eqb e (r .start) && eqb v (r .level))
+    && risingRuns (r .end) (r .level) rs
+
+-- "A run list has at most 511 runs." No run has level 0, so the first one differs from what stands before it.
+unfoldable pub isRunList : List Stretch → Bool
+isRunList rs = leb (length rs) mostRuns && risingRuns 0 0 rs
+
+-- "At t a schedule shows the level of the run that has t, else 0."
+unfoldable pub shownLevel : List Stretch → (t : ℕ) → ℕ
+shownLevel [] t = 0
+shownLevel (r ∷ rs) t = if leb (r .start) t && ltb t (r .end) then r .level else shownLevel rs t
+
+-- The first n entries of three arrays, side by side; the runs of a stored list.
+unfoldable pub runsTo : (starts ends levels : List ℕ) (n : ℕ) → List Stretch
+runsTo starts ends levels zero = []
+runsTo starts ends levels (suc n) =
+    runsTo starts ends levels n ++ record { start = getD starts n 0; end = getD ends n 0; level = getD levels n 0 } ∷ []
+
+abbrev pub runsOf : RunList → List Stretch
+runsOf r = runsTo (r .starts) (r .ends) (r .levels) (r .count)
+
+-- The envelopes of a stored list.
+abbrev pub envelopesOf : Envelopes → List Stretch
+envelopesOf e = take (e .count) (e .stretches)

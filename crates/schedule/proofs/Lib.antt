@@ -1,0 +1,11 @@
+pub mod WriteLaws
+pub mod ScheduleLaws
+pub mod WalkLaws
+pub mod StepLaws
+pub mod CallLaws
+pub mod PlanLaws
+pub mod QuantityLaws
+pub mod PlaceLaws
+pub mod DemandLaws
+pub mod QueryLaws
+pub mod CaseLaws

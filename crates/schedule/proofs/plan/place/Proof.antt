@@ -1,0 +1,33 @@
+-- `schedule::plan::place` meets its contract: with room the schedule is placed from the first byte on, and without it nothing is. Assumes nothing.
+use Prim.Native.Nat.{_≤_, _<_}
+use native.Mathlib.Omega.{arith}
+use mathlib.Core.Path.{_≡_, refl, sym, ap, _∙_}
+use lib.ListN.{length}
+use borrow.Author.Needs.{needs}
+use Rattle.refusal.specs.Answer.{accepted, refused}
+use Rattle.runs.specs.RunList.{runsOf}
+use Rattle.schedule.specs.Schedule.{writeSchedule}
+use Rattle.schedule.specs.Calls.{bytesWritten}
+use Rattle.schedule.proofs.CallLaws.{fitted-fits, fitted-short, placed-first}
+use Rattle.schedule.proofs.plan.place.Statement.{statement}
+use Rattle.schedule.proofs.plan.place.Tie as tie
+
+returns : tie.Need-returns
+unfolding bytesWritten
+returns c =
+    let a = c .before .before .before .args in
+    let w = writeSchedule (runsOf (a .list)) in
+    let short : length (a .out .now) < length w = omega arith in
+    rw (fitted-short w (length (a .out .now)) short) (ap (refused 9) (c .before .schedule-length .ensures), refl)
+
+returns-2 : tie.Need-returns-2
+unfolding bytesWritten
+returns-2 c =
+    let a = c .before .before .before .before .before .before .before .args in
+    let w = writeSchedule (runsOf (a .list)) in
+    let fits : length w ≤ length (a .out .now) = omega arith in
+    let put = c .before .before .put-schedule in
+    rw (fitted-fits w (length (a .out .now)) fits) (ap accepted (put .ensures .0), put .ensures .1 ∙ placed-first (a .out .now) w fits)
+
+pub place-spec : {M : Type 1} → statement M
+place-spec = tie.close (tie.spec (λ c κs. search needs) returns (λ c κs. search needs) (λ c. search needs) returns-2)

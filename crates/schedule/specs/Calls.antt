@@ -1,0 +1,135 @@
+-- The calls' complete replies, and the output memory.
+-- Assumes nothing.
+use Prim.Native.Nat.{ℕ, zero, suc, _+_, _-_}
+use mathlib.Core.Bool.{Bool, _&&_}
+use mathlib.Core.Path.{_≡_}
+use mathlib.Core.List.{List, [], _∷_, _++_, List·Memᴰ}
+use lib.ListN.{length, drop, take}
+use lib.Dec.{ltb, leb, eqb}
+use Rattle.refusal.specs.Choice.{if_then_else_}
+use Rattle.refusal.specs.Answer.{Answer, accepted, refused, _>>=_, unless-refuse}
+use Rattle.refusal.specs.Refusal.{refusal}
+use Rattle.number.specs.Number.{writeNumber}
+use Rattle.runs.specs.declared.Stretch.{Stretch}
+use Rattle.planning.specs.Envelope.{acceptJob}
+use Rattle.runs.specs.Level.{Has}
+use Rattle.runs.specs.RunList.{shownLevel}
+use Rattle.planning.specs.Required.{jobRuns}
+use Rattle.schedule.specs.declared.reply.Plan.{Plan}
+use Rattle.schedule.specs.declared.reply.Plan.the-variants as Plan
+use Rattle.schedule.specs.declared.reply.Quantity.{Quantity}
+use Rattle.schedule.specs.declared.reply.Quantity.the-variants as Quantity
+use Rattle.schedule.specs.declared.reply.Lookup.{Lookup}
+use Rattle.schedule.specs.declared.reply.Lookup.the-variants as Lookup
+use Rattle.schedule.specs.Schedule.{writeSchedule, writeRecord, readSchedule}
+
+-- Plan
+
+-- Bytes to be written into `room` bytes: 9 returns the bytes needed.
+unfoldable pub fitted : (w : List ℕ) (room : ℕ) → Answer (List ℕ)
+fitted w room = unless-refuse (leb (length w) room) 9 (length w) >>= λ _. accepted w
+
+-- The schedule to be written, or the refusal: "8; then numbers as they stand, each for 1, 2 and its range; 7; hazards in order, both sides, 5 before 6; 9".
+unfoldable pub plan : (s : List ℕ) (side room : ℕ) → Answer (List ℕ)
+plan s side room =
+    unless-refuse (leb side 1) 8 0 >>= λ _.
+    acceptJob s >>= λ j.
+    fitted (writeSchedule (jobRuns j side)) room
+
+-- "Gives the bytes written."
+unfoldable pub bytesWritten : Answer (List ℕ) → Answer ℕ
+bytesWritten a = a >>= λ w. accepted (length w)
+
+abbrev pub planReply : Plan → Answer ℕ
+planReply (Plan.Written n) = accepted n
+planReply (Plan.Refused r) = refusal r
+
+-- The output memory afterwards: the schedule from its first byte and the bytes behind it untouched; unchanged after a refusal.
+abbrev pub outputAfter : Answer (List ℕ) → (out : List ℕ) → List ℕ
+outputAfter (accepted w) out = w ++ drop (length w) out
+outputAfter (refused k v) out = out
+
+-- Quantity
+
+-- How many of the n millimetres from p pass the test.
+unfoldable pub countFrom : (ℕ → Bool) → (p n : ℕ) → ℕ
+countFrom f p zero = 0
+countFrom f p (suc n) = if f p then suc (countFrom f (suc p) n) else countFrom f (suc p) n
+
+-- "How many millimetres of [p, q) have exactly that level."
+unfoldable pub millimetres : (f : ℕ → ℕ) → (level p q : ℕ) → ℕ
+millimetres f level p q = countFrom (λ (t : ℕ). eqb (f t) level) p (q - p)
+
+-- "8, then 10."
+unfoldable pub quantity : (s : List ℕ) (level p q : ℕ) → Answer ℕ
+quantity s level p q =
+    unless-refuse (leb 1 level && leb level 6 && leb p q) 8 0 >>= λ _.
+    readSchedule s >>= λ rs.
+    accepted (millimetres (shownLevel rs) level p q)
+
+abbrev pub quantityReply : Quantity → Answer ℕ
+quantityReply (Quantity.Millimetres n) = accepted n
+quantityReply (Quantity.Refused r) = refusal r
+
+-- Lookup
+
+-- A part of the bytes: its first index and its length.
+pub record Part : Type 0 where
+  pub at : ℕ
+  pub len : ℕ
+
+pub data Found : Type 0 where
+  found : Part → Found
+  nowhere : Found
+
+-- The record of the run that has t, among runs whose first record stands at byte index i after a run that ended at e.
+unfoldable pub findRecord : (e i : ℕ) → List Stretch → (t : ℕ) → Found
+findRecord e i [] t = nowhere
+findRecord e i (r ∷ rs) t =
+    let n = length (writeRecord e r) in
+    let rest = findRecord (r .end) (i + n) rs t in
+    if leb (r .start) t && ltb t (r .end) then found (record { at = i; len = n }) else rest
+
+-- The schedule of the side asked for; the right one for a bad side.
+abbrev pub asked : (side : ℕ) (right left : List ℕ) → List ℕ
+asked side right left = if eqb side 1 then left else right
+
+-- Where the record is, in the schedule of the side asked for: "8, then 10, of the asked side's schedule".
+unfoldable pub lookup : (right left : List ℕ) (side t : ℕ) → Answer Found
+lookup right left side t =
+    unless-refuse (leb side 1) 8 0 >>= λ _.
+    readSchedule (asked side right left) >>= λ rs.
+    accepted (findRecord 0 (length (writeNumber (length rs))) rs t)
+
+-- The part that lookup returns: "an empty part at that schedule's start where no run has the station or a refusal holds".
+abbrev pub partOf : Answer Found → Part
+partOf (accepted (found p)) = p
+partOf (accepted nowhere) = record { at = 0; len = 0 }
+partOf (refused k v) = record { at = 0; len = 0 }
+
+-- "A companion call gives found, none or the refusal."
+pub data Outcome : Type 0 where
+  one none : Outcome
+
+unfoldable pub outcomeOf : Answer Found → Answer Outcome
+outcomeOf (accepted (found p)) = accepted one
+outcomeOf (accepted nowhere) = accepted none
+outcomeOf (refused k v) = refused k v
+
+abbrev pub lookupReply : Lookup → Answer Outcome
+lookupReply Lookup.Found = accepted one
+lookupReply Lookup.Nothing = accepted none
+lookupReply (Lookup.Refused r) = refusal r
+
+-- The bytes that a part has.
+abbrev pub partBytes : Part → List ℕ → List ℕ
+partBytes p s = take (p .len) (drop (p .at) s)
+
+-- The record of the run that has t.
+pub record FoundRun (s : List ℕ) (rs : List Stretch) (t : ℕ) (p : Part) : Type 0 where
+  pub run : Stretch
+  pub member : List·Memᴰ run rs
+  pub has : Has run t
+  pub previous-end : ℕ
+  pub bytes : partBytes p s ≡ writeRecord previous-end run
+  pub level : shownLevel rs t ≡ run .level

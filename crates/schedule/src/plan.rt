@@ -1,0 +1,46 @@
+// Plan: from a job in bytes to the schedule of a side in the lent output.
+use super::reply::Plan;
+use super::write::put_schedule;
+use super::write::schedule_length;
+use refusal::Outcome;
+use refusal::Refusal;
+use runs::RunList;
+ghost use mathlib.Core.Path.{_≡_};
+ghost use mathlib.Core.Bool.{true};
+ghost use lib.ListN.{length};
+ghost use Rattle.runs.specs.RunList.{isRunList, runsOf};
+ghost use Rattle.schedule.specs.Schedule.{writeSchedule};
+ghost use Rattle.schedule.specs.Calls.{fitted, planReply, bytesWritten, outputAfter};
+ghost use Rattle.schedule.specs.Calls as calls;
+
+// The schedule of a run list from the output's first byte on; where it does not fit, nothing.
+fn place(out: &mut [u8], list: RunList) -> Plan
+    requires { ⌜ isRunList (runsOf list) ≡ true ⌝ }
+    ensures { λ r. ⌜ planReply r ≡ bytesWritten (fitted (writeSchedule (runsOf list)) (length (now (out .entry)))) ⌝ }
+    ensures { λ _. ⌜ now (out .exit) ≡ outputAfter (fitted (writeSchedule (runsOf list)) (length (now (out .entry)))) (now (out .entry)) ⌝ }
+{
+    let needed = schedule_length(list);
+    if out.len() < needed {
+        return Plan::Refused(Refusal::Room(needed));
+    }
+    Plan::Written(put_schedule(out, list))
+}
+
+// The schedule of a side of the job, written into the output; or the first refusal, and nothing written.
+pub fn plan(job: &[u8], side: u64, out: &mut [u8]) -> Plan
+    ensures { λ r. ⌜ planReply r ≡ bytesWritten (calls.plan (now (job .entry)) side (length (now (out .entry)))) ⌝ }
+    ensures { λ _. ⌜ now (out .exit) ≡ outputAfter (calls.plan (now (job .entry)) side (length (now (out .entry)))) (now (out .entry)) ⌝ }
+{
+    if 1 < side {
+        return Plan::Refused(Refusal::Argument);
+    }
+    let planned = planning::side::side_runs(job, side as u32);
+    let outcome = planned.outcome;
+    match outcome {
+        Outcome::Done => {
+            let runs = planned.runs;
+            place(out, runs)
+        }
+        Outcome::Refused(refusal) => Plan::Refused(refusal),
+    }
+}

@@ -1,0 +1,84 @@
+// Writing a run list as a schedule: its length in bytes, and its bytes into lent memory.
+use number::Write;
+use runs::RunList;
+ghost use mathlib.Core.Path.{_≡_};
+ghost use mathlib.Core.Bool.{true};
+ghost use mathlib.Core.List.{_++_};
+ghost use Prim.Native.Nat.{_+_, _≤_};
+ghost use lib.ListN.{length, drop};
+ghost use Rattle.number.specs.Number.{placed, writeNumber};
+ghost use Rattle.runs.specs.RunList.{isRunList, runsOf};
+ghost use Rattle.schedule.specs.Schedule.{writeSchedule, writeRecord};
+ghost use Rattle.schedule.specs.Writing.{RecordFits, stretch};
+
+// How many bytes the record of a run takes, behind a run that ended at `end`.
+fn record_length(end: u32, start: u32, stop: u32, level: u8) -> usize
+    requires { ⌜ RecordFits end start stop level ⌝ }
+    ensures { λ r. ⌜ r ≡ length (writeRecord end (stretch start stop level)) ⌝ }
+{
+    number::group_count(start - end)
+        + number::group_count(stop - start)
+        + number::group_count(level as u32)
+}
+
+// How many bytes the schedule takes.
+pub fn schedule_length(list: RunList) -> usize
+    requires { ⌜ isRunList (runsOf list) ≡ true ⌝ }
+    ensures { λ r. ⌜ r ≡ length (writeSchedule (runsOf list)) ⌝ }
+{
+    let count = list.count;
+    let mut bytes = number::group_count(count as u32);
+    let mut end: u32 = 0;
+    let mut i = 0;
+    while i < count {
+        let stop = list.ends[i];
+        bytes += record_length(end, list.starts[i], stop, list.levels[i]);
+        end = stop;
+        i += 1;
+    }
+    bytes
+}
+
+// The bytes of a number from `at` on, where there is room; the index behind them.
+fn put_number(out: &mut [u8], at: usize, x: u32) -> usize
+    requires { ⌜ at + length (writeNumber x) ≤ length (now out) ⌝ }
+    ensures { λ r. ⌜ r ≡ at + length (writeNumber x) ⌝ }
+    ensures { λ _. ⌜ now (out .exit) ≡ placed (now (out .entry)) at (writeNumber x) ⌝ }
+{
+    match number::write_number(out, at, x) {
+        Write::Next(next) => next,
+        Write::Full => at,
+    }
+}
+
+// The record of a run from `at` on; the index behind it.
+fn put_record(out: &mut [u8], at: usize, end: u32, start: u32, stop: u32, level: u8) -> usize
+    requires { ⌜ RecordFits end start stop level ⌝ }
+    requires { ⌜ at + length (writeRecord end (stretch start stop level)) ≤ length (now out) ⌝ }
+    ensures { λ r. ⌜ r ≡ at + length (writeRecord end (stretch start stop level)) ⌝ }
+    ensures { λ _. ⌜ now (out .exit) ≡ placed (now (out .entry)) at (writeRecord end (stretch start stop level)) ⌝ }
+{
+    let second = put_number(out, at, start - end);
+    let third = put_number(out, second, stop - start);
+    put_number(out, third, level as u32)
+}
+
+// The schedule from the first byte on; its length.
+pub fn put_schedule(out: &mut [u8], list: RunList) -> usize
+    requires { ⌜ isRunList (runsOf list) ≡ true ⌝ }
+    requires { ⌜ length (writeSchedule (runsOf list)) ≤ length (now out) ⌝ }
+    ensures { λ r. ⌜ r ≡ length (writeSchedule (runsOf list)) ⌝ }
+    ensures { λ _. ⌜ now (out .exit) ≡ placed (now (out .entry)) 0 (writeSchedule (runsOf list)) ⌝ }
+{
+    let count = list.count;
+    let mut at = put_number(out, 0, count as u32);
+    let mut end: u32 = 0;
+    let mut i = 0;
+    while i < count {
+        let stop = list.ends[i];
+        at = put_record(out, at, end, list.starts[i], stop, list.levels[i]);
+        end = stop;
+        i += 1;
+    }
+    at
+}

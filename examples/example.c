@@ -1,0 +1,210 @@
+/*
+ * The first program: plans document 01's printed example, looks up the barrier
+ * at some stations, prices it by lots and shows two refusals.
+ *
+ *     cc example.c $(pkg-config --cflags --libs barrier_engine) -o example
+ */
+#include <inttypes.h>
+#include <stdio.h>
+
+#include <barrier.h>
+
+#include "number_form.h"
+
+/* The header, 14 numbers, and one hazard: a culvert headwall on the right. */
+enum { JOB_NUMBERS = 20, NEAR_OFFSET = 17 };
+
+static const uint64_t printed_job[JOB_NUMBERS] = {
+    1,               /* kind */
+    0, 1000000,      /* road begin and end: one kilometre */
+    101000, 0,       /* runout lengths: forward; no opposite traffic */
+    9000,            /* clear-zone width */
+    0,               /* travelled-way edge to centreline */
+    3000,            /* barrier offset */
+    1000,            /* deflection allowance */
+    15, 1,           /* flare: 1 across for 15 along */
+    13340,           /* straight barrier before the flare */
+    0,               /* continuity limit */
+    1,               /* hazard count */
+    BARRIER_RIGHT,   /* hazard: side, */
+    200000, 210000,  /* first and end station, */
+    5000, 9000,      /* near and far offset, */
+    BARRIER_NC_3     /* containment level */
+};
+
+/* The price of one millimetre of barrier in cents: 120.00 a metre. */
+static const uint64_t CENTS_A_MILLIMETRE = 12;
+
+static size_t write_job(const uint64_t *numbers, uint8_t *job)
+{
+    size_t length = 0;
+    for (int i = 0; i < JOB_NUMBERS; i++)
+        length += put_number(job + length, numbers[i]);
+    return length;
+}
+
+static void print_bytes(const char *name, const uint8_t *bytes, size_t length)
+{
+    printf("  %s:", name);
+    for (size_t i = 0; i < length; i++)
+        printf(" %02X", bytes[i]);
+    printf("\n");
+}
+
+/* A refusal's value means something else for each number. */
+static void print_refusal(const char *what, barrier_reply reply)
+{
+    const uint64_t value = reply.value;
+    printf("  %s: refused %" PRIu64 " with %" PRIu64 ", ", what, reply.number, value);
+    switch (reply.number) {
+    case BARRIER_JOB_ENDED:
+        printf("the job ends before or inside the number at byte %" PRIu64 "\n", value);
+        break;
+    case BARRIER_NUMBER_MALFORMED:
+        printf("no number in the right form begins at byte %" PRIu64 "\n", value);
+        break;
+    case BARRIER_HEADER_RANGE:
+        printf("header number %" PRIu64 " is outside its range\n", value);
+        break;
+    case BARRIER_HAZARD_RANGE:
+        printf("a field of hazard %" PRIu64 " is outside its range\n", value);
+        break;
+    case BARRIER_HAZARD_NEAR:
+        printf("hazard %" PRIu64 " leaves the barrier no room to deflect\n", value);
+        break;
+    case BARRIER_ENVELOPE_OFF_ROAD:
+        printf("the envelope of hazard %" PRIu64 " leaves the road\n", value);
+        break;
+    case BARRIER_JOB_LEFT_OVER:
+        printf("bytes are left over from byte %" PRIu64 " on\n", value);
+        break;
+    case BARRIER_ARGUMENT:
+        printf("no such side or level, or a range that ends before it begins\n");
+        break;
+    case BARRIER_OUTPUT_SHORT:
+        printf("the schedule takes %" PRIu64 " bytes\n", value);
+        break;
+    case BARRIER_NO_SCHEDULE:
+        printf("these bytes are not a schedule\n");
+        break;
+    default:
+        printf("a number that barrier.h does not have\n");
+    }
+}
+
+/* Plans one side into BARRIER_SCHEDULE_MAX bytes; 0 bytes if refused. */
+static size_t plan(const uint8_t *job, size_t job_len, uint64_t side, uint8_t *out)
+{
+    const barrier_reply reply =
+        barrier_plan(job, job_len, side, out, BARRIER_SCHEDULE_MAX);
+    if (reply.number != BARRIER_DONE) {
+        print_refusal("plan", reply);
+        return 0;
+    }
+    return (size_t)reply.value;
+}
+
+/* What stands on the right side at a station. */
+static void print_station(const uint8_t *right, size_t right_len, uint64_t station)
+{
+    const barrier_record record =
+        barrier_lookup(right, right_len, NULL, 0, BARRIER_RIGHT, station);
+    if (record.number != BARRIER_DONE) {
+        /* Not the same as "no barrier": these bytes could not be read. */
+        const barrier_reply refusal = {record.number, 0};
+        print_refusal("lookup", refusal);
+        return;
+    }
+    if (!record.found) {
+        printf("  station %" PRIu64 ": no barrier\n", station);
+        return;
+    }
+    size_t at = (size_t)record.start;
+    const uint64_t distance = get_number(right, &at);
+    const uint64_t length = get_number(right, &at);
+    const uint64_t level = get_number(right, &at);
+    printf("  station %" PRIu64 ": bytes [%" PRIu64 ", %" PRIu64 "): ", station, record.start,
+           record.end);
+    printf("%" PRIu64 " mm free, then %" PRIu64 " mm at NC-%" PRIu64 "\n", distance, length, level);
+}
+
+static void print_price(const char *what, uint64_t millimetres)
+{
+    const uint64_t cents = millimetres * CENTS_A_MILLIMETRE;
+    printf("  %-19s %6" PRIu64 " mm %6" PRIu64 ".%02" PRIu64 "\n", what, millimetres,
+           cents / 100, cents % 100);
+}
+
+/* One lot, [p, q).  Returns its millimetres of NC-3. */
+static uint64_t print_lot(const uint8_t *right, size_t right_len, uint64_t p, uint64_t q)
+{
+    const barrier_reply reply = barrier_quantity(right, right_len, BARRIER_NC_3, p, q);
+    char name[64];
+    snprintf(name, sizeof name, "[%" PRIu64 ", %" PRIu64 ")", p, q);
+    if (reply.number != BARRIER_DONE) {
+        print_refusal(name, reply);
+        return 0;
+    }
+    print_price(name, reply.value);
+    return reply.value;
+}
+
+/*
+ * Two lots that share a boundary, their sum, and the road in one lot.  A range
+ * does not have its end station, so nothing is counted in both lots.
+ */
+static void print_lots(const uint8_t *right, size_t right_len, uint64_t boundary)
+{
+    uint64_t sum = print_lot(right, right_len, 0, boundary);
+    sum += print_lot(right, right_len, boundary, 1000000);
+    print_price("both lots", sum);
+    print_lot(right, right_len, 0, 1000000);
+}
+
+/* The same job with the headwall one millimetre too near, and a short output. */
+static void print_refusals(const uint8_t *job, size_t job_len)
+{
+    uint64_t numbers[JOB_NUMBERS];
+    uint8_t near_job[JOB_NUMBERS * NUMBER_BYTES_MAX];
+    uint8_t out[BARRIER_SCHEDULE_MAX];
+    for (int i = 0; i < JOB_NUMBERS; i++)
+        numbers[i] = printed_job[i];
+    numbers[NEAR_OFFSET] = 3999;
+    const size_t near_len = write_job(numbers, near_job);
+    print_refusal("near offset 3999",
+                  barrier_plan(near_job, near_len, BARRIER_RIGHT, out, sizeof out));
+    print_refusal("room for 7 bytes", barrier_plan(job, job_len, BARRIER_RIGHT, out, 7));
+}
+
+int main(void)
+{
+    uint8_t job[JOB_NUMBERS * NUMBER_BYTES_MAX];
+    uint8_t right[BARRIER_SCHEDULE_MAX];
+    uint8_t left[BARRIER_SCHEDULE_MAX];
+    const size_t job_len = write_job(printed_job, job);
+
+    const size_t right_len = plan(job, job_len, BARRIER_RIGHT, right);
+    const size_t left_len = plan(job, job_len, BARRIER_LEFT, left);
+    if (right_len == 0 || left_len == 0)
+        return 1;
+
+    printf("The printed example\n");
+    print_bytes("job", job, job_len);
+    print_bytes("right schedule", right, right_len);
+    print_bytes("left schedule", left, left_len);
+
+    printf("Records on the right side\n");
+    print_station(right, right_len, 155772);
+    print_station(right, right_len, 155773);
+    print_station(right, right_len, 209999);
+    print_station(right, right_len, 210000);
+
+    printf("NC-3 by lots, the boundary inside the run\n");
+    print_lots(right, right_len, 180000);
+    printf("NC-3 by lots, the boundary where the run begins\n");
+    print_lots(right, right_len, 155773);
+
+    printf("Refusals\n");
+    print_refusals(job, job_len);
+    return 0;
+}

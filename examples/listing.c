@@ -1,0 +1,51 @@
+/*
+ * Reads a job from standard input and prints both schedules, as the program
+ * `barrier` does: a line for each run, side, start, end and level, then the
+ * covered millimetres of both sides.  Shows how a schedule is walked.
+ *
+ *     jobtext <jobs/two-sided.job | listing
+ */
+#include <inttypes.h>
+#include <stdio.h>
+
+#include <barrier.h>
+
+#include "number_form.h"
+
+/* Prints the runs of one side; the covered millimetres. */
+static uint64_t print_runs(char side, const uint8_t *schedule)
+{
+    size_t at = 0;
+    uint64_t end = 0, covered = 0;
+    uint64_t count = get_number(schedule, &at);
+    for (; count > 0; count--) {
+        /* A record has the distance from the run before, not the station. */
+        const uint64_t start = end + get_number(schedule, &at);
+        const uint64_t length = get_number(schedule, &at);
+        const uint64_t level = get_number(schedule, &at);
+        end = start + length;
+        covered += length;
+        printf("%c %" PRIu64 " %" PRIu64 " %" PRIu64 "\n", side, start, end, level);
+    }
+    return covered;
+}
+
+int main(void)
+{
+    static uint8_t job[BARRIER_JOB_MAX];
+    static uint8_t right[BARRIER_SCHEDULE_MAX], left[BARRIER_SCHEDULE_MAX];
+    const size_t job_len = fread(job, 1, sizeof job, stdin);
+
+    /* Whatever is wrong with a job refuses both sides alike. */
+    barrier_reply reply = barrier_plan(job, job_len, BARRIER_RIGHT, right, sizeof right);
+    if (reply.number == BARRIER_DONE)
+        reply = barrier_plan(job, job_len, BARRIER_LEFT, left, sizeof left);
+    if (reply.number != BARRIER_DONE) {
+        printf("refused %" PRIu64 " %" PRIu64 "\n", reply.number, reply.value);
+        return 0;
+    }
+    const uint64_t on_right = print_runs('R', right);
+    const uint64_t on_left = print_runs('L', left);
+    printf("total %" PRIu64 " %" PRIu64 "\n", on_right, on_left);
+    return 0;
+}

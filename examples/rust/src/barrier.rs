@@ -1,0 +1,109 @@
+//! The engine's three calls, safe to use. include/barrier.h is their manual;
+//! copy this file to link the engine from Rust.
+
+use std::ops::Range;
+
+/// The schedule of every job fits in this many bytes.
+pub const SCHEDULE_MAX: usize = 5623;
+
+pub const RIGHT: u64 = 0;
+pub const LEFT: u64 = 1;
+
+mod c {
+    #[repr(C)]
+    pub struct Reply {
+        pub number: u64,
+        pub value: u64,
+    }
+
+    #[repr(C)]
+    pub struct Record {
+        pub number: u64,
+        pub found: u64,
+        pub start: u64,
+        pub end: u64,
+    }
+
+    extern "C" {
+        pub fn barrier_plan(
+            job: *const u8,
+            job_len: usize,
+            side: u64,
+            out: *mut u8,
+            out_len: usize,
+        ) -> Reply;
+
+        pub fn barrier_quantity(
+            schedule: *const u8,
+            schedule_len: usize,
+            level: u64,
+            p: u64,
+            q: u64,
+        ) -> Reply;
+
+        pub fn barrier_lookup(
+            right: *const u8,
+            right_len: usize,
+            left: *const u8,
+            left_len: usize,
+            side: u64,
+            station: u64,
+        ) -> Record;
+    }
+}
+
+/// A row of the refusal table: its number, and the value returned with it.
+#[derive(Clone, Copy, Debug, PartialEq, Eq)]
+pub struct Refusal {
+    pub number: u64,
+    pub value: u64,
+}
+
+fn answer(reply: c::Reply) -> Result<u64, Refusal> {
+    let c::Reply { number, value } = reply;
+    match number {
+        0 => Ok(value),
+        _ => Err(Refusal { number, value }),
+    }
+}
+
+/// Writes the schedule of one side to the start of `out`; the bytes written.
+pub fn plan(job: &[u8], side: u64, out: &mut [u8]) -> Result<usize, Refusal> {
+    // SAFETY: both pointers are good for as many bytes as are named with them,
+    // and `out` is lent to this call alone.
+    let reply =
+        unsafe { c::barrier_plan(job.as_ptr(), job.len(), side, out.as_mut_ptr(), out.len()) };
+    answer(reply).map(|written| written as usize)
+}
+
+/// How many millimetres of [p, q) have exactly that level.
+pub fn quantity(schedule: &[u8], level: u64, p: u64, q: u64) -> Result<u64, Refusal> {
+    // SAFETY: the pointer is good for as many bytes as are named with it.
+    answer(unsafe { c::barrier_quantity(schedule.as_ptr(), schedule.len(), level, p, q) })
+}
+
+/// The bytes, in the schedule of the side asked for, of the record of the run
+/// that has the station; `None` where no run has it.
+pub fn lookup(
+    right: &[u8],
+    left: &[u8],
+    side: u64,
+    station: u64,
+) -> Result<Option<Range<usize>>, Refusal> {
+    // SAFETY: both pointers are good for as many bytes as are named with them.
+    let record = unsafe {
+        c::barrier_lookup(
+            right.as_ptr(),
+            right.len(),
+            left.as_ptr(),
+            left.len(),
+            side,
+            station,
+        )
+    };
+    match (record.number, record.found) {
+        (0, 0) => Ok(None),
+        (0, _) => Ok(Some(record.start as usize..record.end as usize)),
+        (number, _) => Err(Refusal { number, value: 0 }),
+    }
+}

@@ -1,0 +1,352 @@
+/*
+ * barrier.h - the barrier schedule engine
+ *
+ * A job goes in: one straight road and its roadside hazards.  A schedule comes
+ * out: the runs of safety barrier along one side of the road, each with its
+ * containment level.  There are three calls:
+ *
+ *     barrier_plan        writes the schedule of one side of a job
+ *     barrier_quantity    counts the millimetres of one level in a range
+ *     barrier_lookup      finds the record of the run at a station
+ *
+ * This file is the manual; examples/example.c is a first program.
+ *
+ * CONTENTS
+ *
+ *     Stations and ranges          Memory
+ *     The number form              Threads
+ *     The job                      Linking
+ *     What is planned              Constants
+ *     The schedule                 The calls
+ *     Refusals, and their order
+ *
+ * ---------------------------------------------------------------------------
+ * STATIONS AND RANGES
+ *
+ * Lengths, offsets and stations are whole millimetres.  Station t names the
+ * millimetre from t to t + 1.  A range [s, e) has the millimetres s to e - 1:
+ * its end station is not in it.  So two lots that share a boundary have no
+ * millimetre in common, and a run that begins on the boundary is in the second
+ * lot alone.
+ *
+ * ---------------------------------------------------------------------------
+ * THE NUMBER FORM
+ *
+ * Jobs and schedules are rows of numbers.  A number is cut into groups of
+ * seven bits, lowest group first, one group a byte; the top bit is set on all
+ * but the last byte.  Only the shortest form is a number: as many groups as
+ * the bits of the value need, and 0 takes one.  At most five bytes, value at
+ * most 4294967295.
+ *
+ *     0       00            128      80 01
+ *     127     7F            155773   FD C0 09
+ *
+ * ---------------------------------------------------------------------------
+ * THE JOB
+ *
+ * Fourteen header numbers:
+ *
+ *     no.  letter  meaning                                  range
+ *      1           kind                                     1
+ *      2     A     road begin                               0 to 1999999999
+ *      3     B     road end                                 A + 1 to 2000000000
+ *      4     LF    runout length of forward traffic,
+ *                  which travels towards rising stations    1 to 200000
+ *      5     LO    runout length of opposite traffic;
+ *                  0 means one-way or separated             0 to 200000
+ *      6     C     clear-zone width                         1 to 30000
+ *      7     W     travelled-way edge to centreline         0 to 20000
+ *      8     M     barrier offset from that edge            0 to 20000
+ *      9     D     deflection allowance                     1 to 5000
+ *     10     a     flare: b across for a along; here a      1 to 100
+ *     11     b     flare, b; 0 means no flare               0 to 10
+ *     12     T     straight barrier before the flare        0 to 100000
+ *     13     G     continuity limit                         0 to 200000
+ *     14     h     hazard count                             0 to 256
+ *
+ * then six numbers for each of the h hazards:
+ *
+ *          letter  meaning                                  range
+ *                  side: 0 right, 1 left                    0 to 1
+ *            s     first station                            A to B - 1
+ *            e     end station                              s + 1 to B
+ *            n     near offset, from the travelled-way
+ *                  edge on the hazard's side                0 to 60000
+ *            f     far offset, from the same edge           n to 60000
+ *                  containment level, NC-1 to NC-6          1 to 6
+ *
+ * and nothing behind them.  The hazards may stand in any order.
+ *
+ * ---------------------------------------------------------------------------
+ * WHAT IS PLANNED
+ *
+ * The adjacent traffic of the right side is forward, of the left side
+ * opposite; the other one is the far traffic.  With LO = 0 forward traffic is
+ * adjacent to both sides and there is no far traffic.  Forward traffic
+ * approaches a hazard from lower stations, opposite traffic from higher ones.
+ *
+ *     traffic     reaches the hazard if   reach R               offset m
+ *     adjacent    n < C                   lesser of f and C     M
+ *     far         n + W < C               lesser of f + W, C    M + W
+ *
+ * For each traffic that reaches the hazard, with its runout length L, the
+ * approach length is
+ *
+ *     L * (a * R + b * T - a * m) / (b * L + a * R)
+ *
+ * rounded up to the next whole millimetre if not whole.  The envelope of a
+ * reached hazard is [s, e), lengthened by each approach length at the end that
+ * this traffic approaches.  A hazard that nobody reaches has no envelope.
+ *
+ * For each side and level v, take the millimetres in envelopes of level v or
+ * higher, and add every gap between them that is shorter than G.  The required
+ * level of a millimetre is the highest v whose set, gaps added, has it, else
+ * 0.  A run is a longest stretch of one required level above 0.
+ *
+ * ---------------------------------------------------------------------------
+ * THE SCHEDULE
+ *
+ * The run count, 0 to 511; then for each run, with rising stations, the three
+ * numbers of its record:
+ *
+ *     distance    the run's start less the end of the run before it
+ *                 (less 0 for the first run)
+ *     length      in millimetres, 1 or more
+ *     level       1 to 6
+ *
+ * A side without runs has the schedule 00, one byte.  Two runs may touch
+ * (distance 0) where their levels differ.  No run ends above 2000000000.
+ * Two jobs that require the same levels on a side have equal schedules of that
+ * side, byte for byte; so schedules can be compared with memcmp.
+ *
+ * ---------------------------------------------------------------------------
+ * REFUSALS, AND THEIR ORDER
+ *
+ * A call is done (number 0) or refused.  A refusal has a number and a value:
+ *
+ *     number  value                     when
+ *      1      byte index where the      the job's bytes end before or inside a
+ *             number begins             number
+ *      2      byte index where the      a number's fifth byte has the top bit
+ *             number begins             set, or its value is above 4294967295,
+ *                                       or it is not in shortest form
+ *      3      header number, 1 to 14    header number outside its range
+ *      4      hazard index from 0       hazard field outside its range
+ *      5      hazard index from 0       reached hazard with n < M + D: the
+ *                                       barrier has no room to deflect
+ *      6      hazard index from 0       its envelope begins before A or ends
+ *                                       after B
+ *      7      index of the first        bytes behind the last hazard
+ *             byte left over
+ *      8      0                         side above 1, level not 1 to 6, or
+ *                                       p > q
+ *      9      bytes needed              the output is shorter than that
+ *     10      0                         the bytes are not a schedule, that is,
+ *                                       not the writing of a run list
+ *
+ * The first that holds is returned, in this order:
+ *
+ *     barrier_plan        8; then the job's numbers as they stand, each for 1,
+ *                         for 2 and for its range (3 or 4) before the next is
+ *                         read; then 7; then the hazards by index, those of
+ *                         both sides, each for 5 and then for 6; then 9
+ *     barrier_quantity    8, then 10
+ *     barrier_lookup      8, then 10, of the asked side's schedule
+ *
+ * A job to which none of 1 to 7 applies is accepted, on both sides alike.
+ *
+ * Refusal 10 is for any fault anywhere in the schedule, also behind the record
+ * that is wanted: a count above 511 or not that of the records, a number not
+ * in shortest form, bytes left over, a length of 0, a level outside 1 to 6, an
+ * end above 2000000000, touching runs of one level.
+ *
+ * ---------------------------------------------------------------------------
+ * MEMORY
+ *
+ * A call reads the bytes it is given with their length, and never changes
+ * them.  Only barrier_plan writes, and only to its output:
+ *
+ *   - Done: the complete schedule stands from the output's first byte on; the
+ *     bytes behind it stay as they were.
+ *   - Refused: every byte of the output stays as it was.
+ *
+ * Each pointer has to be good for as many bytes as its length says, the
+ * output for writing too.  A pointer may be NULL where its length is 0.  The
+ * buffers of one call must not overlap.  No alignment is asked for.  The
+ * engine keeps no pointer behind a call.
+ *
+ * ---------------------------------------------------------------------------
+ * THREADS
+ *
+ * The engine has no state, allocates nothing, opens nothing, prints nothing
+ * and sets no errno.  Every call returns, whatever bytes it is given.  Any
+ * call may run on any thread at any time, several at once too, as long as no
+ * thread changes a buffer that another call is using.
+ *
+ * ---------------------------------------------------------------------------
+ * LINKING
+ *
+ * `pkg-config --cflags --libs barrier_engine` prints the flags; they name this
+ * header's folder and the archive libbarrier_engine.a.  The archive is for
+ * x86-64, position independent, so that it links into programs and shared
+ * libraries alike, exports the three calls alone, and asks the C library for
+ * nothing but block copies (memcpy and its kin).
+ */
+#ifndef BARRIER_H
+#define BARRIER_H
+
+#include <stddef.h>
+#include <stdint.h>
+
+#ifdef __cplusplus
+extern "C" {
+#endif
+
+/* The version of the engine that this header belongs to. */
+#define BARRIER_VERSION "0.1.0"
+
+/*
+ * CONSTANTS
+ *
+ * BARRIER_SCHEDULE_MAX bytes take the schedule of every job, so that a plan
+ * into an output of this size is never refused 9: two bytes for the count and
+ * at most eleven for each of 511 records.
+ *
+ * BARRIER_JOB_MAX is how much of its input the program `barrier` passes on.
+ * No accepted job is that long: by the ranges above, the header takes at most
+ * 38 bytes and each of 256 hazards at most 18.  BARRIER_JOB_LONGEST is that
+ * sum, 38 + 256 * 18, and there are accepted jobs of exactly this length.  The
+ * calls take jobs of any length, and refuse a longer one for what is wrong
+ * with it.
+ */
+#define BARRIER_SCHEDULE_MAX 5623
+#define BARRIER_JOB_MAX 8192
+#define BARRIER_JOB_LONGEST 4646
+#define BARRIER_HAZARDS_MAX 256
+#define BARRIER_RUNS_MAX 511
+#define BARRIER_STATION_MAX 2000000000
+
+/* The sides of the road.  Forward traffic runs beside the right one. */
+enum barrier_side {
+    BARRIER_RIGHT = 0,
+    BARRIER_LEFT = 1
+};
+
+/* The containment levels, lowest first. */
+enum barrier_level {
+    BARRIER_NC_1 = 1,
+    BARRIER_NC_2 = 2,
+    BARRIER_NC_3 = 3,
+    BARRIER_NC_4 = 4,
+    BARRIER_NC_5 = 5,
+    BARRIER_NC_6 = 6
+};
+
+/* The numbers of the refusal table above, and 0. */
+enum barrier_number {
+    BARRIER_DONE = 0,
+    BARRIER_JOB_ENDED = 1,
+    BARRIER_NUMBER_MALFORMED = 2,
+    BARRIER_HEADER_RANGE = 3,
+    BARRIER_HAZARD_RANGE = 4,
+    BARRIER_HAZARD_NEAR = 5,
+    BARRIER_ENVELOPE_OFF_ROAD = 6,
+    BARRIER_JOB_LEFT_OVER = 7,
+    BARRIER_ARGUMENT = 8,
+    BARRIER_OUTPUT_SHORT = 9,
+    BARRIER_NO_SCHEDULE = 10
+};
+
+/*
+ * THE CALLS
+ *
+ * Sides, levels and stations are passed in 64 bits, so that a number that is
+ * too great is refused and never cut down to one that is not.
+ */
+
+/*
+ * What barrier_plan and barrier_quantity reply.
+ *
+ *     number    BARRIER_DONE, or the refusal's number
+ *     value     done: bytes written (plan) or millimetres (quantity);
+ *               refused: the refusal's value
+ */
+typedef struct {
+    uint64_t number;
+    uint64_t value;
+} barrier_reply;
+
+/*
+ * What barrier_lookup replies.
+ *
+ *     number    BARRIER_DONE, BARRIER_ARGUMENT or BARRIER_NO_SCHEDULE
+ *     found     1 where a run has the station, else 0, also when refused
+ *     start     found: the record is the bytes [start, end) of the asked
+ *     end       side's schedule; else both are 0
+ */
+typedef struct {
+    uint64_t number;
+    uint64_t found;
+    uint64_t start;
+    uint64_t end;
+} barrier_record;
+
+/*
+ * Plan: writes the schedule of one side of a job to the start of the output.
+ *
+ *     job, job_len    the job's bytes
+ *     side            BARRIER_RIGHT or BARRIER_LEFT
+ *     out, out_len    the output lent to the call
+ *
+ * Done: value is the count of bytes written, 1 to BARRIER_SCHEDULE_MAX.
+ * Refused: 1 to 9.  Nothing is written.
+ *
+ * An output of BARRIER_SCHEDULE_MAX bytes is always long enough.  To ask for
+ * the size first, lend none (NULL, 0): an accepted job is then refused 9 with
+ * the bytes needed, since no schedule is empty.
+ */
+barrier_reply barrier_plan(const uint8_t *job, size_t job_len, uint64_t side,
+                           uint8_t *out, size_t out_len);
+
+/*
+ * Quantity: how many millimetres of [p, q) have exactly that level.
+ *
+ *     schedule, schedule_len    the schedule of one side
+ *     level                     BARRIER_NC_1 to BARRIER_NC_6
+ *     p, q                      any stations, on or off the road, p <= q
+ *
+ * Done: value is the count of millimetres; 0 for p = q.
+ * Refused: 8 or 10.
+ *
+ * For p <= r <= q, the quantities of [p, r) and [r, q) add up to exactly that
+ * of [p, q).  So the quantities over the lots of a road add up to that of the
+ * road, wherever the boundaries are.
+ */
+barrier_reply barrier_quantity(const uint8_t *schedule, size_t schedule_len,
+                               uint64_t level, uint64_t p, uint64_t q);
+
+/*
+ * Lookup: where in the schedule the record of the run at a station is.
+ *
+ *     right, right_len    the schedule of the right side
+ *     left, left_len      the schedule of the left side
+ *     side                the side asked for
+ *     station             any station, on or off the road
+ *
+ * Done: found says whether a run of that side has the station.
+ * Refused: 8 or 10, with found 0.
+ *
+ * Only the schedule of the side asked for is read; the other one may be
+ * anything, also NULL with length 0.  start and end are byte indices; the
+ * record's first number is a distance, so the run's stations come from
+ * adding up the records from the first on (examples/listing.c does it).
+ */
+barrier_record barrier_lookup(const uint8_t *right, size_t right_len,
+                              const uint8_t *left, size_t left_len,
+                              uint64_t side, uint64_t station);
+
+#ifdef __cplusplus
+}
+#endif
+
+#endif

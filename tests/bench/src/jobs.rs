@@ -1,0 +1,120 @@
+//! The jobs of the measurement: all hazards on the right side, each reached by
+//! both traffics, the same bytes on every run.
+
+use cases::Random;
+use cases::draft::Draft;
+
+#[derive(Clone, Copy, PartialEq, Eq)]
+pub enum Kind {
+    /// No envelope comes near another.
+    Sparse,
+    /// Some five envelopes overlap everywhere.
+    Dense,
+    /// One wide envelope with disjoint higher ones in it.
+    Islands,
+}
+
+impl Kind {
+    pub fn name(self) -> &'static str {
+        match self {
+            Kind::Sparse => "sparse",
+            Kind::Dense => "dense",
+            Kind::Islands => "511 runs",
+        }
+    }
+}
+
+#[derive(Clone, Copy, PartialEq, Eq)]
+pub enum Order {
+    Station,
+    Shuffled,
+}
+
+impl Order {
+    pub fn name(self) -> &'static str {
+        match self {
+            Order::Station => "station",
+            Order::Shuffled => "shuffled",
+        }
+    }
+}
+
+/// The road of every job.
+pub const ROAD_END: u64 = 2_000_000_000;
+
+const HEADER: [u64; 13] = [
+    1, 0, ROAD_END, 101_000, 88_000, 9_000, 1_500, 1_800, 1_000, 15, 1, 13_340, 5_000,
+];
+
+/// No approach length of this header is greater.
+const MARGIN: u64 = 101_000;
+
+pub fn job(kind: Kind, order: Order, hazards: u64) -> Vec<u8> {
+    let mut random = Random::new(hazards, kind.name());
+    let mut draft = Draft {
+        header: HEADER,
+        hazards: match kind {
+            Kind::Sparse => sparse(&mut random, hazards),
+            Kind::Dense => dense(&mut random, hazards),
+            Kind::Islands => islands(&mut random, hazards),
+        },
+    };
+    match order {
+        Order::Station => draft.hazards.sort_by_key(|hazard| hazard[1]),
+        Order::Shuffled => random.shuffle(&mut draft.hazards),
+    }
+    draft.bytes()
+}
+
+fn hazard(random: &mut Random, start: u64, length: u64, level: u64) -> [u64; 6] {
+    let near = random.between(2_800, 7_000);
+    let far = near + random.below(5_000);
+    [0, start, start + length, near, far, level]
+}
+
+fn sparse(random: &mut Random, hazards: u64) -> Vec<[u64; 6]> {
+    let at = |index, random: &mut Random| {
+        let start = 1_000_000 + index * 4_000_000 + random.below(500_000);
+        let length = random.between(1, 100_000);
+        let level = random.between(1, 6);
+        hazard(random, start, length, level)
+    };
+    (0..hazards).map(|index| at(index, random)).collect()
+}
+
+/// The road in use grows with the hazards, so that the overlap stays alike.
+fn dense(random: &mut Random, hazards: u64) -> Vec<[u64; 6]> {
+    let at = |random: &mut Random| {
+        let start = MARGIN + random.below(hazards * 20_000);
+        let length = random.between(1, 60_000);
+        let level = random.between(1, 6);
+        hazard(random, start, length, level)
+    };
+    (0..hazards).map(|_| at(random)).collect()
+}
+
+fn islands(random: &mut Random, hazards: u64) -> Vec<[u64; 6]> {
+    let pitch = 400_000;
+    let end = MARGIN + hazards * pitch;
+    let mut list = vec![hazard(random, MARGIN, end, 1)];
+    for index in 1..hazards {
+        let start = MARGIN + index * pitch + random.below(10_000);
+        let length = random.between(1, 100_000);
+        let level = random.between(2, 6);
+        list.push(hazard(random, start, length, level));
+    }
+    list
+}
+
+/// The planned schedule of the right side.
+pub fn schedule(job: &[u8]) -> Vec<u8> {
+    let mut out = vec![0; 8_192];
+    let written = reference::plan(job, 0, &mut out).expect("the job is accepted");
+    out.truncate(written as usize);
+    out
+}
+
+pub fn runs(schedule: &[u8]) -> Vec<reference::level::Run> {
+    let records = reference::schedule::read(schedule).expect("it is a schedule");
+    records.into_iter().map(|record| record.run).collect()
+}

@@ -1,0 +1,98 @@
+//! One fixed case, called exactly as often as asked: the instructions of one
+//! call are the difference between two counts.
+
+use std::hint::black_box;
+
+use cases::calls::{record, reply};
+
+use crate::jobs::{self, Kind, Order, ROAD_END};
+
+pub const NAMES: [&str; 6] = [
+    "sparse-shuffled",
+    "dense-shuffled",
+    "runs511-shuffled",
+    "runs511-ordered",
+    "quantity-511",
+    "lookup-511-middle",
+];
+
+#[derive(Clone, Copy, PartialEq, Eq)]
+enum Who {
+    Engine,
+    Reference,
+}
+
+pub struct Single {
+    name: String,
+    times: u64,
+    who: Who,
+}
+
+pub fn read(arguments: &[String]) -> Option<Single> {
+    let value = |option: &str| {
+        let at = arguments.iter().position(|argument| argument == option)?;
+        arguments.get(at + 1)
+    };
+    let name = value("--case")?.clone();
+    let who = match value("--who")?.as_str() {
+        "engine" => Who::Engine,
+        "reference" => Who::Reference,
+        _ => return None,
+    };
+    let times = value("--times")?.parse().ok()?;
+    let known = NAMES.contains(&name.as_str()) && arguments.len() == 6;
+    known.then_some(Single { name, times, who })
+}
+
+impl Single {
+    pub fn run(&self) {
+        match self.name.as_str() {
+            "sparse-shuffled" => self.plan(Kind::Sparse, Order::Shuffled),
+            "dense-shuffled" => self.plan(Kind::Dense, Order::Shuffled),
+            "runs511-shuffled" => self.plan(Kind::Islands, Order::Shuffled),
+            "runs511-ordered" => self.plan(Kind::Islands, Order::Station),
+            "quantity-511" => self.quantity(),
+            _ => self.lookup(),
+        }
+    }
+
+    fn plan(&self, kind: Kind, order: Order) {
+        let job = jobs::job(kind, order, 256);
+        let mut out = vec![0; 8_192];
+        for _ in 0..self.times {
+            black_box(match self.who {
+                Who::Engine => engine::plan(black_box(&job), 0, &mut out),
+                Who::Reference => reply(reference::plan(black_box(&job), 0, &mut out)),
+            });
+        }
+    }
+
+    /// The whole road in one lot.
+    fn quantity(&self) {
+        let schedule = schedule_511();
+        for _ in 0..self.times {
+            let schedule = black_box(&schedule);
+            black_box(match self.who {
+                Who::Engine => engine::quantity(schedule, 3, 0, ROAD_END),
+                Who::Reference => reply(reference::quantity(schedule, 3, 0, ROAD_END)),
+            });
+        }
+    }
+
+    /// A station in the middle run.
+    fn lookup(&self) {
+        let schedule = schedule_511();
+        let station = jobs::runs(&schedule)[255].stretch.start;
+        for _ in 0..self.times {
+            let schedule = black_box(&schedule);
+            black_box(match self.who {
+                Who::Engine => engine::lookup(schedule, &[0], 0, station),
+                Who::Reference => record(reference::lookup(schedule, &[0], 0, station)),
+            });
+        }
+    }
+}
+
+fn schedule_511() -> Vec<u8> {
+    jobs::schedule(&jobs::job(Kind::Islands, Order::Station, 256))
+}

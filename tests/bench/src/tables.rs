@@ -1,0 +1,228 @@
+//! The tables in Markdown.
+
+use std::hint::black_box;
+use std::process::ExitCode;
+
+use cases::calls::{record, reply};
+
+use crate::jobs::{self, Kind, Order, ROAD_END};
+use crate::time::{self, Pair, Times};
+
+const COUNTS: [u64; 6] = [1, 8, 32, 64, 128, 256];
+
+/// The time of planning one job.
+struct Planned {
+    kind: Kind,
+    order: Order,
+    hazards: u64,
+    runs: usize,
+    times: Times,
+}
+
+pub fn print() -> ExitCode {
+    if !agree() {
+        println!("The engine and the reference differ; nothing was measured.");
+        return ExitCode::FAILURE;
+    }
+    let planned: Vec<Planned> = groups().into_iter().flat_map(measure_plan).collect();
+    print_plan(&planned);
+    print_growth(&planned);
+    print_quantity();
+    print_lookup();
+    ExitCode::SUCCESS
+}
+
+/// Jobs of one kind and order with several numbers of hazards.
+struct Group {
+    kind: Kind,
+    order: Order,
+    counts: Vec<u64>,
+}
+
+fn groups() -> Vec<Group> {
+    let mut list = Vec::new();
+    for kind in [Kind::Sparse, Kind::Dense, Kind::Islands] {
+        for order in [Order::Station, Order::Shuffled] {
+            let counts = match kind {
+                Kind::Islands => vec![256],
+                _ => COUNTS.to_vec(),
+            };
+            list.push(Group {
+                kind,
+                order,
+                counts,
+            });
+        }
+    }
+    list
+}
+
+impl Group {
+    fn jobs(&self) -> Vec<Vec<u8>> {
+        let job = |count: &u64| jobs::job(self.kind, self.order, *count);
+        self.counts.iter().map(job).collect()
+    }
+}
+
+/// Whether both plan the same bytes for every job that is measured.
+fn agree() -> bool {
+    groups().iter().flat_map(Group::jobs).all(|job| {
+        let mut ours = vec![0; 8_192];
+        let mut theirs = vec![0; 8_192];
+        let expected = reply(reference::plan(&job, 0, &mut ours));
+        engine::plan(&job, 0, &mut theirs) == expected && ours == theirs
+    })
+}
+
+/// The numbers of hazards are measured together, for the growth between them.
+fn measure_plan(group: Group) -> Vec<Planned> {
+    let jobs = group.jobs();
+    let times = time::together(jobs.iter().map(|job| plan_pair(job)).collect());
+    let row = |((hazards, job), times): ((&u64, &Vec<u8>), Times)| Planned {
+        kind: group.kind,
+        order: group.order,
+        hazards: *hazards,
+        runs: jobs::runs(&jobs::schedule(job)).len(),
+        times,
+    };
+    group.counts.iter().zip(&jobs).zip(times).map(row).collect()
+}
+
+fn plan_pair(job: &[u8]) -> Pair<'_> {
+    let mut engine_out = vec![0; 8_192];
+    let mut reference_out = vec![0; 8_192];
+    Pair {
+        engine: Box::new(move || {
+            black_box(engine::plan(black_box(job), 0, &mut engine_out));
+        }),
+        reference: Box::new(move || {
+            let _ = black_box(reference::plan(black_box(job), 0, &mut reference_out));
+        }),
+    }
+}
+
+fn print_plan(planned: &[Planned]) {
+    println!("Plan, ns per call:\n");
+    println!("| job | order | hazards | runs | engine | reference | engine/reference |");
+    println!("|---|---|---:|---:|---:|---:|---:|");
+    for row in planned {
+        println!(
+            "| {} | {} | {} | {} | {} |",
+            row.kind.name(),
+            row.order.name(),
+            row.hazards,
+            row.runs,
+            columns(&row.times)
+        );
+    }
+}
+
+fn columns(times: &Times) -> String {
+    let Times { engine, reference } = times;
+    format!("{engine:.0} | {reference:.0} | {:.2}", times.ratio())
+}
+
+/// How many times longer four times as many hazards take.
+fn print_growth(planned: &[Planned]) {
+    println!("\nGrowth of plan from 64 to 256 hazards:\n");
+    println!("| job | order | engine | reference |");
+    println!("|---|---|---:|---:|");
+    let with = |row: &Planned, hazards| {
+        let same = |other: &&Planned| {
+            other.kind == row.kind && other.order == row.order && other.hazards == hazards
+        };
+        planned.iter().find(same)
+    };
+    for few in planned.iter().filter(|row| row.hazards == 64) {
+        if let Some(many) = with(few, 256) {
+            let engine = many.times.engine / few.times.engine;
+            let reference = many.times.reference / few.times.reference;
+            let (kind, order) = (few.kind.name(), few.order.name());
+            println!("| {kind} | {order} | {engine:.2} | {reference:.2} |");
+        }
+    }
+}
+
+fn print_quantity() {
+    println!("\nQuantity, ns per call, the road in one lot or in 64:\n");
+    println!("| schedule of | runs | lots | engine | reference | engine/reference |");
+    println!("|---|---:|---:|---:|---:|---:|");
+    for (kind, hazards) in schedules() {
+        let schedule = jobs::schedule(&jobs::job(kind, Order::Station, hazards));
+        let runs = jobs::runs(&schedule);
+        let end = runs.last().map_or(ROAD_END, |run| run.stretch.end);
+        for lots in [1, 64] {
+            let times = measure_quantity(&schedule, end, lots);
+            let name = kind.name();
+            println!("| {name} | {} | {lots} | {} |", runs.len(), columns(&times));
+        }
+    }
+}
+
+fn schedules() -> [(Kind, u64); 4] {
+    [
+        (Kind::Sparse, 1),
+        (Kind::Sparse, 256),
+        (Kind::Dense, 256),
+        (Kind::Islands, 256),
+    ]
+}
+
+/// The mean over the calls of all lots.
+fn measure_quantity(schedule: &[u8], end: u64, lots: u64) -> Times {
+    let stations: Vec<u64> = (0..=lots).map(|lot| end * lot / lots).collect();
+    let each_lot = |call: &dyn Fn(u64, u64) -> u64| {
+        let sum: u64 = stations.windows(2).map(|lot| call(lot[0], lot[1])).sum();
+        black_box(sum);
+    };
+    let engine = |p, q| engine::quantity(black_box(schedule), 3, p, q).value;
+    let reference = |p, q| reference::quantity(black_box(schedule), 3, p, q).unwrap_or(0);
+    let pair = Pair {
+        engine: Box::new(|| each_lot(&engine)),
+        reference: Box::new(|| each_lot(&reference)),
+    };
+    let times = pair.times();
+    Times {
+        engine: times.engine / lots as f64,
+        reference: times.reference / lots as f64,
+    }
+}
+
+fn print_lookup() {
+    println!("\nLookup, ns per call:\n");
+    println!("| schedule of | runs | station in | engine | reference | engine/reference |");
+    println!("|---|---:|---|---:|---:|---:|");
+    for (kind, hazards) in schedules() {
+        let schedule = jobs::schedule(&jobs::job(kind, Order::Station, hazards));
+        let runs = jobs::runs(&schedule);
+        let places = [
+            ("the first run", runs[0].stretch.start),
+            ("the middle run", runs[runs.len() / 2].stretch.start),
+            ("the last run", runs[runs.len() - 1].stretch.start),
+            ("no run", u64::MAX),
+        ];
+        for (place, station) in places {
+            let times = measure_lookup(&schedule, station);
+            let name = kind.name();
+            println!(
+                "| {name} | {} | {place} | {} |",
+                runs.len(),
+                columns(&times)
+            );
+        }
+    }
+}
+
+fn measure_lookup(schedule: &[u8], station: u64) -> Times {
+    let left = [0];
+    let pair = Pair {
+        engine: Box::new(|| {
+            black_box(engine::lookup(black_box(schedule), &left, 0, station));
+        }),
+        reference: Box::new(|| {
+            let found = reference::lookup(black_box(schedule), &left, 0, station);
+            black_box(record(found));
+        }),
+    };
+    pair.times()
+}

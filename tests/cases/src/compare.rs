@@ -1,0 +1,340 @@
+//! The comparison of one call with the reference: the reply, and every byte of
+//! lent memory afterwards.
+
+use std::fmt;
+use std::ops::Range;
+
+use crate::calls::{self, Calls, Record, Reply};
+use crate::hex;
+use crate::tally::Tally;
+
+/// Guard bytes on each side of a lent output.
+const GUARD: usize = 24;
+
+/// The inputs of one call. `fill` chooses the bytes that the output contains
+/// before the call.
+#[derive(Clone, Debug)]
+pub enum Case {
+    Plan {
+        job: Vec<u8>,
+        side: u64,
+        out_length: usize,
+        fill: u64,
+    },
+    Quantity {
+        schedule: Vec<u8>,
+        level: u64,
+        p: u64,
+        q: u64,
+    },
+    Lookup {
+        right: Vec<u8>,
+        left: Vec<u8>,
+        side: u64,
+        station: u64,
+    },
+}
+
+/// A case as the options that make the test try it alone.
+impl fmt::Display for Case {
+    fn fmt(&self, f: &mut fmt::Formatter) -> fmt::Result {
+        match self {
+            Case::Plan {
+                job,
+                side,
+                out_length,
+                fill,
+            } => write!(f, "--plan {} {side} {out_length} {fill}", hex::write(job)),
+            Case::Quantity {
+                schedule,
+                level,
+                p,
+                q,
+            } => write!(f, "--quantity {} {level} {p} {q}", hex::write(schedule)),
+            Case::Lookup {
+                right,
+                left,
+                side,
+                station,
+            } => {
+                let (right, left) = (hex::write(right), hex::write(left));
+                write!(f, "--lookup {right} {left} {side} {station}")
+            }
+        }
+    }
+}
+
+/// A case in which the calls and the reference differ.
+#[derive(Debug)]
+pub struct Difference {
+    /// The seed of the round.
+    pub seed: u64,
+    pub family: &'static str,
+    /// How many cases were made, this one included.
+    pub cases: u64,
+    pub case: Case,
+    pub what: String,
+    pub reference: String,
+    pub engine: String,
+}
+
+impl fmt::Display for Difference {
+    fn fmt(&self, f: &mut fmt::Formatter) -> fmt::Result {
+        let (cases, family, seed) = (self.cases, self.family, self.seed);
+        writeln!(f, "case {cases}, family '{family}', seed {seed}")?;
+        writeln!(f, "  {}", self.case)?;
+        writeln!(f, "  differs: {}", self.what)?;
+        writeln!(f, "  reference: {}", self.reference)?;
+        write!(f, "  engine:    {}", self.engine)
+    }
+}
+
+/// Makes each call twice, once of the engine and once of the reference.
+pub struct Checker {
+    calls: Calls,
+    pub tally: Tally,
+    /// The seed of the round, for the report of a difference.
+    seed: u64,
+    /// Changes from case to case, so that no written byte can equal the byte
+    /// that was there before in all of them.
+    fill: u64,
+    /// Prints each case before it is made, to find one that does not return.
+    pub trace: bool,
+}
+
+impl Checker {
+    pub fn new(calls: Calls) -> Checker {
+        Checker {
+            calls,
+            tally: Tally::default(),
+            seed: 0,
+            fill: 0,
+            trace: false,
+        }
+    }
+
+    fn trace(&self, case: impl Fn() -> Case) {
+        if self.trace {
+            eprintln!("{}", case());
+        }
+    }
+
+    /// The bytes of the outputs, too, follow from the seed of the round.
+    pub fn begin_round(&mut self, seed: u64) {
+        self.seed = seed;
+        self.fill = seed << 32;
+    }
+
+    pub fn begin_family(&mut self, name: &'static str) {
+        self.tally.begin_family(name);
+    }
+
+    /// Tries plan with one length of output.
+    pub fn plan(
+        &mut self,
+        job: &[u8],
+        side: u64,
+        out_length: usize,
+    ) -> Result<Reply, Box<Difference>> {
+        self.fill += 1;
+        self.plan_filled(job, side, out_length, self.fill)
+    }
+
+    pub fn plan_filled(
+        &mut self,
+        job: &[u8],
+        side: u64,
+        out_length: usize,
+        fill: u64,
+    ) -> Result<Reply, Box<Difference>> {
+        let case = || Case::Plan {
+            job: job.to_vec(),
+            side,
+            out_length,
+            fill,
+        };
+        self.trace(case);
+        let lent = GUARD..GUARD + out_length;
+        let mut lent_job = job.to_vec();
+        let mut room = filled_room(out_length, fill);
+        let mut expected_room = room.clone();
+        let output = &mut expected_room[lent.clone()];
+        let expected = calls::reply(reference::plan(job, side, output));
+        let got = (self.calls.plan)(&mut lent_job, side, &mut room, lent.clone());
+        self.tally.count(expected.number);
+
+        let mut what = Vec::new();
+        note_reply(&mut what, expected != got);
+        note_input(&mut what, "job", job, &lent_job);
+        note_room(&mut what, &expected_room, &room, &lent);
+        if what.is_empty() {
+            return Ok(expected);
+        }
+        let reference = reply_and_output(expected, &expected_room[lent.clone()]);
+        let engine = reply_and_output(got, &room[lent]);
+        Err(self.difference(case(), what, reference, engine))
+    }
+
+    pub fn quantity(
+        &mut self,
+        schedule: &[u8],
+        level: u64,
+        p: u64,
+        q: u64,
+    ) -> Result<Reply, Box<Difference>> {
+        let case = || Case::Quantity {
+            schedule: schedule.to_vec(),
+            level,
+            p,
+            q,
+        };
+        self.trace(case);
+        let mut lent = schedule.to_vec();
+        let expected = calls::reply(reference::quantity(schedule, level, p, q));
+        let got = (self.calls.quantity)(&mut lent, level, p, q);
+        self.tally.count(expected.number);
+
+        let mut what = Vec::new();
+        note_reply(&mut what, expected != got);
+        note_input(&mut what, "schedule", schedule, &lent);
+        if what.is_empty() {
+            return Ok(got);
+        }
+        Err(self.difference(case(), what, reply_text(expected), reply_text(got)))
+    }
+
+    pub fn lookup(
+        &mut self,
+        right: &[u8],
+        left: &[u8],
+        side: u64,
+        station: u64,
+    ) -> Result<Record, Box<Difference>> {
+        let case = || Case::Lookup {
+            right: right.to_vec(),
+            left: left.to_vec(),
+            side,
+            station,
+        };
+        self.trace(case);
+        let mut lent_right = right.to_vec();
+        let mut lent_left = left.to_vec();
+        let expected = calls::record(reference::lookup(right, left, side, station));
+        let got = (self.calls.lookup)(&mut lent_right, &mut lent_left, side, station);
+        self.tally.count(expected.number);
+
+        let mut what = Vec::new();
+        note_reply(&mut what, expected != got);
+        note_input(&mut what, "right schedule", right, &lent_right);
+        note_input(&mut what, "left schedule", left, &lent_left);
+        if what.is_empty() {
+            return Ok(got);
+        }
+        Err(self.difference(case(), what, record_text(expected), record_text(got)))
+    }
+
+    /// Tries one case alone.
+    pub fn case(&mut self, case: &Case) -> Result<(), Box<Difference>> {
+        match case {
+            Case::Plan {
+                job,
+                side,
+                out_length,
+                fill,
+            } => self.plan_filled(job, *side, *out_length, *fill).map(|_| ()),
+            Case::Quantity {
+                schedule,
+                level,
+                p,
+                q,
+            } => self.quantity(schedule, *level, *p, *q).map(|_| ()),
+            Case::Lookup {
+                right,
+                left,
+                side,
+                station,
+            } => self.lookup(right, left, *side, *station).map(|_| ()),
+        }
+    }
+
+    /// The lots of a list, added up, have to give the reference's count. The
+    /// case named is the first lot; the whole list is in the words.
+    pub fn sum_differs(
+        &self,
+        case: Case,
+        list: &[u64],
+        expected: u64,
+        got: u64,
+    ) -> Box<Difference> {
+        let what = vec![format!("sum over the lots of {list:?}")];
+        self.difference(case, what, expected.to_string(), got.to_string())
+    }
+
+    fn difference(
+        &self,
+        case: Case,
+        what: Vec<String>,
+        reference: String,
+        engine: String,
+    ) -> Box<Difference> {
+        Box::new(Difference {
+            seed: self.seed,
+            family: self.tally.family(),
+            cases: self.tally.cases(),
+            case,
+            what: what.join(", "),
+            reference,
+            engine,
+        })
+    }
+}
+
+/// An output between its guard bytes, filled with bytes of no meaning.
+fn filled_room(out_length: usize, fill: u64) -> Vec<u8> {
+    let start = fill.wrapping_mul(0x9E37_79B9_7F4A_7C15) >> 32;
+    let length = out_length + 2 * GUARD;
+    (0..length as u64)
+        .map(|index| (start.wrapping_add(index * 101) ^ (start >> 8)) as u8)
+        .collect()
+}
+
+fn note_reply(what: &mut Vec<String>, differs: bool) {
+    if differs {
+        what.push("the reply".to_string());
+    }
+}
+
+fn note_input(what: &mut Vec<String>, name: &str, before: &[u8], after: &[u8]) {
+    if before != after {
+        what.push(format!("the {name}'s bytes were changed"));
+    }
+}
+
+fn note_room(what: &mut Vec<String>, expected: &[u8], got: &[u8], lent: &Range<usize>) {
+    let differing = expected.iter().zip(got).position(|(e, g)| e != g);
+    if let Some(at) = differing {
+        what.push(if lent.contains(&at) {
+            format!("output byte {}", at - lent.start)
+        } else {
+            format!(
+                "guard byte {} from the output's start",
+                at as i64 - lent.start as i64
+            )
+        });
+    }
+}
+
+fn reply_text(reply: Reply) -> String {
+    format!("number {} value {}", reply.number, reply.value)
+}
+
+fn reply_and_output(reply: Reply, output: &[u8]) -> String {
+    format!("{}, output {}", reply_text(reply), hex::write(output))
+}
+
+fn record_text(record: Record) -> String {
+    format!(
+        "number {} found {} start {} end {}",
+        record.number, record.found, record.start, record.end
+    )
+}

@@ -1,0 +1,109 @@
+//! Jobs as lists of numbers, before they are bytes.
+
+use reference::number;
+
+/// Places in the header, from 0 (the paper counts from 1).
+pub const KIND: usize = 0;
+pub const A: usize = 1;
+pub const B: usize = 2;
+pub const LF: usize = 3;
+pub const LO: usize = 4;
+pub const C: usize = 5;
+pub const W: usize = 6;
+pub const M: usize = 7;
+pub const D: usize = 8;
+pub const FLARE_A: usize = 9;
+pub const FLARE_B: usize = 10;
+pub const T: usize = 11;
+pub const G: usize = 12;
+
+/// Header numbers with the hazard count.
+pub const HEADER: usize = 14;
+
+/// Places in a hazard.
+pub const SIDE: usize = 0;
+pub const S: usize = 1;
+pub const E: usize = 2;
+pub const N: usize = 3;
+pub const F: usize = 4;
+pub const LEVEL: usize = 5;
+
+/// Numbers of a hazard.
+pub const FIELDS: usize = 6;
+
+/// The job on paper.
+pub const PRINTED: Draft = Draft {
+    header: [
+        1, 0, 1_000_000, 101_000, 0, 9_000, 0, 3_000, 1_000, 15, 1, 13_340, 0,
+    ],
+    hazards: Vec::new(),
+};
+
+/// The hazard of the job on paper.
+pub const PRINTED_HAZARD: [u64; FIELDS] = [0, 200_000, 210_000, 5_000, 9_000, 3];
+
+/// The numbers of a job; the hazard count is that of the list.
+#[derive(Clone, Debug)]
+pub struct Draft {
+    pub header: [u64; 13],
+    pub hazards: Vec<[u64; FIELDS]>,
+}
+
+impl Draft {
+    pub fn with(mut self, place: usize, value: u64) -> Draft {
+        self.header[place] = value;
+        self
+    }
+
+    pub fn with_hazards(mut self, hazards: &[[u64; FIELDS]]) -> Draft {
+        self.hazards = hazards.to_vec();
+        self
+    }
+
+    pub fn numbers(&self) -> Vec<u64> {
+        let mut numbers = self.header.to_vec();
+        numbers.push(self.hazards.len() as u64);
+        numbers.extend(self.hazards.iter().flatten());
+        numbers
+    }
+
+    pub fn bytes(&self) -> Vec<u8> {
+        number_bytes(&self.numbers())
+    }
+}
+
+pub fn number_bytes(numbers: &[u64]) -> Vec<u8> {
+    let mut bytes = Vec::new();
+    for value in numbers {
+        number::write(*value, &mut bytes);
+    }
+    bytes
+}
+
+/// The range of the number at a place, which may hang on numbers before it.
+pub fn range(numbers: &[u64], place: usize) -> (u64, u64) {
+    const LAST: u64 = 2_000_000_000;
+    match place {
+        KIND => (1, 1),
+        A => (0, LAST - 1),
+        B => (numbers[A] + 1, LAST),
+        LF => (1, 200_000),
+        LO => (0, 200_000),
+        C => (1, 30_000),
+        W | M => (0, 20_000),
+        D => (1, 5_000),
+        FLARE_A => (1, 100),
+        FLARE_B => (0, 10),
+        T => (0, 100_000),
+        G => (0, 200_000),
+        13 => (0, 256),
+        _ => match (place - HEADER) % FIELDS {
+            SIDE => (0, 1),
+            S => (numbers[A], numbers[B] - 1),
+            E => (numbers[place - 1] + 1, numbers[B]),
+            N => (0, 60_000),
+            F => (numbers[place - 1], 60_000),
+            _ => (1, 6),
+        },
+    }
+}

@@ -1,0 +1,745 @@
+//! The families of cases. Each makes its share of one round.
+
+use reference::calls::required;
+use reference::level::{Required, Run};
+use reference::{Stretch, schedule};
+
+use crate::compare::{Case, Checker, Difference};
+use crate::draft::{
+    B, C, Draft, FIELDS, FLARE_B, G, LF, LO, M, N, PRINTED, PRINTED_HAZARD, S, SIDE, T, W,
+    number_bytes, range,
+};
+use crate::faults::{Broken, FAULTS, wrong_forms};
+use crate::jobs;
+use crate::random::Random;
+
+type Outcome = Result<(), Box<Difference>>;
+
+pub struct Family {
+    pub name: &'static str,
+    pub run: fn(&mut Checker, &mut Random) -> Outcome,
+}
+
+/// The short families stand first.
+pub const ALL: &[Family] = &[
+    family("the paper's own cases", paper),
+    family("ends of every range", range_ends),
+    family("every refusal in every place", every_place),
+    family("two faults at once", two_faults),
+    family("jobs cut at every byte", cut_jobs),
+    family("schedules cut at every byte", cut_schedules),
+    family("quantities over rising lists", rising_lists),
+    family("lookups at every run's ends", run_ends),
+    family("run lists and nearly run lists", run_lists),
+    family("jobs of 511 runs", most_runs),
+    family("large random jobs", large_jobs),
+    family("wide random jobs", wide_jobs),
+    family("small random jobs", small_jobs),
+    family("jobs with one byte changed", changed_jobs),
+    family("schedules with one byte changed", changed_schedules),
+];
+
+const fn family(name: &'static str, run: fn(&mut Checker, &mut Random) -> Outcome) -> Family {
+    Family { name, run }
+}
+
+/// An output long enough for every schedule.
+const ENOUGH: usize = 8_192;
+
+/// The planned schedule, if the job is accepted.
+fn planned(job: &[u8], side: u64) -> Option<Vec<u8>> {
+    let mut out = vec![0; ENOUGH];
+    let written = reference::plan(job, side, &mut out).ok()?;
+    out.truncate(written as usize);
+    Some(out)
+}
+
+fn needed(job: &[u8], side: u64) -> usize {
+    planned(job, side).map_or(0, |schedule| schedule.len())
+}
+
+/// Exactly enough, one too short, longer, none.
+fn plan_all_lengths(checker: &mut Checker, job: &[u8], side: u64) -> Outcome {
+    let needed = needed(job, side);
+    for length in [needed, needed.saturating_sub(1), needed + 1, needed + 33, 0] {
+        checker.plan(job, side, length)?;
+    }
+    Ok(())
+}
+
+/// One length of output, exactly enough more often than others.
+fn plan_one_length(checker: &mut Checker, random: &mut Random, job: &[u8], side: u64) -> Outcome {
+    let needed = needed(job, side);
+    let length = match random.below(8) {
+        0 => 0,
+        1 => needed.saturating_sub(1),
+        2 => random.index(needed + 1),
+        3 => needed + 1,
+        4 => needed + random.index(60),
+        _ => needed,
+    };
+    checker.plan(job, side, length)?;
+    Ok(())
+}
+
+fn plan_both_sides(checker: &mut Checker, random: &mut Random, job: &[u8]) -> Outcome {
+    for side in 0..2 {
+        plan_one_length(checker, random, job, side)?;
+    }
+    Ok(())
+}
+
+/// A small or wide job that is accepted and has some hazards.
+fn accepted(random: &mut Random, least: usize, most: usize) -> Draft {
+    loop {
+        let mut draft = if random.percent(60) {
+            jobs::small(random)
+        } else {
+            jobs::wide(random)
+        };
+        draft.hazards.truncate(most);
+        let enough = draft.hazards.len() >= least;
+        if enough && planned(&draft.bytes(), 0).is_some() {
+            return draft;
+        }
+    }
+}
+
+/// The planned schedules, right and left, of a random accepted job.
+fn schedules(random: &mut Random, least: usize, most: usize) -> (Vec<u8>, Vec<u8>) {
+    let job = accepted(random, least, most).bytes();
+    let side = |side| planned(&job, side).unwrap_or_default();
+    (side(0), side(1))
+}
+
+// The paper's own cases.
+
+fn printed() -> Draft {
+    PRINTED.with_hazards(&[PRINTED_HAZARD])
+}
+
+fn printed_with_hazard(place: usize, value: u64) -> Draft {
+    change_hazard(printed(), place, value)
+}
+
+fn change_hazard(mut draft: Draft, place: usize, value: u64) -> Draft {
+    draft.hazards[0][place] = value;
+    draft
+}
+
+/// K1 to K10 with both halves, and each on the left side too.
+fn paper_jobs() -> Vec<Draft> {
+    let k2 = printed().with(FLARE_B, 0);
+    let k4 = k2.clone().with(LO, 101_000).with(W, 3_500);
+    let mut list = vec![
+        printed(),
+        k2.clone(),
+        k2.clone().with(LF, 88_000).with(C, 8_500).with(M, 2_000),
+        k4.clone(),
+        change_hazard(k4.clone(), N, 5_499),
+        change_hazard(k4.clone(), N, 5_500),
+        printed_with_hazard(N, 8_999),
+        printed_with_hazard(N, 9_000),
+        printed_with_hazard(N, 4_000),
+        printed_with_hazard(N, 3_999),
+        change_hazard(k2.clone(), S, 67_334),
+        change_hazard(k2.clone(), S, 67_333),
+        k4.clone().with(B, 238_056),
+        k4.with(B, 238_055),
+        k9(49_999),
+        k9(50_000),
+        k10(50),
+        k10(40),
+        worked_example_3(),
+        PRINTED,
+    ];
+    let left: Vec<Draft> = list.iter().map(on_the_left).collect();
+    list.extend(left);
+    list
+}
+
+fn on_the_left(draft: &Draft) -> Draft {
+    let mut draft = draft.clone();
+    for hazard in &mut draft.hazards {
+        hazard[SIDE] = 1;
+    }
+    draft
+}
+
+fn k9(apart: u64) -> Draft {
+    let second = 210_000 + apart + 44_227;
+    PRINTED.with(G, 50_000).with_hazards(&[
+        [0, 200_000, 210_000, 5_000, 9_000, 2],
+        [0, second, second + 1_000, 5_000, 9_000, 2],
+    ])
+}
+
+/// A runout length of 1 without a flare makes each approach length 1.
+fn k10(continuity: u64) -> Draft {
+    let short = PRINTED.with(FLARE_B, 0).with(LF, 1);
+    short
+        .with(G, continuity)
+        .with_hazards(&[[0, 1, 100, 5_000, 9_000, 3], [0, 141, 200, 5_000, 9_000, 1]])
+}
+
+/// Document 004's third example, with the straight length of its data.
+fn worked_example_3() -> Draft {
+    let header = [
+        1, 0, 1_000_000, 46_000, 0, 5_000, 0, 1_800, 1_000, 21, 1, 7_600, 0,
+    ];
+    Draft {
+        header,
+        hazards: vec![[0, 200_000, 201_000, 3_000, 4_600, 4]],
+    }
+}
+
+fn paper(checker: &mut Checker, random: &mut Random) -> Outcome {
+    for draft in paper_jobs() {
+        let job = draft.bytes();
+        for side in 0..2 {
+            plan_all_lengths(checker, &job, side)?;
+        }
+        checker.plan(&job, random.pick(&[2, 3, u64::MAX]), 20)?;
+    }
+    Ok(())
+}
+
+// Single faults.
+
+/// Each number of a job set to each end of its range and one beyond.
+fn range_ends(checker: &mut Checker, random: &mut Random) -> Outcome {
+    for _ in 0..3 {
+        let numbers = accepted(random, 1, 3).numbers();
+        for place in 0..numbers.len() {
+            for value in around(range(&numbers, place)) {
+                let mut changed = numbers.clone();
+                changed[place] = value;
+                let job = number_bytes(&changed);
+                plan_one_length(checker, random, &job, 0)?;
+                plan_one_length(checker, random, &job, 1)?;
+            }
+        }
+    }
+    full_ranges(checker, random)
+}
+
+fn around((low, high): (u64, u64)) -> Vec<u64> {
+    let mut list = vec![low, low + 1, high, high + 1, 0, 4_294_967_295];
+    list.extend(low.checked_sub(1));
+    list.extend(high.checked_sub(1));
+    list
+}
+
+/// All header numbers at once at ends of their ranges.
+fn full_ranges(checker: &mut Checker, random: &mut Random) -> Outcome {
+    for _ in 0..200 {
+        let mut numbers = PRINTED.numbers();
+        for place in 0..numbers.len() - 1 {
+            let (low, high) = range(&numbers, place);
+            numbers[place] = if random.percent(50) { low } else { high };
+        }
+        let last = numbers.len() - 1;
+        numbers[last] = 1;
+        for _ in 0..FIELDS {
+            numbers.push(0);
+            let place = numbers.len() - 1;
+            let (low, high) = range(&numbers, place);
+            numbers[place] = random.pick(&[low, high, (low + high) / 2]);
+        }
+        plan_both_sides(checker, random, &number_bytes(&numbers))?;
+    }
+    Ok(())
+}
+
+/// For every number of a job: the bytes end before and inside it, it has a
+/// wrong form (with and without bytes behind it), it is out of range. Then
+/// bytes left over, and each hazard too near and off the road.
+fn every_place(checker: &mut Checker, random: &mut Random) -> Outcome {
+    let draft = accepted(random, 1, 4);
+    let numbers = draft.numbers();
+    for place in 0..numbers.len() {
+        let before = number_bytes(&numbers[..place]);
+        let behind = number_bytes(&numbers[place + 1..]);
+        for form in wrong_forms(numbers[place]) {
+            let cut = [&before[..], &form].concat();
+            plan_one_length(checker, random, &cut, 0)?;
+            let whole = [&cut[..], &behind].concat();
+            plan_one_length(checker, random, &whole, 1)?;
+            let short = [&before[..], &form[..form.len() - 1]].concat();
+            plan_one_length(checker, random, &short, 0)?;
+        }
+        let (_, high) = range(&numbers, place);
+        let outside = number_bytes(&[high + 1]);
+        let cut = [&before[..], &outside].concat();
+        plan_both_sides(checker, random, &cut)?;
+    }
+    faulty_hazards(checker, random, &draft)?;
+    left_over(checker, random, &draft.bytes())
+}
+
+fn faulty_hazards(checker: &mut Checker, random: &mut Random, draft: &Draft) -> Outcome {
+    for hazard in 0..draft.hazards.len() {
+        for (near, off) in [(true, false), (false, true), (true, true)] {
+            let mut broken = Broken::new(draft, 0);
+            if near {
+                broken.come_near(hazard);
+            }
+            if off {
+                broken.leave_road(hazard);
+            }
+            plan_both_sides(checker, random, &broken.bytes())?;
+        }
+    }
+    Ok(())
+}
+
+fn left_over(checker: &mut Checker, random: &mut Random, job: &[u8]) -> Outcome {
+    for tail in [&[0x00][..], &[0x80], &[0x01, 0x02], &[0xFF; 9]] {
+        plan_both_sides(checker, random, &[job, tail].concat())?;
+    }
+    let mut long = job.to_vec();
+    long.resize(8_192, random.draw() as u8);
+    plan_both_sides(checker, random, &long)
+}
+
+/// Two or more faults in one job: the order of refusals.
+fn two_faults(checker: &mut Checker, random: &mut Random) -> Outcome {
+    for _ in 0..40 {
+        let draft = accepted(random, 2, 6);
+        for _ in 0..50 {
+            let mut broken = Broken::new(&draft, random.below(2));
+            broken.add(random.pick(&FAULTS), random);
+            broken.add(random.pick(&FAULTS), random);
+            if random.percent(10) {
+                broken.add(random.pick(&FAULTS), random);
+            }
+            plan_broken(checker, random, &broken)?;
+        }
+    }
+    Ok(())
+}
+
+fn plan_broken(checker: &mut Checker, random: &mut Random, broken: &Broken) -> Outcome {
+    let job = broken.bytes();
+    let needed = needed(&job, broken.side);
+    let length = if broken.short_output {
+        random.index(needed.max(1))
+    } else {
+        needed + random.index(3)
+    };
+    checker.plan(&job, broken.side, length)?;
+    Ok(())
+}
+
+// Random jobs.
+
+fn small_jobs(checker: &mut Checker, random: &mut Random) -> Outcome {
+    for _ in 0..6_000 {
+        let job = jobs::small(random).bytes();
+        plan_both_sides(checker, random, &job)?;
+    }
+    Ok(())
+}
+
+fn wide_jobs(checker: &mut Checker, random: &mut Random) -> Outcome {
+    for _ in 0..2_000 {
+        let job = jobs::wide(random).bytes();
+        plan_both_sides(checker, random, &job)?;
+    }
+    Ok(())
+}
+
+fn large_jobs(checker: &mut Checker, random: &mut Random) -> Outcome {
+    for _ in 0..12 {
+        let count = random.pick(&[40, 100, 255, 256, 256]);
+        for draft in [jobs::dense(random, count), jobs::sparse(random, count)] {
+            plan_both_sides(checker, random, &draft.bytes())?;
+        }
+    }
+    // One hazard more than a job may have.
+    let job = jobs::sparse(random, 257).bytes();
+    plan_both_sides(checker, random, &job)
+}
+
+/// 511 runs in station order and shuffled, at times with a continuity limit
+/// that joins some of them; one lookup for each run's ends.
+fn most_runs(checker: &mut Checker, random: &mut Random) -> Outcome {
+    for side in 0..2 {
+        let mut draft = jobs::islands(random, side, 255);
+        plan_all_lengths(checker, &draft.bytes(), side)?;
+        random.shuffle(&mut draft.hazards);
+        let job = draft.bytes();
+        plan_all_lengths(checker, &job, side)?;
+        let schedule = planned(&job, side).unwrap_or_default();
+        see_runs(checker, &schedule);
+        lookup_run_ends(checker, &schedule, side, random)?;
+        draft.header[G] = random.between(draft.header[G], 200_000);
+        draft.header[T] = random.below(draft.header[T] + 1);
+        plan_both_sides(checker, random, &draft.bytes())?;
+    }
+    Ok(())
+}
+
+fn see_runs(checker: &mut Checker, schedule: &[u8]) {
+    let runs = schedule::read(schedule).map_or(0, |records| records.len());
+    checker.tally.saw_runs(runs as u64);
+}
+
+// Bytes cut and changed.
+
+fn cut_jobs(checker: &mut Checker, random: &mut Random) -> Outcome {
+    for _ in 0..6 {
+        let job = accepted(random, 0, 4).bytes();
+        for length in 0..=job.len() {
+            plan_both_sides(checker, random, &job[..length])?;
+        }
+    }
+    let job = jobs::dense(random, 256).bytes();
+    for _ in 0..40 {
+        let length = random.index(job.len());
+        plan_both_sides(checker, random, &job[..length])?;
+    }
+    Ok(())
+}
+
+/// Every other value of every byte of a job, and some of a large one.
+fn changed_jobs(checker: &mut Checker, random: &mut Random) -> Outcome {
+    let job = accepted(random, 1, 2).bytes();
+    for at in 0..job.len() {
+        for other in 1..=255u8 {
+            let mut changed = job.clone();
+            changed[at] ^= other;
+            let side = random.below(2);
+            plan_one_length(checker, random, &changed, side)?;
+        }
+    }
+    let job = jobs::sparse(random, 100).bytes();
+    for _ in 0..60 {
+        let mut changed = job.clone();
+        let at = random.index(changed.len());
+        changed[at] ^= random.between(1, 255) as u8;
+        plan_one_length(checker, random, &changed, 0)?;
+    }
+    Ok(())
+}
+
+/// Quantity and lookup of bytes that may be a schedule or not.
+fn ask(checker: &mut Checker, random: &mut Random, schedule: &[u8]) -> Outcome {
+    let level = random.between(1, 6);
+    let p = random.edgy(0, 2_000_000_001);
+    checker.quantity(schedule, level, 0, u64::MAX)?;
+    checker.quantity(schedule, random.between(1, 6), p, random_end(random, p))?;
+    let other = if random.percent(50) { vec![0] } else { vec![1] };
+    checker.lookup(schedule, &other, 0, p)?;
+    checker.lookup(&other, schedule, 1, random.edgy(0, 600))?;
+    Ok(())
+}
+
+fn random_end(random: &mut Random, p: u64) -> u64 {
+    p + random.edgy(0, 2_000_000_001)
+}
+
+fn cut_schedules(checker: &mut Checker, random: &mut Random) -> Outcome {
+    for _ in 0..12 {
+        let (right, _) = schedules(random, 1, 12);
+        for length in 0..=right.len() {
+            ask(checker, random, &right[..length])?;
+        }
+        for tail in [0x00, 0x01, 0x80, 0xFF] {
+            ask(checker, random, &[&right[..], &[tail]].concat())?;
+        }
+    }
+    Ok(())
+}
+
+/// Every other value of every byte of a schedule.
+fn changed_schedules(checker: &mut Checker, random: &mut Random) -> Outcome {
+    let runs = random_runs(random, 3);
+    let schedule = schedule::writing(&runs);
+    for at in 0..schedule.len() {
+        for other in 1..=255u8 {
+            let mut changed = schedule.clone();
+            changed[at] ^= other;
+            checker.quantity(
+                &changed,
+                random.between(1, 6),
+                0,
+                random.edgy(0, 3_000_000_000),
+            )?;
+            let station = station_near(random, &runs);
+            checker.lookup(&changed, &schedule, 0, station)?;
+        }
+    }
+    Ok(())
+}
+
+// Run lists.
+
+/// Random runs that make a run list.
+fn random_runs(random: &mut Random, count: u64) -> Vec<Run> {
+    let mut runs: Vec<Run> = Vec::new();
+    let longest = 1_900_000_000 / (2 * count.max(1));
+    for _ in 0..count {
+        let previous = runs.last().copied();
+        let end = previous.map_or(0, |run| run.stretch.end);
+        let start = end + random.edgy(0, longest);
+        let mut level = random.between(1, 6);
+        if previous.is_some_and(|run| run.level == level) && start == end {
+            level = level % 6 + 1;
+        }
+        runs.push(Run {
+            stretch: Stretch::new(start, random.edgy(start + 1, start + longest)),
+            level,
+        });
+    }
+    runs
+}
+
+/// The numbers of a writing, so that they can be changed one by one.
+fn schedule_numbers(runs: &[Run]) -> Vec<u64> {
+    let mut numbers = vec![runs.len() as u64];
+    let mut previous_end = 0;
+    for run in runs {
+        numbers.extend([
+            run.stretch.start - previous_end,
+            run.stretch.length(),
+            run.level,
+        ]);
+        previous_end = run.stretch.end;
+    }
+    numbers
+}
+
+/// Stations where something may change: 0, the ends of the runs and one to
+/// each side of them, the greatest.
+fn station_near(random: &mut Random, runs: &[Run]) -> u64 {
+    if runs.is_empty() || random.percent(15) {
+        return random.pick(&[0, 1, 2_000_000_000, u64::MAX - 1, u64::MAX, 1 << 32]);
+    }
+    let stretch = runs[random.index(runs.len())].stretch;
+    let end = random.pick(&[stretch.start, stretch.end]);
+    match random.below(4) {
+        0 => end.saturating_sub(1),
+        1 => end + 1,
+        2 => random.edgy(stretch.start, stretch.end),
+        _ => end,
+    }
+}
+
+fn run_lists(checker: &mut Checker, random: &mut Random) -> Outcome {
+    for _ in 0..60 {
+        let count = random.below(6);
+        let runs = random_runs(random, count);
+        ask(checker, random, &schedule::writing(&runs))?;
+        nearly_run_lists(checker, random, &runs)?;
+    }
+    last_stations(checker, random)?;
+    run_counts(checker, random)
+}
+
+/// One number of a run list changed, or in another form.
+fn nearly_run_lists(checker: &mut Checker, random: &mut Random, runs: &[Run]) -> Outcome {
+    let numbers = schedule_numbers(runs);
+    for place in 0..numbers.len() {
+        let value = numbers[place];
+        let values = [0, 1, 6, 7, 511, 512, 2_000_000_001, 4_294_967_295];
+        for other in [random.pick(&values), value + 1, value.saturating_sub(1)] {
+            let mut changed = numbers.clone();
+            changed[place] = other;
+            ask(checker, random, &number_bytes(&changed))?;
+        }
+        let forms = wrong_forms(value);
+        let form = &forms[random.index(forms.len())];
+        let before = number_bytes(&numbers[..place]);
+        let behind = number_bytes(&numbers[place + 1..]);
+        ask(checker, random, &[&before[..], form, &behind].concat())?;
+    }
+    touching(checker, random, runs)
+}
+
+/// Every run begins where the one before ends, levels at times equal.
+fn touching(checker: &mut Checker, random: &mut Random, runs: &[Run]) -> Outcome {
+    let mut numbers = schedule_numbers(runs);
+    for record in numbers[1..].chunks_mut(3) {
+        record[0] = 0;
+        record[2] = random.between(1, 3);
+    }
+    ask(checker, random, &number_bytes(&numbers))
+}
+
+/// Ends at 2,000,000,000 and one beyond.
+fn last_stations(checker: &mut Checker, random: &mut Random) -> Outcome {
+    for last in [1_999_999_999, 2_000_000_000, 2_000_000_001] {
+        let start = random.edgy(0, 1_999_999_998);
+        let one = number_bytes(&[1, start, last - start, random.between(1, 6)]);
+        ask(checker, random, &one)?;
+        let middle = random.between(1, 1_999_999_997);
+        let two = [2, 0, middle, 1, 0, last - middle, 2];
+        ask(checker, random, &number_bytes(&two))?;
+    }
+    // Sums that 32 bits do not hold.
+    let most = 4_294_967_295;
+    ask(checker, random, &number_bytes(&[1, most, most, 1]))?;
+    ask(checker, random, &number_bytes(&[2, 1, most, 1, 1, 5, 2]))
+}
+
+/// 510 to 513 runs, and counts that are not those of the records.
+fn run_counts(checker: &mut Checker, random: &mut Random) -> Outcome {
+    for count in [510, 511, 512, 513] {
+        let runs = random_runs(random, count);
+        let mut numbers = schedule_numbers(&runs);
+        ask(checker, random, &number_bytes(&numbers))?;
+        for other in [count - 1, count + 1, 511, 512] {
+            numbers[0] = other;
+            ask(checker, random, &number_bytes(&numbers))?;
+        }
+    }
+    Ok(())
+}
+
+// Quantities.
+
+/// The millimetres of [p, q) at which the job requires exactly this level: the
+/// sets lie in each other, so it is a difference of two counts.
+fn count_required(required: &Required, level: u64, p: u64, q: u64) -> u64 {
+    let asked = Stretch::new(p, q);
+    let in_set = |v| -> u64 { required.set(v).iter().map(|s| s.shared(&asked)).sum() };
+    in_set(level) - in_set(level + 1)
+}
+
+/// Each lot compared, and the sum of the lots with the count over the list.
+fn rising_lists(checker: &mut Checker, random: &mut Random) -> Outcome {
+    for _ in 0..120 {
+        let job = accepted(random, 1, 40).bytes();
+        let side = random.below(2);
+        add_up(checker, random, &job, side)?;
+    }
+    let job = jobs::islands(random, 0, 255).bytes();
+    add_up(checker, random, &job, 0)
+}
+
+fn add_up(checker: &mut Checker, random: &mut Random, job: &[u8], side: u64) -> Outcome {
+    let (Some(schedule), Ok(required)) = (planned(job, side), required(job, side)) else {
+        return Ok(());
+    };
+    let runs = required.runs();
+    for _ in 0..2 {
+        let list = rising_list(random, &runs);
+        let level = random.between(1, 6);
+        let mut sum = 0u64;
+        for lot in list.windows(2) {
+            sum = sum.wrapping_add(checker.quantity(&schedule, level, lot[0], lot[1])?.value);
+        }
+        let (first, last) = (list[0], list[list.len() - 1]);
+        let expected = count_required(&required, level, first, last);
+        if sum != expected {
+            let case = Case::Quantity {
+                schedule,
+                level,
+                p: first,
+                q: last,
+            };
+            return Err(checker.sum_differs(case, &list, expected, sum));
+        }
+    }
+    refused_quantities(checker, random, &schedule, &runs)
+}
+
+/// A rising list of one or more stations, equal neighbours allowed.
+fn rising_list(random: &mut Random, runs: &[Run]) -> Vec<u64> {
+    let count = random.between(1, 12);
+    let mut list: Vec<u64> = (0..count).map(|_| station_near(random, runs)).collect();
+    if random.percent(20) {
+        list.push(random.draw());
+    }
+    list.sort();
+    list
+}
+
+/// Levels 0 and above 6, and p > q.
+fn refused_quantities(
+    checker: &mut Checker,
+    random: &mut Random,
+    schedule: &[u8],
+    runs: &[Run],
+) -> Outcome {
+    let p = station_near(random, runs);
+    let q = station_near(random, runs);
+    let level = random.pick(&[0, 7, 8, 255, 256, 257, (1 << 32) + 1, u64::MAX]);
+    checker.quantity(schedule, level, p.min(q), p.max(q))?;
+    checker.quantity(schedule, random.between(1, 6), p, q)?;
+    checker.quantity(schedule, random.between(1, 6), p.saturating_add(1), p)?;
+    let bad = &schedule[..schedule.len() - 1];
+    checker.quantity(bad, level, p, q)?;
+    checker.quantity(bad, 1, p, q)?;
+    Ok(())
+}
+
+// Lookups.
+
+fn run_ends(checker: &mut Checker, random: &mut Random) -> Outcome {
+    for _ in 0..60 {
+        let (right, left) = schedules(random, 1, 30);
+        lookup_both(checker, random, &right, &left)?;
+    }
+    let count = random.between(1, 80);
+    let right = schedule::writing(&random_runs(random, count));
+    let left = schedule::writing(&random_runs(random, 5));
+    lookup_both(checker, random, &right, &left)
+}
+
+fn lookup_both(checker: &mut Checker, random: &mut Random, right: &[u8], left: &[u8]) -> Outcome {
+    for side in 0..2 {
+        let asked = if side == 0 { right } else { left };
+        for station in end_stations(asked) {
+            checker.lookup(right, left, side, station)?;
+        }
+    }
+    let station = random.edgy(0, 1_000);
+    for side in [2, 3, 1 << 32, (1 << 32) + 1, u64::MAX] {
+        checker.lookup(right, left, side, station)?;
+    }
+    with_a_bad_schedule(checker, right, left, station)
+}
+
+/// Only the schedule of the asked side is looked at.
+fn with_a_bad_schedule(checker: &mut Checker, right: &[u8], left: &[u8], station: u64) -> Outcome {
+    for bad in [&[][..], &[0x80, 0x00], &[0x05], &[0x00, 0x00]] {
+        for side in 0..3 {
+            checker.lookup(bad, left, side, station)?;
+            checker.lookup(right, bad, side, station)?;
+        }
+    }
+    Ok(())
+}
+
+/// s - 1, s, e - 1 and e of every run, 0 and the greatest stations.
+fn end_stations(schedule: &[u8]) -> Vec<u64> {
+    let mut list = vec![0, 1, 2_000_000_000, 1 << 32, u64::MAX - 1, u64::MAX];
+    for record in schedule::read(schedule).unwrap_or_default() {
+        let Stretch { start, end } = record.run.stretch;
+        list.extend(start.checked_sub(1));
+        list.extend([start, end - 1, end]);
+        // The same station in 32 bits.
+        list.push(start + (1 << 32));
+    }
+    list
+}
+
+fn lookup_run_ends(
+    checker: &mut Checker,
+    schedule: &[u8],
+    side: u64,
+    random: &mut Random,
+) -> Outcome {
+    let other = schedule::writing(&random_runs(random, 3));
+    let (right, left) = if side == 0 {
+        (schedule, &other[..])
+    } else {
+        (&other[..], schedule)
+    };
+    for station in end_stations(schedule) {
+        checker.lookup(right, left, side, station)?;
+    }
+    Ok(())
+}

@@ -1,0 +1,387 @@
+//! Random jobs, most of them accepted.
+
+use reference::envelope::{self, Envelope};
+use reference::{Stretch, job, level};
+
+use crate::draft::{A, B, C, D, Draft, E, FIELDS, G, LF, LO, M, N, S, SIDE, T, W};
+use crate::random::Random;
+
+/// How great the numbers of a random job are.
+struct World {
+    station: u64,
+    runout: u64,
+    offset: u64,
+    deflection: u64,
+    straight: u64,
+    continuity: u64,
+    hazard_length: u64,
+}
+
+/// Everything is short, so that ends often meet exactly.
+const SMALL: World = World {
+    station: 1_000,
+    runout: 30,
+    offset: 60,
+    deflection: 8,
+    straight: 30,
+    continuity: 40,
+    hazard_length: 25,
+};
+
+/// The whole ranges of the paper.
+const WIDE: World = World {
+    station: 2_000_000_000,
+    runout: 200_000,
+    offset: 30_000,
+    deflection: 5_000,
+    straight: 100_000,
+    continuity: 200_000,
+    hazard_length: 300_000,
+};
+
+pub fn small(random: &mut Random) -> Draft {
+    let count = match random.below(10) {
+        0..=2 => random.below(4),
+        3..=7 => random.below(13),
+        _ => random.below(41),
+    };
+    job_in(&SMALL, random, count)
+}
+
+pub fn wide(random: &mut Random) -> Draft {
+    let count = match random.below(10) {
+        0..=5 => random.below(6),
+        _ => random.below(25),
+    };
+    job_in(&WIDE, random, count)
+}
+
+fn job_in(world: &World, random: &mut Random, count: u64) -> Draft {
+    let mut draft = Draft {
+        header: header(world, random),
+        hazards: Vec::new(),
+    };
+    for _ in 0..count {
+        let hazard = hazard(&draft.header, world, random);
+        draft.hazards.push(hazard);
+    }
+    if random.percent(60) {
+        bring_together(&mut draft, random);
+    }
+    if random.percent(40) {
+        tighten(&mut draft, random);
+    }
+    draft
+}
+
+fn header(world: &World, random: &mut Random) -> [u64; 13] {
+    let begin = match random.below(4) {
+        0 => random.edgy(0, world.station - 1),
+        1 => random.edgy(0, world.station / 5),
+        _ => 0,
+    };
+    let end = match random.below(4) {
+        0 => random.edgy(begin + 1, world.station),
+        _ => random.between(begin + 1 + (world.station - begin) / 2, world.station),
+    };
+    let opposite = if random.percent(60) {
+        random.edgy(1, world.runout)
+    } else {
+        0
+    };
+    let least = if random.percent(90) { 12 } else { 1 };
+    let clear = random.edgy(least, world.offset);
+    let (barrier, deflection) = barrier(world, random, clear);
+    let half = clear / 2;
+    let centreline = if random.percent(70) {
+        random.edgy(0, half.min(20_000))
+    } else {
+        random.edgy(0, world.offset.min(20_000))
+    };
+    let across = if random.percent(60) {
+        random.between(1, 10)
+    } else {
+        0
+    };
+    [
+        1,
+        begin,
+        end,
+        random.edgy(1, world.runout),
+        opposite,
+        clear,
+        centreline,
+        barrier,
+        deflection,
+        random.edgy(1, 100),
+        across,
+        random.edgy(0, world.straight),
+        random.edgy(0, world.continuity),
+    ]
+}
+
+/// M and D, mostly such that a reached hazard can stand behind them.
+fn barrier(world: &World, random: &mut Random, clear: u64) -> (u64, u64) {
+    if random.percent(8) {
+        let barrier = random.edgy(0, world.offset.min(20_000));
+        return (barrier, random.edgy(1, world.deflection));
+    }
+    let barrier = random.edgy(0, (clear.saturating_sub(2) / 2).min(20_000));
+    let room = clear.saturating_sub(barrier + 1) / 2;
+    (barrier, random.edgy(1, room.clamp(1, world.deflection)))
+}
+
+fn hazard(header: &[u64; 13], world: &World, random: &mut Random) -> [u64; FIELDS] {
+    let (start, end) = hazard_stations(header, world, random);
+    let near = near_offset(header, random);
+    let far = near + random.edgy(0, world.offset.min(60_000 - near));
+    let level = if random.percent(50) {
+        random.between(1, 3)
+    } else {
+        random.between(1, 6)
+    };
+    [random.below(2), start, end, near, far, level]
+}
+
+/// No approach length is above the greatest of LF, LO and T, so a hazard that
+/// keeps away from the road's ends by that much stays on it.
+fn margin(header: &[u64; 13]) -> u64 {
+    header[LF].max(header[LO]).max(header[T])
+}
+
+fn hazard_stations(header: &[u64; 13], world: &World, random: &mut Random) -> (u64, u64) {
+    let (begin, end) = (header[A], header[B]);
+    let margin = margin(header);
+    let room = end - begin > 2 * margin;
+    if room && !random.percent(3) {
+        return stations(random, begin + margin, end - margin, world.hazard_length);
+    }
+    stations(random, begin, end, world.hazard_length)
+}
+
+/// A start and an end from `low` to `high`.
+fn stations(random: &mut Random, low: u64, high: u64, longest: u64) -> (u64, u64) {
+    let start = if random.percent(50) {
+        random.between(low, high - 1)
+    } else {
+        random.edgy(low, high - 1)
+    };
+    (start, random.edgy(start + 1, high.min(start + longest)))
+}
+
+/// Mostly behind barrier and deflection and inside the clear zone; at times
+/// at the ends of both reaches.
+fn near_offset(header: &[u64; 13], random: &mut Random) -> u64 {
+    let (clear, half) = (header[C], header[W]);
+    let least = header[M] + header[D];
+    let far_reach = clear.saturating_sub(half);
+    let near = match random.below(40) {
+        0 => least.saturating_sub(random.below(2)),
+        1 => random.edgy(0, 60_000),
+        2..=4 => random.edgy(clear, 60_000),
+        5..=8 => (far_reach + 1).saturating_sub(random.below(3)).max(least),
+        9..=11 => clear.saturating_sub(random.below(2)).max(least),
+        12..=25 => random.edgy(least, far_reach),
+        _ => random.edgy(least, clear.saturating_sub(1)),
+    };
+    near.min(60_000)
+}
+
+/// Moves some hazards so that their envelopes touch another envelope of their
+/// side, or leave a gap of G or next to G.
+fn bring_together(draft: &mut Draft, random: &mut Random) {
+    for _ in 0..random.between(1, 4) {
+        let count = draft.hazards.len();
+        let (first, second) = (random.index(count), random.index(count));
+        if first != second {
+            move_behind(draft, first, second, random);
+        }
+    }
+}
+
+/// Moves the second hazard behind the first's envelope.
+fn move_behind(draft: &mut Draft, first: usize, second: usize, random: &mut Random) -> Option<()> {
+    draft.hazards[second][SIDE] = draft.hazards[first][SIDE];
+    let before = envelope_of(draft, first)?.stretch;
+    let moved = envelope_of(draft, second)?.stretch;
+    let limit = draft.header[G];
+    let gap = random.pick(&[0, 0, 1, limit.saturating_sub(1), limit, limit + 1]);
+    let [_, start, end, ..] = draft.hazards[second];
+    let new_start = before.end + gap + (start - moved.start);
+    let new_end = new_start + (end - start);
+    if new_end + margin(&draft.header) <= draft.header[B] {
+        draft.hazards[second][S] = new_start;
+        draft.hazards[second][E] = new_end;
+    }
+    Some(())
+}
+
+/// The envelope of one hazard that is reached and not refused.
+fn envelope_of(draft: &Draft, index: usize) -> Option<Envelope> {
+    let alone = Draft {
+        header: draft.header,
+        hazards: vec![draft.hazards[index]],
+    };
+    envelopes(&alone)?.first().copied()
+}
+
+/// Sets G to a gap of the job or one more, or the road's ends to the ends of
+/// its envelopes or one inside.
+fn tighten(draft: &mut Draft, random: &mut Random) {
+    let Some(envelopes) = envelopes(draft) else {
+        return;
+    };
+    if random.percent(60) {
+        tighten_continuity(draft, &envelopes, random);
+    }
+    if random.percent(30) {
+        tighten_road(draft, &envelopes, random);
+    }
+}
+
+/// The envelopes of an accepted job.
+fn envelopes(draft: &Draft) -> Option<Vec<Envelope>> {
+    let job = job::read(&draft.bytes()).ok()?;
+    envelope::envelopes(&job).ok()
+}
+
+fn tighten_continuity(draft: &mut Draft, envelopes: &[Envelope], random: &mut Random) {
+    let side = random.below(2);
+    let of_side: Vec<Envelope> = envelopes
+        .iter()
+        .copied()
+        .filter(|e| e.side == side)
+        .collect();
+    let set = level::at_level(&of_side, random.between(1, 3));
+    let lengths: Vec<u64> = level::gaps(&set).iter().map(Stretch::length).collect();
+    if lengths.is_empty() {
+        return;
+    }
+    draft.header[G] = (random.pick(&lengths) + random.below(2)).min(200_000);
+}
+
+fn tighten_road(draft: &mut Draft, envelopes: &[Envelope], random: &mut Random) {
+    let hazard_starts = draft.hazards.iter().map(|h| h[S]);
+    let hazard_ends = draft.hazards.iter().map(|h| h[E]);
+    let starts = envelopes.iter().map(|e| e.stretch.start);
+    let ends = envelopes.iter().map(|e| e.stretch.end);
+    if let Some(first) = starts.chain(hazard_starts).min() {
+        draft.header[A] = first + u64::from(random.percent(20));
+    }
+    if let Some(last) = ends.chain(hazard_ends).max() {
+        draft.header[B] = last - u64::from(random.percent(20));
+    }
+    if draft.header[A] >= draft.header[B] {
+        draft.header[B] = draft.header[A] + 1;
+    }
+}
+
+/// A header for large jobs, with room for every hazard between the reaches.
+fn large_header(random: &mut Random, end: u64) -> [u64; 13] {
+    let two_way = random.percent(50);
+    let opposite = if two_way {
+        random.between(1, 100_000)
+    } else {
+        0
+    };
+    [
+        1,
+        0,
+        end,
+        random.between(1, 100_000),
+        opposite,
+        random.between(8_000, 12_000),
+        random.between(0, 4_000),
+        random.between(0, 3_000),
+        random.between(1, 1_000),
+        random.between(1, 30),
+        random.between(0, 2),
+        random.between(0, 50_000),
+        0,
+    ]
+}
+
+/// Mostly the right side, so that one side has many hazards.
+fn large_hazard(header: &[u64; 13], random: &mut Random, start: u64, end: u64) -> [u64; FIELDS] {
+    let near = random.between(header[M] + header[D], header[C] + 300);
+    let side = u64::from(random.percent(10));
+    let far = near + random.below(5_000);
+    [side, start, end, near, far, random.between(1, 6)]
+}
+
+/// Many hazards whose envelopes overlap, in no order.
+pub fn dense(random: &mut Random, count: u64) -> Draft {
+    let end = random.between(500_000, 20_000_000);
+    let mut draft = Draft {
+        header: large_header(random, end),
+        hazards: Vec::new(),
+    };
+    draft.header[G] = random.edgy(0, 200_000);
+    let margin = margin(&draft.header);
+    for _ in 0..count {
+        let (start, end) = stations(random, margin, end - margin, 60_000);
+        let hazard = large_hazard(&draft.header, random, start, end);
+        draft.hazards.push(hazard);
+    }
+    draft
+}
+
+/// Many hazards far from each other, in no order.
+pub fn sparse(random: &mut Random, count: u64) -> Draft {
+    let mut draft = Draft {
+        header: large_header(random, 2_000_000_000),
+        hazards: Vec::new(),
+    };
+    draft.header[G] = random.between(0, 50_000);
+    for index in 0..count {
+        let start = 1_000_000 + index * 7_000_000 + random.below(1_000_000);
+        let end = start + random.between(1, 3_000_000);
+        let mut hazard = large_hazard(&draft.header, random, start, end);
+        // A hazard that nobody reaches would leave no run.
+        hazard[N] = hazard[N].min(draft.header[C] - 1);
+        draft.hazards.push(hazard);
+    }
+    random.shuffle(&mut draft.hazards);
+    draft
+}
+
+/// One wide envelope and disjoint higher ones in it, all on one side: with 255
+/// higher ones 511 runs. In station order, the wide one first.
+pub fn islands(random: &mut Random, side: u64, higher: u64) -> Draft {
+    let mut draft = Draft {
+        header: large_header(random, 2_000_000_000),
+        hazards: Vec::new(),
+    };
+    draft.header[G] = random.edgy(0, 100_000);
+    let header = draft.header;
+    let margin = margin(&header);
+    let wide_level = random.between(1, 5);
+    let wide_start = margin + random.below(1_000);
+    let mut start = wide_start;
+    for _ in 0..higher {
+        // Behind the last envelope, a gap of at least G, and this approach.
+        start += margin + header[G] + margin + 1 + random.below(1_000);
+        let end = start + random.between(1, 100_000);
+        let level = random.between(wide_level + 1, 6);
+        draft
+            .hazards
+            .push(reached(&header, random, side, start, end, level));
+        start = end;
+    }
+    let wide_end = start + margin + 1 + random.below(1_000);
+    let wide = reached(&header, random, side, wide_start, wide_end, wide_level);
+    draft.hazards.insert(0, wide);
+    draft
+}
+
+fn reached(
+    header: &[u64; 13],
+    random: &mut Random,
+    side: u64,
+    start: u64,
+    end: u64,
+    level: u64,
+) -> [u64; FIELDS] {
+    let near = random.between(header[M] + header[D], header[C] - 1);
+    [side, start, end, near, near + random.below(5_000), level]
+}

@@ -1,0 +1,44 @@
+//! Cases and comparison: an engine's calls held against the reference, byte by
+//! byte. The engine itself is not linked here, so that the test can be tested
+//! without it.
+
+pub mod calls;
+pub mod compare;
+pub mod draft;
+pub mod families;
+pub mod faults;
+pub mod hex;
+pub mod jobs;
+pub mod random;
+pub mod tally;
+pub mod wrong;
+
+pub use calls::{Calls, Record, Reply};
+pub use compare::{Case, Checker, Difference};
+pub use random::Random;
+pub use tally::Tally;
+
+/// Rounds of one default run.
+pub const ROUNDS: u64 = 20;
+
+/// The seed of a default run.
+pub const SEED: u64 = 1;
+
+/// Every family once, with cases of this seed.
+pub fn round(checker: &mut Checker, seed: u64) -> Result<(), Box<Difference>> {
+    checker.begin_round(seed);
+    for family in families::ALL {
+        checker.begin_family(family.name);
+        let mut random = Random::new(seed, family.name);
+        (family.run)(checker, &mut random)?;
+    }
+    Ok(())
+}
+
+/// The rounds of one run; the seeds of its rounds follow each other.
+pub fn run(checker: &mut Checker, seed: u64, rounds: u64) -> Result<(), Box<Difference>> {
+    for index in 0..rounds {
+        round(checker, seed.wrapping_add(index))?;
+    }
+    Ok(())
+}

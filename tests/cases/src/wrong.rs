@@ -1,0 +1,1196 @@
+//! Engines with one slip each, made of the reference's parts with one of them
+//! exchanged. The test has to find every one of them.
+
+use std::ops::Range;
+
+use reference::approach::{fraction, whole};
+use reference::envelope::{self, Approach, Direction, Envelope, Lengthening};
+use reference::job::{self, Hazard, Job, Reader};
+use reference::level::{self, Required, Run};
+use reference::{Outcome, Refusal, Stretch, lookup, number, quantity, schedule};
+
+use crate::calls::{Calls, PlanCall, QuantityCall, Record, Reply, record, reply, right};
+use crate::draft::number_bytes;
+
+/// Every wrong engine with the name of its slip.
+pub fn all() -> Vec<(&'static str, Calls)> {
+    let mut list = drawing_practice();
+    list.extend(wrong_envelopes());
+    list.extend(wrong_levels());
+    list.extend(wrong_refusals());
+    list.extend(wrong_memory());
+    list.extend(wrong_quantities());
+    list.extend(wrong_lookups());
+    list.extend(wrong_readings());
+    list
+}
+
+fn with_plan(plan: Box<PlanCall>) -> Calls {
+    Calls { plan, ..right() }
+}
+
+fn with_quantity(quantity: Box<QuantityCall>) -> Calls {
+    Calls {
+        quantity,
+        ..right()
+    }
+}
+
+fn with_lookup(call: fn(&[u8], &[u8], u64, u64) -> Record) -> Calls {
+    Calls {
+        lookup: Box::new(move |right, left, side, station| call(right, left, side, station)),
+        ..right()
+    }
+}
+
+/// The parts of planning that a slip exchanges.
+#[derive(Clone, Copy)]
+struct Rules {
+    approaches: fn(&Job, &Hazard) -> Vec<Approach>,
+    length: fn(&Job, &Approach) -> u64,
+    refuse: fn(&Job, usize, &Hazard, &Lengthening) -> Result<(), Refusal>,
+    runs: fn(&[Envelope], &Job) -> Vec<Run>,
+    /// Whether the hazards are looked at before the bytes left over.
+    hazards_before_left_over: bool,
+    /// Whether hazards of the other side are looked at.
+    both_sides: bool,
+    /// Whether a hazard that nobody reaches is looked at.
+    unreached: bool,
+}
+
+const RIGHT: Rules = Rules {
+    approaches: envelope::approaches,
+    length: envelope::length,
+    refuse: five_before_six,
+    runs: |envelopes, job| Required::new(envelopes, job.continuity).runs(),
+    hazards_before_left_over: false,
+    both_sides: true,
+    unreached: false,
+};
+
+/// Planning by these rules.
+fn by(rules: Rules) -> Calls {
+    with_plan(Box::new(move |job, side, room, lent| {
+        let written = plan_by(&rules, job, side);
+        reply(written.and_then(|bytes| put(&bytes, &mut room[lent])))
+    }))
+}
+
+fn plan_by(rules: &Rules, bytes: &[u8], side: u64) -> Result<Vec<u8>, Refusal> {
+    if side > 1 {
+        return Err(Refusal::argument());
+    }
+    let mut reader = Reader { bytes, at: 0 };
+    let job = job::read_numbers(&mut reader)?;
+    let envelopes = envelopes_by(rules, &job, side);
+    let rest = match bytes.len() > reader.at {
+        true => Err(Refusal::left_over(reader.at)),
+        false => Ok(()),
+    };
+    let envelopes = if rules.hazards_before_left_over {
+        let envelopes = envelopes?;
+        rest?;
+        envelopes
+    } else {
+        rest?;
+        envelopes?
+    };
+    Ok(schedule::writing(&(rules.runs)(&envelopes, &job)))
+}
+
+fn put(bytes: &[u8], out: &mut [u8]) -> Result<u64, Refusal> {
+    if out.len() < bytes.len() {
+        return Err(Refusal::output_short(bytes.len()));
+    }
+    out[..bytes.len()].copy_from_slice(bytes);
+    Ok(bytes.len() as u64)
+}
+
+fn envelopes_by(rules: &Rules, job: &Job, side: u64) -> Result<Vec<Envelope>, Refusal> {
+    let mut list = Vec::new();
+    for (index, hazard) in job.hazards.iter().enumerate() {
+        if hazard.side == side || rules.both_sides {
+            list.extend(envelope_by(rules, job, index, hazard)?);
+        }
+    }
+    list.retain(|e| e.side == side);
+    Ok(list)
+}
+
+fn envelope_by(
+    rules: &Rules,
+    job: &Job,
+    index: usize,
+    hazard: &Hazard,
+) -> Result<Option<Envelope>, Refusal> {
+    let approaches = (rules.approaches)(job, hazard);
+    if approaches.is_empty() && !rules.unreached {
+        return Ok(None);
+    }
+    let mut longer = Lengthening::default();
+    for approach in &approaches {
+        match approach.direction {
+            Direction::Forward => longer.lower += (rules.length)(job, approach),
+            Direction::Opposite => longer.higher += (rules.length)(job, approach),
+        }
+    }
+    (rules.refuse)(job, index, hazard, &longer)?;
+    if approaches.is_empty() {
+        return Ok(None);
+    }
+    // A slip may let an envelope begin before station 0.
+    longer.lower = longer.lower.min(hazard.start);
+    Ok(Some(envelope::lengthened(hazard, &longer)))
+}
+
+fn five_before_six(
+    job: &Job,
+    index: usize,
+    hazard: &Hazard,
+    longer: &Lengthening,
+) -> Result<(), Refusal> {
+    if envelope::too_near(job, hazard) {
+        return Err(Refusal::too_near(index));
+    }
+    if envelope::off_road(job, hazard, longer) {
+        return Err(Refusal::off_road(index));
+    }
+    Ok(())
+}
+
+fn six_before_five(
+    job: &Job,
+    index: usize,
+    hazard: &Hazard,
+    longer: &Lengthening,
+) -> Result<(), Refusal> {
+    if envelope::off_road(job, hazard, longer) {
+        return Err(Refusal::off_road(index));
+    }
+    five_before_six(job, index, hazard, longer)
+}
+
+// The six slips from drawing practice.
+
+fn drawing_practice() -> Vec<(&'static str, Calls)> {
+    vec![
+        (
+            "rounding to the nearest millimetre",
+            by(Rules {
+                length: nearest,
+                ..RIGHT
+            }),
+        ),
+        (
+            "the end station given to both lots",
+            with_quantity(Box::new(|schedule, level, p, q| {
+                reply(match quantity(schedule, level, p, q) {
+                    Ok(_) => quantity(schedule, level, p, q.saturating_add(1)),
+                    refused => refused,
+                })
+            })),
+        ),
+        (
+            "a gap of exactly G filled",
+            by(Rules {
+                runs: |envelopes, job| Required::new(envelopes, job.continuity + 1).runs(),
+                ..RIGHT
+            }),
+        ),
+        (
+            "W forgotten for far traffic",
+            by(Rules {
+                approaches: |job, hazard| far_without(job, hazard, true, true, true),
+                ..RIGHT
+            }),
+        ),
+        (
+            "filled between different levels with the higher",
+            by(Rules {
+                runs: |envelopes, job| filled_between(envelopes, job.continuity, u64::max),
+                ..RIGHT
+            }),
+        ),
+        (
+            "touching envelopes of one level as two runs",
+            by(Rules {
+                runs: two_runs,
+                ..RIGHT
+            }),
+        ),
+    ]
+}
+
+fn nearest(job: &Job, approach: &Approach) -> u64 {
+    let (numerator, divisor) = parts(job, approach);
+    whole((2 * numerator + divisor) / (2 * divisor))
+}
+
+fn down(job: &Job, approach: &Approach) -> u64 {
+    let (numerator, divisor) = parts(job, approach);
+    whole(numerator / divisor)
+}
+
+fn down_and_one_more(job: &Job, approach: &Approach) -> u64 {
+    down(job, approach) + 1
+}
+
+fn parts(job: &Job, approach: &Approach) -> (u128, u128) {
+    let runout = envelope::runout(job, approach.direction);
+    fraction(
+        runout,
+        approach.reach,
+        approach.offset,
+        envelope::flare(job),
+    )
+}
+
+/// Far traffic without W in whether it reaches, in R, or in m.
+fn far_without(job: &Job, hazard: &Hazard, reaches: bool, r: bool, m: bool) -> Vec<Approach> {
+    let w = |forgotten| if forgotten { 0 } else { job.centreline };
+    let c = job.clear_zone;
+    let mut list = envelope::approaches(job, hazard);
+    list.truncate(1);
+    if let Some(direction) = envelope::far(job, hazard.side)
+        && hazard.near + w(reaches) < c
+    {
+        list.push(Approach {
+            direction,
+            reach: (hazard.far + w(r)).min(c),
+            offset: job.barrier_offset + w(m),
+        });
+    }
+    list
+}
+
+/// Fills every short gap of the runs with one level made of its two
+/// neighbours' levels.
+fn filled_between(envelopes: &[Envelope], limit: u64, choose: fn(u64, u64) -> u64) -> Vec<Run> {
+    let mut filled: Vec<Run> = Vec::new();
+    for run in Required::new(envelopes, 0).runs() {
+        if let Some(last) = filled.last().copied()
+            && run.stretch.start - last.stretch.end < limit
+        {
+            join(
+                &mut filled,
+                Run {
+                    stretch: Stretch::new(last.stretch.end, run.stretch.start),
+                    level: choose(last.level, run.level),
+                },
+            );
+        }
+        join(&mut filled, run);
+    }
+    filled
+}
+
+fn join(runs: &mut Vec<Run>, next: Run) {
+    if next.stretch.length() == 0 {
+        return;
+    }
+    match runs.last_mut() {
+        Some(last) if last.level == next.level && last.stretch.end == next.stretch.start => {
+            last.stretch.end = next.stretch.end;
+        }
+        _ => runs.push(next),
+    }
+}
+
+/// Cuts a run wherever one envelope of its level ends and another begins.
+fn two_runs(envelopes: &[Envelope], job: &Job) -> Vec<Run> {
+    let runs = Required::new(envelopes, job.continuity).runs();
+    let touch = |at: u64, level: u64| {
+        let ends = |e: &&Envelope| e.level == level && e.stretch.end == at;
+        let begins = |e: &&Envelope| e.level == level && e.stretch.start == at;
+        envelopes.iter().any(|e| ends(&e)) && envelopes.iter().any(|e| begins(&e))
+    };
+    let mut cut = Vec::new();
+    for Run { mut stretch, level } in runs {
+        let mut starts: Vec<u64> = envelopes.iter().map(|e| e.stretch.start).collect();
+        starts.sort();
+        starts.dedup();
+        for at in starts {
+            if stretch.start < at && at < stretch.end && touch(at, level) {
+                cut.push(Run {
+                    stretch: Stretch::new(stretch.start, at),
+                    level,
+                });
+                stretch.start = at;
+            }
+        }
+        cut.push(Run { stretch, level });
+    }
+    cut
+}
+
+// Envelopes.
+
+fn wrong_envelopes() -> Vec<(&'static str, Calls)> {
+    let approaches = |approaches| {
+        by(Rules {
+            approaches,
+            ..RIGHT
+        })
+    };
+    let length = |length| by(Rules { length, ..RIGHT });
+    vec![
+        ("rounding down", length(down)),
+        ("a whole length made one more", length(down_and_one_more)),
+        (
+            "W forgotten in whether far traffic reaches",
+            approaches(|job, hazard| far_without(job, hazard, true, false, false)),
+        ),
+        (
+            "W forgotten in far traffic's R",
+            approaches(|job, hazard| far_without(job, hazard, false, true, false)),
+        ),
+        (
+            "W forgotten in far traffic's m",
+            approaches(|job, hazard| far_without(job, hazard, false, false, true)),
+        ),
+        ("reach not cut at C", approaches(uncut)),
+        ("reached at n = C", approaches(reached_at_the_clear_zone)),
+        ("left taken as right", approaches(left_as_right)),
+        ("LO = 0 on the left taken as opposite", approaches(mirrored)),
+        ("both traffics' runouts exchanged", length(other_runout)),
+        ("T kept where there is no flare", length(straight_always)),
+    ]
+}
+
+fn uncut(job: &Job, hazard: &Hazard) -> Vec<Approach> {
+    let mut list = envelope::approaches(job, hazard);
+    if let Some(adjacent) = list.first_mut() {
+        adjacent.reach = hazard.far;
+    }
+    list
+}
+
+fn reached_at_the_clear_zone(job: &Job, hazard: &Hazard) -> Vec<Approach> {
+    let inside = Hazard {
+        near: hazard.near.saturating_sub(1),
+        ..*hazard
+    };
+    envelope::approaches(job, &inside)
+}
+
+fn left_as_right(job: &Job, hazard: &Hazard) -> Vec<Approach> {
+    envelope::approaches(job, &Hazard { side: 0, ..*hazard })
+}
+
+/// On the left of a one-way road the approach comes from the wrong end.
+fn mirrored(job: &Job, hazard: &Hazard) -> Vec<Approach> {
+    let mut list = envelope::approaches(job, hazard);
+    if hazard.side == 1 && job.runout_opposite == 0 {
+        for approach in &mut list {
+            approach.direction = Direction::Opposite;
+        }
+    }
+    list
+}
+
+fn other_runout(job: &Job, approach: &Approach) -> u64 {
+    let mut swapped = job.clone();
+    if job.runout_opposite > 0 {
+        swapped.runout_forward = job.runout_opposite;
+        swapped.runout_opposite = job.runout_forward;
+    }
+    envelope::length(&swapped, approach)
+}
+
+/// T taken along even where there is no flare.
+fn straight_always(job: &Job, approach: &Approach) -> u64 {
+    let length = envelope::length(job, approach);
+    match job.flare_across {
+        0 => length.max(job.straight),
+        _ => length,
+    }
+}
+
+// Levels.
+
+fn wrong_levels() -> Vec<(&'static str, Calls)> {
+    let runs = |runs| by(Rules { runs, ..RIGHT });
+    vec![
+        (
+            "gaps never filled",
+            runs(|envelopes, _| Required::new(envelopes, 0).runs()),
+        ),
+        (
+            "gaps of G - 1 left open",
+            runs(|envelopes, job| {
+                Required::new(envelopes, job.continuity.saturating_sub(1)).runs()
+            }),
+        ),
+        (
+            "gaps filled in the runs and not for each level",
+            runs(|envelopes, job| filled_between(envelopes, job.continuity, u64::min)),
+        ),
+        ("envelopes of exactly level v only", runs(each_level_alone)),
+        (
+            "filled up to the road's ends",
+            runs(filled_to_the_road_ends),
+        ),
+        ("a level lowered by the last hazard", runs(last_on_top)),
+        ("level 6 left out", runs(without_level_6)),
+    ]
+}
+
+/// Takes only the envelopes of level v itself into the set of v.
+fn each_level_alone(envelopes: &[Envelope], job: &Job) -> Vec<Run> {
+    let mut filled = Vec::new();
+    for v in 1..=level::HIGHEST {
+        let alone: Vec<Stretch> = envelopes
+            .iter()
+            .filter(|e| e.level == v)
+            .map(|e| e.stretch)
+            .collect();
+        let set = level::fill(&level::set(alone), job.continuity);
+        filled.extend(set.into_iter().map(|stretch| Envelope {
+            side: 0,
+            stretch,
+            level: v,
+        }));
+    }
+    Required::new(&filled, 0).runs()
+}
+
+/// Takes the road's ends as if a barrier of level 1 stood there.
+fn filled_to_the_road_ends(envelopes: &[Envelope], job: &Job) -> Vec<Run> {
+    let mut runs = Required::new(envelopes, job.continuity).runs();
+    if let Some(first) = runs.first_mut()
+        && first.stretch.start - job.road_begin < job.continuity
+    {
+        first.stretch.start = job.road_begin;
+    }
+    if let Some(last) = runs.last_mut()
+        && job.road_end - last.stretch.end < job.continuity
+    {
+        last.stretch.end = job.road_end;
+    }
+    runs
+}
+
+/// Where envelopes overlap, the hazard that stands last in the job decides.
+fn last_on_top(envelopes: &[Envelope], job: &Job) -> Vec<Run> {
+    let mut changed = envelopes.to_vec();
+    if let [.., before, last] = &mut changed[..]
+        && before.stretch.shared(&last.stretch) > 0
+    {
+        before.level = before.level.min(last.level);
+    }
+    Required::new(&changed, job.continuity).runs()
+}
+
+fn without_level_6(envelopes: &[Envelope], job: &Job) -> Vec<Run> {
+    let mut changed = envelopes.to_vec();
+    for envelope in &mut changed {
+        envelope.level = envelope.level.min(5);
+    }
+    Required::new(&changed, job.continuity).runs()
+}
+
+// Refusals of plan.
+
+fn wrong_refusals() -> Vec<(&'static str, Calls)> {
+    vec![
+        (
+            "refusals 5 and 6 before 7",
+            by(Rules {
+                hazards_before_left_over: true,
+                ..RIGHT
+            }),
+        ),
+        (
+            "refusal 6 before 5",
+            by(Rules {
+                refuse: six_before_five,
+                ..RIGHT
+            }),
+        ),
+        (
+            "hazards of the other side not looked at",
+            by(Rules {
+                both_sides: false,
+                ..RIGHT
+            }),
+        ),
+        (
+            "a hazard that nobody reaches refused 5",
+            by(Rules {
+                unreached: true,
+                ..RIGHT
+            }),
+        ),
+        (
+            "n = M + D refused 5",
+            by(Rules {
+                refuse: refuse_at_equal,
+                ..RIGHT
+            }),
+        ),
+        (
+            "an envelope from A itself refused 6",
+            by(Rules {
+                refuse: refuse_at_road_begin,
+                ..RIGHT
+            }),
+        ),
+        (
+            "an envelope past B not refused",
+            by(Rules {
+                refuse: refuse_before_road_only,
+                ..RIGHT
+            }),
+        ),
+        (
+            "every number's form before any range",
+            with_plan(plan_after(form_first)),
+        ),
+        ("refusal 9 before 5 and 6", with_plan(output_first())),
+        ("the job before the side", with_plan(side_last())),
+        (
+            "non-shortest numbers accepted in a job",
+            with_plan(non_shortest_job()),
+        ),
+        (
+            "refusal 1 with the index where the bytes end",
+            changed_reply(|reply, job, _| {
+                if reply.number == 1 {
+                    reply.value = job.len() as u64;
+                }
+            }),
+        ),
+        (
+            "five top bits at the very end refused 1",
+            changed_reply(|reply, job, _| {
+                if reply.number == 2
+                    && job.len() as u64 == reply.value + 5
+                    && job[job.len() - 1] > 0x7F
+                {
+                    reply.number = 1;
+                }
+            }),
+        ),
+        (
+            "refusal 2 with the index of the faulty byte",
+            changed_reply(|reply, job, _| {
+                if reply.number == 2 {
+                    let rest = &job[reply.value as usize..];
+                    let last = rest.iter().take(4).take_while(|byte| **byte > 0x7F);
+                    reply.value += last.count() as u64;
+                }
+            }),
+        ),
+        (
+            "header numbers counted from 0",
+            changed_reply(|reply, _, _| {
+                if reply.number == 3 {
+                    reply.value -= 1;
+                }
+            }),
+        ),
+        (
+            "hazards counted from 1",
+            changed_reply(|reply, _, _| {
+                if (4..=6).contains(&reply.number) {
+                    reply.value += 1;
+                }
+            }),
+        ),
+        (
+            "bytes needed, one too few",
+            changed_reply(|reply, _, _| {
+                if reply.number == 9 {
+                    reply.value -= 1;
+                }
+            }),
+        ),
+        (
+            "bytes missing in place of bytes needed",
+            changed_reply(|reply, _, lent| {
+                if reply.number == 9 {
+                    reply.value -= lent.len() as u64;
+                }
+            }),
+        ),
+    ]
+}
+
+fn refuse_at_equal(
+    job: &Job,
+    index: usize,
+    hazard: &Hazard,
+    longer: &Lengthening,
+) -> Result<(), Refusal> {
+    if hazard.near == job.barrier_offset + job.deflection {
+        return Err(Refusal::too_near(index));
+    }
+    five_before_six(job, index, hazard, longer)
+}
+
+fn refuse_at_road_begin(
+    job: &Job,
+    index: usize,
+    hazard: &Hazard,
+    longer: &Lengthening,
+) -> Result<(), Refusal> {
+    five_before_six(job, index, hazard, longer)?;
+    if hazard.start - longer.lower == job.road_begin {
+        return Err(Refusal::off_road(index));
+    }
+    Ok(())
+}
+
+fn refuse_before_road_only(
+    job: &Job,
+    index: usize,
+    hazard: &Hazard,
+    longer: &Lengthening,
+) -> Result<(), Refusal> {
+    let lower_only = Lengthening {
+        higher: 0,
+        ..*longer
+    };
+    five_before_six(job, index, hazard, &lower_only)
+}
+
+/// The right plan, unless another refusal is seen first.
+fn plan_after(first: fn(&[u8]) -> Result<(), Refusal>) -> Box<PlanCall> {
+    Box::new(move |job, side, room, lent| {
+        if side <= 1
+            && let Err(refusal) = first(job)
+        {
+            return reply(Err(refusal));
+        }
+        (right().plan)(job, side, room, lent)
+    })
+}
+
+/// Looks through all bytes of the job for refusal 2.
+fn form_first(job: &[u8]) -> Result<(), Refusal> {
+    let mut begin = 0;
+    while begin < job.len() {
+        match number::read(job, begin) {
+            Ok(number) => begin = number.next,
+            Err(number::Fault::Form) => return Err(Refusal::number_form(begin)),
+            Err(number::Fault::Ends) => return Ok(()),
+        }
+    }
+    Ok(())
+}
+
+/// An output without a byte is refused before the hazards are looked at.
+fn output_first() -> Box<PlanCall> {
+    Box::new(|job, side, room, lent| {
+        let mut reply = (right().plan)(job, side, room, lent.clone());
+        if lent.is_empty() && (reply.number == 5 || reply.number == 6) {
+            reply = Reply {
+                number: 9,
+                value: 1,
+            };
+        }
+        reply
+    })
+}
+
+fn side_last() -> Box<PlanCall> {
+    Box::new(|job, side, room, lent| {
+        if side > 1
+            && let Err(refusal) = reference::calls::runs(job, 0)
+        {
+            return reply(Err(refusal));
+        }
+        (right().plan)(job, side, room, lent)
+    })
+}
+
+/// Plans the same numbers in shortest form.
+fn non_shortest_job() -> Box<PlanCall> {
+    Box::new(|job, side, room, lent| {
+        let mut shortest = shortest(job).unwrap_or(job.to_vec());
+        (right().plan)(&mut shortest, side, room, lent)
+    })
+}
+
+/// The numbers of the bytes, written again in shortest form; none if they are
+/// not numbers at all.
+fn shortest(bytes: &[u8]) -> Option<Vec<u8>> {
+    let mut values = Vec::new();
+    let mut at = 0;
+    while at < bytes.len() {
+        let length = 1 + bytes[at..].iter().take_while(|b| **b > 0x7F).count();
+        if length > 5 || at + length > bytes.len() {
+            return None;
+        }
+        let groups = bytes[at..at + length].iter().rev();
+        let value = groups.fold(0, |value, byte| value << 7 | u64::from(byte & 0x7F));
+        if value > number::GREATEST {
+            return None;
+        }
+        values.push(value);
+        at += length;
+    }
+    Some(number_bytes(&values))
+}
+
+/// The right plan with its reply changed.
+fn changed_reply(change: fn(&mut Reply, &[u8], Range<usize>)) -> Calls {
+    with_plan(Box::new(move |job, side, room, lent| {
+        let mut reply = (right().plan)(job, side, room, lent.clone());
+        change(&mut reply, job, lent);
+        reply
+    }))
+}
+
+// Lent memory.
+
+fn wrong_memory() -> Vec<(&'static str, Calls)> {
+    vec![
+        (
+            "a byte too many written behind the schedule",
+            changed_room(|reply, room, lent| {
+                let behind = lent.start + reply.value as usize;
+                if reply.number == 0 && lent.contains(&behind) {
+                    room[behind] = 0;
+                }
+            }),
+        ),
+        (
+            "a byte written on a refusal",
+            changed_room(|reply, room, lent| {
+                if reply.number != 0 && !lent.is_empty() {
+                    room[lent.start] = 0;
+                }
+            }),
+        ),
+        (
+            "a schedule begun in a short output",
+            changed_room(|reply, room, lent| {
+                if reply.number == 9 && !lent.is_empty() {
+                    room[lent.start] = reply.value as u8;
+                }
+            }),
+        ),
+        (
+            "a byte written behind the lent output",
+            changed_room(|reply, room, lent| {
+                if reply.number == 0 {
+                    room[lent.end] = 0;
+                }
+            }),
+        ),
+        (
+            "a byte written before the lent output",
+            changed_room(|reply, room, lent| {
+                if reply.number == 9 {
+                    room[lent.start - 1] = 0;
+                }
+            }),
+        ),
+        (
+            "the schedule's last byte not written",
+            changed_room(|reply, room, lent| {
+                if reply.number == 0 {
+                    room[lent.start + reply.value as usize - 1] = 0xEE;
+                }
+            }),
+        ),
+        (
+            "the job's bytes changed",
+            with_plan(Box::new(|job, side, room, lent| {
+                let reply = (right().plan)(job, side, room, lent);
+                if let Some(last) = job.last_mut() {
+                    *last = 0;
+                }
+                reply
+            })),
+        ),
+        (
+            "the schedule's bytes changed by quantity",
+            with_quantity(Box::new(|schedule, level, p, q| {
+                let reply = (right().quantity)(schedule, level, p, q);
+                if let Some(first) = schedule.first_mut() {
+                    *first ^= 1;
+                }
+                reply
+            })),
+        ),
+    ]
+}
+
+/// The right plan with the room changed afterwards.
+fn changed_room(change: fn(Reply, &mut [u8], Range<usize>)) -> Calls {
+    with_plan(Box::new(move |job, side, room, lent| {
+        let reply = (right().plan)(job, side, room, lent.clone());
+        change(reply, room, lent);
+        reply
+    }))
+}
+
+// Quantities.
+
+fn wrong_quantities() -> Vec<(&'static str, Calls)> {
+    let asked = |call: fn(&[u8], u64, u64, u64) -> Result<u64, Refusal>| {
+        with_quantity(Box::new(move |schedule, level, p, q| {
+            reply(call(schedule, level, p, q))
+        }))
+    };
+    vec![
+        ("that level or higher counted", asked(or_higher)),
+        (
+            "whole runs counted that begin in the lot",
+            asked(whole_runs),
+        ),
+        (
+            "lots in 32 bits",
+            asked(|schedule, level, p, q| {
+                let most = u64::from(u32::MAX);
+                let refused = quantity(schedule, level, p, q);
+                refused.and(quantity(
+                    schedule,
+                    level,
+                    p & most,
+                    (q & most).max(p & most),
+                ))
+            }),
+        ),
+        (
+            "an empty lot refused",
+            asked(|schedule, level, p, q| match p == q {
+                true => Err(Refusal::argument()),
+                false => quantity(schedule, level, p, q),
+            }),
+        ),
+        (
+            "level 0 taken",
+            asked(|schedule, level, p, q| quantity(schedule, level.max(1), p, q)),
+        ),
+        (
+            "p above q counted as nothing",
+            asked(|schedule, level, p, q| quantity(schedule, level, p, q.max(p))),
+        ),
+        (
+            "the schedule before the arguments",
+            asked(|schedule, level, p, q| match schedule::read(schedule) {
+                Some(_) => quantity(schedule, level, p, q),
+                None => Err(Refusal::no_schedule()),
+            }),
+        ),
+    ]
+}
+
+fn or_higher(schedule: &[u8], level: u64, p: u64, q: u64) -> Result<u64, Refusal> {
+    let mut sum = quantity(schedule, level, p, q)?;
+    for higher in level + 1..=level::HIGHEST {
+        sum += quantity(schedule, higher, p, q)?;
+    }
+    Ok(sum)
+}
+
+fn whole_runs(schedule: &[u8], level: u64, p: u64, q: u64) -> Result<u64, Refusal> {
+    quantity(schedule, level, p, q)?;
+    let records = schedule::read(schedule).unwrap_or_default();
+    let asked = Stretch::new(p, q);
+    Ok(records
+        .iter()
+        .filter(|r| r.run.level == level && asked.has(r.run.stretch.start))
+        .map(|r| r.run.stretch.length())
+        .sum())
+}
+
+// Lookups.
+
+fn wrong_lookups() -> Vec<(&'static str, Calls)> {
+    vec![
+        (
+            "the other side's schedule looked up",
+            with_lookup(|right, left, side, station| record(lookup(left, right, side, station))),
+        ),
+        (
+            "the empty part at the schedule's end",
+            with_lookup(|right, left, side, station| {
+                let found = record(lookup(right, left, side, station));
+                let asked = if side == 1 { left } else { right };
+                elsewhere(found, asked.len() as u64)
+            }),
+        ),
+        (
+            "the empty part behind the count",
+            with_lookup(|right, left, side, station| {
+                elsewhere(record(lookup(right, left, side, station)), 1)
+            }),
+        ),
+        (
+            "the end station in the run",
+            with_lookup(|right, left, side, station| {
+                let found = record(lookup(right, left, side, station));
+                match found.found == 0 && found.number == 0 {
+                    true => record(lookup(right, left, side, station.saturating_sub(1))),
+                    false => found,
+                }
+            }),
+        ),
+        (
+            "both schedules read",
+            with_lookup(|right, left, side, station| {
+                let readable = [right, left].iter().all(|s| schedule::read(s).is_some());
+                match readable || side > 1 {
+                    true => record(lookup(right, left, side, station)),
+                    false => refused(10),
+                }
+            }),
+        ),
+        (
+            "the schedule before the side",
+            with_lookup(|right, left, side, station| match schedule::read(right) {
+                None if side > 1 => refused(10),
+                _ => record(lookup(right, left, side, station)),
+            }),
+        ),
+        (
+            "a bad side taken as left",
+            with_lookup(|right, left, side, station| {
+                record(lookup(right, left, side.min(1), station))
+            }),
+        ),
+        (
+            "none said unread",
+            with_lookup(|right, left, side, station| {
+                let found = lookup(right, left, side, station);
+                match found.outcome {
+                    Outcome::Found => record(found),
+                    _ => refused(0),
+                }
+            }),
+        ),
+        (
+            "the station in 32 bits",
+            with_lookup(|right, left, side, station| {
+                record(lookup(right, left, side, station & 0xFFFF_FFFF))
+            }),
+        ),
+        (
+            "the record without its level",
+            with_lookup(|right, left, side, station| {
+                let found = record(lookup(right, left, side, station));
+                Record {
+                    end: found.end - found.found,
+                    ..found
+                }
+            }),
+        ),
+        (
+            "the next run where the station has none",
+            with_lookup(|right, left, side, station| {
+                let found = record(lookup(right, left, side, station));
+                match found.found == 0 && found.number == 0 {
+                    true => record(lookup(right, left, side, station.saturating_add(1))),
+                    false => found,
+                }
+            }),
+        ),
+    ]
+}
+
+/// An empty part at another place.
+fn elsewhere(found: Record, place: u64) -> Record {
+    match found.found {
+        1 => found,
+        _ => Record {
+            start: place,
+            end: place,
+            ..found
+        },
+    }
+}
+
+fn refused(number: u64) -> Record {
+    Record {
+        number,
+        found: 0,
+        start: 0,
+        end: 0,
+    }
+}
+
+// Reading a schedule.
+
+/// What a careless reading of a schedule lets pass.
+#[derive(Clone, Copy)]
+struct Reading {
+    most_runs: usize,
+    last_station: u64,
+    least_length: u64,
+    levels: (u64, u64),
+    touching: bool,
+    left_over: bool,
+    shortest_only: bool,
+}
+
+const STRICT: Reading = Reading {
+    most_runs: schedule::MOST_RUNS,
+    last_station: job::LAST_STATION,
+    least_length: 1,
+    levels: (1, level::HIGHEST),
+    touching: false,
+    left_over: false,
+    shortest_only: true,
+};
+
+fn wrong_readings() -> Vec<(&'static str, Calls)> {
+    let reading = |reading: Reading| {
+        with_quantity(Box::new(move |schedule, level, p, q| {
+            reply(quantity_by(&reading, schedule, level, p, q))
+        }))
+    };
+    vec![
+        (
+            "512 runs read",
+            reading(Reading {
+                most_runs: 512,
+                ..STRICT
+            }),
+        ),
+        (
+            "511 runs not read",
+            reading(Reading {
+                most_runs: 510,
+                ..STRICT
+            }),
+        ),
+        (
+            "an end above 2,000,000,000 read",
+            reading(Reading {
+                last_station: job::LAST_STATION + 1,
+                ..STRICT
+            }),
+        ),
+        (
+            "an end of 2,000,000,000 not read",
+            reading(Reading {
+                last_station: job::LAST_STATION - 1,
+                ..STRICT
+            }),
+        ),
+        (
+            "a run without length read",
+            reading(Reading {
+                least_length: 0,
+                ..STRICT
+            }),
+        ),
+        (
+            "a run of level 0 read",
+            reading(Reading {
+                levels: (0, level::HIGHEST),
+                ..STRICT
+            }),
+        ),
+        (
+            "a run of level 7 read",
+            reading(Reading {
+                levels: (1, 7),
+                ..STRICT
+            }),
+        ),
+        (
+            "touching runs of one level read",
+            reading(Reading {
+                touching: true,
+                ..STRICT
+            }),
+        ),
+        (
+            "bytes behind the last record read",
+            reading(Reading {
+                left_over: true,
+                ..STRICT
+            }),
+        ),
+        (
+            "non-shortest numbers accepted in a schedule",
+            reading(Reading {
+                shortest_only: false,
+                ..STRICT
+            }),
+        ),
+    ]
+}
+
+fn quantity_by(
+    reading: &Reading,
+    schedule: &[u8],
+    level: u64,
+    p: u64,
+    q: u64,
+) -> Result<u64, Refusal> {
+    if !(1..=level::HIGHEST).contains(&level) || p > q {
+        return Err(Refusal::argument());
+    }
+    let again = match reading.shortest_only {
+        true => None,
+        false => shortest(schedule),
+    };
+    let bytes = again.as_deref().unwrap_or(schedule);
+    let runs = read_by(reading, bytes).ok_or(Refusal::no_schedule())?;
+    let asked = Stretch::new(p, q);
+    Ok(runs
+        .iter()
+        .filter(|run| run.level == level)
+        .map(|run| run.stretch.shared(&asked))
+        .sum())
+}
+
+fn read_by(reading: &Reading, bytes: &[u8]) -> Option<Vec<Run>> {
+    let mut runs: Vec<Run> = Vec::new();
+    let count = number::read(bytes, 0).ok()?;
+    if count.value > reading.most_runs as u64 {
+        return None;
+    }
+    let mut at = count.next;
+    for _ in 0..count.value {
+        let mut values = [0; 3];
+        for value in &mut values {
+            let number = number::read(bytes, at).ok()?;
+            *value = number.value;
+            at = number.next;
+        }
+        let run = run_by(reading, &runs, values)?;
+        runs.push(run);
+    }
+    (at == bytes.len() || reading.left_over).then_some(runs)
+}
+
+fn run_by(reading: &Reading, runs: &[Run], [distance, length, level]: [u64; 3]) -> Option<Run> {
+    let previous = runs.last();
+    let start = previous.map_or(0, |run| run.stretch.end) + distance;
+    let stretch = Stretch::new(start, start + length);
+    let same_level = previous.is_some_and(|run| run.level == level);
+    let passes = length >= reading.least_length
+        && (reading.levels.0..=reading.levels.1).contains(&level)
+        && stretch.end <= reading.last_station
+        && (reading.touching || distance > 0 || !same_level);
+    passes.then_some(Run { stretch, level })
+}
+
+#[cfg(test)]
+mod tests {
+    use super::*;
+    use crate::compare::Checker;
+
+    /// A wrong engine has to be wrong in its slip alone: with no slip at all
+    /// its parts are those of the reference.
+    #[test]
+    fn no_difference_without_a_slip() {
+        let calls = Calls {
+            quantity: Box::new(|schedule, level, p, q| {
+                reply(quantity_by(&STRICT, schedule, level, p, q))
+            }),
+            ..by(RIGHT)
+        };
+        let mut checker = Checker::new(calls);
+        if let Err(difference) = crate::run(&mut checker, 5, 1) {
+            panic!("{difference}");
+        }
+    }
+}

@@ -1,0 +1,61 @@
+//! The test is itself tested: one round lets the reference pass and finds
+//! every wrong engine.
+
+use cases::{Checker, SEED, calls, jobs, random::Random, round, wrong};
+
+#[test]
+fn the_reference_passes_and_every_row_is_seen() {
+    let mut checker = Checker::new(calls::right());
+    if let Err(difference) = round(&mut checker, SEED) {
+        panic!("{difference}");
+    }
+    for number in 0..=10 {
+        assert!(checker.tally.outcome(number) > 0, "no refusal {number}");
+    }
+    assert_eq!(checker.tally.most_runs(), 511);
+    assert!(checker.tally.cases() > 30_000);
+}
+
+/// Each is found, and the case found shows the difference when tried alone.
+#[test]
+fn every_wrong_engine_is_found() {
+    for (name, calls) in wrong::all() {
+        let mut checker = Checker::new(calls);
+        let Err(found) = round(&mut checker, SEED) else {
+            panic!("not found: {name}");
+        };
+        println!("{:>9}  {name} (in: {})", found.cases, found.family);
+        let again = checker.case(&found.case);
+        assert!(again.is_err(), "{name}: {}", found.case);
+    }
+}
+
+#[test]
+fn the_same_seed_gives_the_same_difference() {
+    for (name, calls) in wrong::all().into_iter().take(6) {
+        let mut checker = Checker::new(calls);
+        let first = round(&mut checker, 77).unwrap_err().case.to_string();
+        let second = round(&mut checker, 77).unwrap_err().case.to_string();
+        assert_eq!(first, second, "{name}");
+    }
+}
+
+#[test]
+fn most_random_jobs_are_accepted() {
+    let mut random = Random::new(SEED, "accepted");
+    let mut out = [0; 8_192];
+    for make in [jobs::small, jobs::wide] {
+        let accepted = (0..2_000)
+            .filter(|_| reference::plan(&make(&mut random).bytes(), 0, &mut out).is_ok())
+            .count();
+        assert!(accepted > 1_000, "{accepted} of 2,000");
+    }
+    for _ in 0..10 {
+        let dense = jobs::dense(&mut random, 256).bytes();
+        let sparse = jobs::sparse(&mut random, 256).bytes();
+        let islands = jobs::islands(&mut random, 0, 255).bytes();
+        for job in [dense, sparse, islands] {
+            assert!(reference::plan(&job, 0, &mut out).is_ok());
+        }
+    }
+}

@@ -1,0 +1,99 @@
+//! The options of the command line.
+
+use std::time::SystemTime;
+
+use cases::{Case, ROUNDS, SEED, hex};
+
+pub const HELP: &str = "\
+options:
+  --seed S       the seed of the first round (default 1; with --seconds a fresh one)
+  --rounds N     that many rounds (default 20)
+  --seconds N    rounds with fresh seeds for N seconds
+  --trace        prints each case before it is made
+one case alone, bytes in hex, no bytes as -:
+  --plan JOB SIDE OUTPUT_LENGTH FILL
+  --quantity SCHEDULE LEVEL P Q
+  --lookup RIGHT LEFT SIDE STATION
+";
+
+#[derive(Clone, Copy)]
+pub enum Amount {
+    Rounds(u64),
+    Seconds(u64),
+}
+
+pub struct Options {
+    pub seed: u64,
+    pub amount: Amount,
+    pub trace: bool,
+    pub case: Option<Case>,
+}
+
+pub fn read(arguments: &[String]) -> Option<Options> {
+    let mut seed = None;
+    let mut amount = Amount::Rounds(ROUNDS);
+    let mut trace = false;
+    let mut case = None;
+    let mut rest = arguments.iter().map(String::as_str);
+    while let Some(option) = rest.next() {
+        match option {
+            "--seed" => seed = Some(number(rest.next())?),
+            "--rounds" => amount = Amount::Rounds(number(rest.next())?),
+            "--seconds" => amount = Amount::Seconds(number(rest.next())?),
+            "--trace" => trace = true,
+            "--plan" | "--quantity" | "--lookup" => {
+                let values = [rest.next()?, rest.next()?, rest.next()?, rest.next()?];
+                case = Some(read_case(option, values)?);
+            }
+            _ => return None,
+        }
+    }
+    Some(Options {
+        seed: seed.unwrap_or_else(|| default_seed(amount)),
+        amount,
+        trace,
+        case,
+    })
+}
+
+fn default_seed(amount: Amount) -> u64 {
+    match amount {
+        Amount::Rounds(_) => SEED,
+        Amount::Seconds(_) => fresh_seed(),
+    }
+}
+
+/// Seconds since 1970, a million seeds apart, so that two runs share none.
+fn fresh_seed() -> u64 {
+    let now = SystemTime::now().duration_since(SystemTime::UNIX_EPOCH);
+    now.map_or(SEED, |time| time.as_secs() * 1_000_000)
+}
+
+fn number(text: Option<&str>) -> Option<u64> {
+    text?.parse().ok()
+}
+
+fn read_case(option: &str, values: [&str; 4]) -> Option<Case> {
+    let value = |at: usize| number(Some(values[at]));
+    let bytes = |at: usize| hex::read(values[at]);
+    Some(match option {
+        "--plan" => Case::Plan {
+            job: bytes(0)?,
+            side: value(1)?,
+            out_length: value(2)? as usize,
+            fill: value(3)?,
+        },
+        "--quantity" => Case::Quantity {
+            schedule: bytes(0)?,
+            level: value(1)?,
+            p: value(2)?,
+            q: value(3)?,
+        },
+        _ => Case::Lookup {
+            right: bytes(0)?,
+            left: bytes(1)?,
+            side: value(2)?,
+            station: value(3)?,
+        },
+    })
+}

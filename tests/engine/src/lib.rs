@@ -1,0 +1,122 @@
+//! The engine's C interface, behind safe calls.
+
+use std::ops::Range;
+
+use cases::{Calls, Record, Reply};
+
+mod c {
+    #[repr(C)]
+    pub struct Reply {
+        pub number: u64,
+        pub value: u64,
+    }
+
+    #[repr(C)]
+    pub struct Record {
+        pub number: u64,
+        pub found: u64,
+        pub start: u64,
+        pub end: u64,
+    }
+
+    unsafe extern "C" {
+        pub fn barrier_plan(
+            job: *const u8,
+            job_len: usize,
+            side: u64,
+            out: *mut u8,
+            out_len: usize,
+        ) -> Reply;
+
+        pub fn barrier_quantity(
+            schedule: *const u8,
+            schedule_len: usize,
+            level: u64,
+            p: u64,
+            q: u64,
+        ) -> Reply;
+
+        pub fn barrier_lookup(
+            right: *const u8,
+            right_len: usize,
+            left: *const u8,
+            left_len: usize,
+            side: u64,
+            station: u64,
+        ) -> Record;
+    }
+}
+
+impl From<c::Reply> for Reply {
+    fn from(reply: c::Reply) -> Reply {
+        let c::Reply { number, value } = reply;
+        Reply { number, value }
+    }
+}
+
+impl From<c::Record> for Record {
+    fn from(record: c::Record) -> Record {
+        Record {
+            number: record.number,
+            found: record.found,
+            start: record.start,
+            end: record.end,
+        }
+    }
+}
+
+pub fn plan(job: &[u8], side: u64, out: &mut [u8]) -> Reply {
+    // SAFETY: both pointers are good for as many bytes as are named with them,
+    // and `out` is lent to this call alone.
+    unsafe { c::barrier_plan(job.as_ptr(), job.len(), side, out.as_mut_ptr(), out.len()).into() }
+}
+
+pub fn quantity(schedule: &[u8], level: u64, p: u64, q: u64) -> Reply {
+    // SAFETY: the pointer is good for as many bytes as are named with it.
+    unsafe { c::barrier_quantity(schedule.as_ptr(), schedule.len(), level, p, q).into() }
+}
+
+pub fn lookup(right: &[u8], left: &[u8], side: u64, station: u64) -> Record {
+    // SAFETY: both pointers are good for as many bytes as are named with them.
+    unsafe {
+        c::barrier_lookup(
+            right.as_ptr(),
+            right.len(),
+            left.as_ptr(),
+            left.len(),
+            side,
+            station,
+        )
+        .into()
+    }
+}
+
+/// The engine's calls, to be compared. The pointers are those of the whole
+/// room and of inputs that could be changed, so that a write where none may be
+/// lands in memory of the test, which then finds it.
+pub fn calls() -> Calls {
+    Calls {
+        plan: Box::new(plan_in_room),
+        quantity: Box::new(|schedule, level, p, q| {
+            let schedule_len = schedule.len();
+            // SAFETY: as in `quantity`.
+            unsafe { c::barrier_quantity(schedule.as_mut_ptr(), schedule_len, level, p, q).into() }
+        }),
+        lookup: Box::new(|right, left, side, station| {
+            let (right_len, left_len) = (right.len(), left.len());
+            let (right, left) = (right.as_mut_ptr(), left.as_mut_ptr());
+            // SAFETY: as in `lookup`.
+            unsafe { c::barrier_lookup(right, right_len, left, left_len, side, station).into() }
+        }),
+    }
+}
+
+fn plan_in_room(job: &mut [u8], side: u64, room: &mut [u8], lent: Range<usize>) -> Reply {
+    assert!(lent.start <= lent.end && lent.end <= room.len());
+    let job_len = job.len();
+    // SAFETY: the lent part lies in the room, which this call alone holds.
+    unsafe {
+        let out = room.as_mut_ptr().add(lent.start);
+        c::barrier_plan(job.as_mut_ptr(), job_len, side, out, lent.len()).into()
+    }
+}

@@ -1,0 +1,96 @@
+//! The calls: plan, quantity and lookup.
+
+use crate::envelope::{self, Envelope};
+use crate::job;
+use crate::level::{HIGHEST, Required, Run};
+use crate::refusal::Refusal;
+use crate::schedule;
+use crate::stretch::Stretch;
+
+/// Writes the schedule of one side to the start of `out` and gives the bytes
+/// written. A refusal writes nothing.
+pub fn plan(job: &[u8], side: u64, out: &mut [u8]) -> Result<u64, Refusal> {
+    let runs = runs(job, side)?;
+    let writing = schedule::writing(&runs);
+    let needed = writing.len();
+    if out.len() < needed {
+        return Err(Refusal::output_short(needed));
+    }
+    out[..needed].copy_from_slice(&writing);
+    Ok(needed as u64)
+}
+
+/// The runs of one side: refusal 8, then those of the job.
+pub fn runs(job: &[u8], side: u64) -> Result<Vec<Run>, Refusal> {
+    Ok(required(job, side)?.runs())
+}
+
+/// The levels that a job requires on one side.
+pub fn required(job: &[u8], side: u64) -> Result<Required, Refusal> {
+    if side > 1 {
+        return Err(Refusal::argument());
+    }
+    let job = job::read(job)?;
+    let envelopes = envelope::envelopes(&job)?;
+    let of_side: Vec<Envelope> = envelopes.into_iter().filter(|e| e.side == side).collect();
+    Ok(Required::new(&of_side, job.continuity))
+}
+
+/// How many millimetres of [p, q) have exactly that level.
+pub fn quantity(schedule: &[u8], level: u64, p: u64, q: u64) -> Result<u64, Refusal> {
+    if !(1..=HIGHEST).contains(&level) || p > q {
+        return Err(Refusal::argument());
+    }
+    let records = schedule::read(schedule).ok_or(Refusal::no_schedule())?;
+    let asked = Stretch::new(p, q);
+    let of_level = records.iter().filter(|record| record.run.level == level);
+    Ok(of_level
+        .map(|record| record.run.stretch.shared(&asked))
+        .sum())
+}
+
+/// What the companion call of lookup gives.
+#[derive(Clone, Copy, Debug, PartialEq, Eq)]
+pub enum Outcome {
+    Found,
+    None,
+    Refused(Refusal),
+}
+
+/// A part of the schedule of the side asked for (of the right one for a bad
+/// side), and what the companion call gives.
+#[derive(Clone, Copy, Debug, PartialEq, Eq)]
+pub struct Lookup {
+    pub start: usize,
+    pub length: usize,
+    pub outcome: Outcome,
+}
+
+/// The bytes of the record whose run has the station.
+pub fn lookup(right: &[u8], left: &[u8], side: u64, station: u64) -> Lookup {
+    let schedule = match side {
+        0 => right,
+        1 => left,
+        _ => return empty(Outcome::Refused(Refusal::argument())),
+    };
+    let Some(records) = schedule::read(schedule) else {
+        return empty(Outcome::Refused(Refusal::no_schedule()));
+    };
+    match records.iter().find(|r| r.run.stretch.has(station)) {
+        Some(record) => Lookup {
+            start: record.bytes.start,
+            length: record.bytes.len(),
+            outcome: Outcome::Found,
+        },
+        None => empty(Outcome::None),
+    }
+}
+
+/// An empty part at the schedule's start.
+fn empty(outcome: Outcome) -> Lookup {
+    Lookup {
+        start: 0,
+        length: 0,
+        outcome,
+    }
+}

@@ -1,0 +1,162 @@
+//! Envelopes: the stretch of a reached hazard with its approach lengths.
+
+use crate::approach::{self, Flare};
+use crate::job::{Hazard, Job};
+use crate::refusal::Refusal;
+use crate::stretch::Stretch;
+
+/// A reached hazard's envelope.
+#[derive(Clone, Copy, Debug, PartialEq, Eq)]
+pub struct Envelope {
+    pub side: u64,
+    pub stretch: Stretch,
+    pub level: u64,
+}
+
+#[derive(Clone, Copy, Debug, PartialEq, Eq)]
+pub enum Direction {
+    /// Traffic with rising stations; it approaches from lower ones.
+    Forward,
+    /// It approaches from higher stations.
+    Opposite,
+}
+
+/// One traffic that reaches a hazard.
+#[derive(Clone, Copy, Debug, PartialEq, Eq)]
+pub struct Approach {
+    pub direction: Direction,
+    /// R
+    pub reach: u64,
+    /// m
+    pub offset: u64,
+}
+
+/// By how much an envelope is longer than its hazard, at each end.
+#[derive(Clone, Copy, Debug, Default, PartialEq, Eq)]
+pub struct Lengthening {
+    pub lower: u64,
+    pub higher: u64,
+}
+
+/// The traffic adjacent to a side.
+pub fn adjacent(job: &Job, side: u64) -> Direction {
+    if side == 0 || job.runout_opposite == 0 {
+        Direction::Forward
+    } else {
+        Direction::Opposite
+    }
+}
+
+/// The far traffic of a side; none with LO = 0.
+pub fn far(job: &Job, side: u64) -> Option<Direction> {
+    if job.runout_opposite == 0 {
+        None
+    } else if side == 0 {
+        Some(Direction::Opposite)
+    } else {
+        Some(Direction::Forward)
+    }
+}
+
+/// Every traffic that reaches the hazard, adjacent first.
+pub fn approaches(job: &Job, hazard: &Hazard) -> Vec<Approach> {
+    let mut list = Vec::new();
+    let c = job.clear_zone;
+    let w = job.centreline;
+    if hazard.near < c {
+        list.push(Approach {
+            direction: adjacent(job, hazard.side),
+            reach: hazard.far.min(c),
+            offset: job.barrier_offset,
+        });
+    }
+    if let Some(direction) = far(job, hazard.side)
+        && hazard.near + w < c
+    {
+        list.push(Approach {
+            direction,
+            reach: (hazard.far + w).min(c),
+            offset: job.barrier_offset + w,
+        });
+    }
+    list
+}
+
+/// The approach length of one reaching traffic.
+pub fn length(job: &Job, approach: &Approach) -> u64 {
+    let runout = runout(job, approach.direction);
+    approach::length(runout, approach.reach, approach.offset, flare(job))
+}
+
+pub fn runout(job: &Job, direction: Direction) -> u64 {
+    match direction {
+        Direction::Forward => job.runout_forward,
+        Direction::Opposite => job.runout_opposite,
+    }
+}
+
+pub fn flare(job: &Job) -> Flare {
+    Flare {
+        along: job.flare_along,
+        across: job.flare_across,
+        straight: job.straight,
+    }
+}
+
+/// Each reaching traffic lengthens the hazard at the end that it approaches.
+pub fn lengthening(job: &Job, approaches: &[Approach]) -> Lengthening {
+    let mut longer = Lengthening::default();
+    for approach in approaches {
+        match approach.direction {
+            Direction::Forward => longer.lower += length(job, approach),
+            Direction::Opposite => longer.higher += length(job, approach),
+        }
+    }
+    longer
+}
+
+/// Refusal 5: a reached hazard with n < M + D.
+pub fn too_near(job: &Job, hazard: &Hazard) -> bool {
+    hazard.near < job.barrier_offset + job.deflection
+}
+
+/// Refusal 6: the envelope begins before A or ends after B. A job's hazard
+/// lies on the road, so neither difference goes below 0.
+pub fn off_road(job: &Job, hazard: &Hazard, longer: &Lengthening) -> bool {
+    longer.lower > hazard.start - job.road_begin || longer.higher > job.road_end - hazard.end
+}
+
+/// The envelope of one hazard, if somebody reaches it; 5 before 6.
+pub fn envelope(job: &Job, index: usize, hazard: &Hazard) -> Result<Option<Envelope>, Refusal> {
+    let approaches = approaches(job, hazard);
+    if approaches.is_empty() {
+        return Ok(None);
+    }
+    if too_near(job, hazard) {
+        return Err(Refusal::too_near(index));
+    }
+    let longer = lengthening(job, &approaches);
+    if off_road(job, hazard, &longer) {
+        return Err(Refusal::off_road(index));
+    }
+    Ok(Some(lengthened(hazard, &longer)))
+}
+
+/// The hazard's stretch with both lengths added.
+pub fn lengthened(hazard: &Hazard, longer: &Lengthening) -> Envelope {
+    Envelope {
+        side: hazard.side,
+        stretch: Stretch::new(hazard.start - longer.lower, hazard.end + longer.higher),
+        level: hazard.level,
+    }
+}
+
+/// The envelopes of a job, of both sides: hazards in order, so the refusal is
+/// that of the first hazard that has one, on whichever side it is.
+pub fn envelopes(job: &Job) -> Result<Vec<Envelope>, Refusal> {
+    let mut list = Vec::new();
+    for (index, hazard) in job.hazards.iter().enumerate() {
+        list.extend(envelope(job, index, hazard)?);
+    }
+    Ok(list)
+}

@@ -1,0 +1,146 @@
+//! The job in bytes: 14 header numbers, then six numbers for each hazard.
+
+use crate::number::{self, Fault};
+use crate::refusal::Refusal;
+
+/// The last station that a road may end at.
+pub const LAST_STATION: u64 = 2_000_000_000;
+
+/// A job whose numbers are all in form and in range. The paper's letters are
+/// named in the comments.
+#[derive(Clone, Debug, PartialEq, Eq)]
+pub struct Job {
+    /// A
+    pub road_begin: u64,
+    /// B
+    pub road_end: u64,
+    /// LF
+    pub runout_forward: u64,
+    /// LO, 0 for one-way or separated
+    pub runout_opposite: u64,
+    /// C
+    pub clear_zone: u64,
+    /// W
+    pub centreline: u64,
+    /// M
+    pub barrier_offset: u64,
+    /// D
+    pub deflection: u64,
+    /// a
+    pub flare_along: u64,
+    /// b, 0 for no flare
+    pub flare_across: u64,
+    /// T
+    pub straight: u64,
+    /// G
+    pub continuity: u64,
+    pub hazards: Vec<Hazard>,
+}
+
+#[derive(Clone, Copy, Debug, PartialEq, Eq)]
+pub struct Hazard {
+    /// 0 right, 1 left
+    pub side: u64,
+    /// s
+    pub start: u64,
+    /// e
+    pub end: u64,
+    /// n
+    pub near: u64,
+    /// f
+    pub far: u64,
+    pub level: u64,
+}
+
+/// Reads a job. The numbers are looked at as they stand, each for refusals 1
+/// and 2 and for its range (3 or 4); then comes refusal 7.
+pub fn read(bytes: &[u8]) -> Result<Job, Refusal> {
+    let mut reader = Reader { bytes, at: 0 };
+    let job = read_numbers(&mut reader)?;
+    if reader.at < bytes.len() {
+        return Err(Refusal::left_over(reader.at));
+    }
+    Ok(job)
+}
+
+/// The numbers of a job, without a look at what stands behind the last.
+pub fn read_numbers(reader: &mut Reader) -> Result<Job, Refusal> {
+    let _kind = reader.header(1, 1, 1)?;
+    let road_begin = reader.header(2, 0, LAST_STATION - 1)?;
+    let road_end = reader.header(3, road_begin + 1, LAST_STATION)?;
+    let mut job = Job {
+        road_begin,
+        road_end,
+        runout_forward: reader.header(4, 1, 200_000)?,
+        runout_opposite: reader.header(5, 0, 200_000)?,
+        clear_zone: reader.header(6, 1, 30_000)?,
+        centreline: reader.header(7, 0, 20_000)?,
+        barrier_offset: reader.header(8, 0, 20_000)?,
+        deflection: reader.header(9, 1, 5_000)?,
+        flare_along: reader.header(10, 1, 100)?,
+        flare_across: reader.header(11, 0, 10)?,
+        straight: reader.header(12, 0, 100_000)?,
+        continuity: reader.header(13, 0, 200_000)?,
+        hazards: Vec::new(),
+    };
+    let hazard_count = reader.header(14, 0, 256)?;
+    for index in 0..hazard_count as usize {
+        job.hazards
+            .push(read_hazard(reader, index, road_begin, road_end)?);
+    }
+    Ok(job)
+}
+
+fn read_hazard(
+    reader: &mut Reader,
+    index: usize,
+    road_begin: u64,
+    road_end: u64,
+) -> Result<Hazard, Refusal> {
+    let side = reader.field(index, 0, 1)?;
+    let start = reader.field(index, road_begin, road_end - 1)?;
+    let end = reader.field(index, start + 1, road_end)?;
+    let near = reader.field(index, 0, 60_000)?;
+    let far = reader.field(index, near, 60_000)?;
+    let level = reader.field(index, 1, 6)?;
+    Ok(Hazard {
+        side,
+        start,
+        end,
+        near,
+        far,
+        level,
+    })
+}
+
+/// Reads the numbers of a job one after the other.
+pub struct Reader<'a> {
+    pub bytes: &'a [u8],
+    /// Where the next number begins.
+    pub at: usize,
+}
+
+impl Reader<'_> {
+    /// Header number `no`, which has to be from `low` to `high`.
+    fn header(&mut self, no: u64, low: u64, high: u64) -> Result<u64, Refusal> {
+        self.next(low, high, Refusal::header_range(no))
+    }
+
+    /// The next field of a hazard, which has to be from `low` to `high`.
+    fn field(&mut self, hazard_index: usize, low: u64, high: u64) -> Result<u64, Refusal> {
+        self.next(low, high, Refusal::hazard_range(hazard_index))
+    }
+
+    fn next(&mut self, low: u64, high: u64, outside: Refusal) -> Result<u64, Refusal> {
+        let begin = self.at;
+        let number = number::read(self.bytes, begin).map_err(|fault| match fault {
+            Fault::Ends => Refusal::job_ends(begin),
+            Fault::Form => Refusal::number_form(begin),
+        })?;
+        if number.value < low || number.value > high {
+            return Err(outside);
+        }
+        self.at = number.next;
+        Ok(number.value)
+    }
+}

@@ -1,0 +1,20 @@
+//! A plain reading of document 01, to hold the engine against.
+//!
+//! Every part follows the paper's own words and is written for reading. The
+//! parts are public, so that a test can exchange one of them and see whether
+//! it finds the slip.
+
+pub mod approach;
+pub mod calls;
+pub mod envelope;
+pub mod job;
+pub mod level;
+pub mod number;
+pub mod program;
+pub mod refusal;
+pub mod schedule;
+pub mod stretch;
+
+pub use calls::{Lookup, Outcome, lookup, plan, quantity};
+pub use refusal::Refusal;
+pub use stretch::Stretch;

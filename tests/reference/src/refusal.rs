@@ -1,0 +1,64 @@
+//! The refusal table of document 01.
+
+/// What a refused call returns: the number of the refusal and its value.
+#[derive(Clone, Copy, Debug, PartialEq, Eq)]
+pub struct Refusal {
+    pub number: u64,
+    pub value: u64,
+}
+
+impl Refusal {
+    /// 1: the job bytes end before or inside the number that begins here.
+    pub fn job_ends(begin: usize) -> Refusal {
+        refusal(1, begin as u64)
+    }
+
+    /// 2: the number that begins here is not in the number form.
+    pub fn number_form(begin: usize) -> Refusal {
+        refusal(2, begin as u64)
+    }
+
+    /// 3: a header number, 1 to 14, is outside its range.
+    pub fn header_range(header_number: u64) -> Refusal {
+        refusal(3, header_number)
+    }
+
+    /// 4: a field of this hazard is outside its range.
+    pub fn hazard_range(hazard_index: usize) -> Refusal {
+        refusal(4, hazard_index as u64)
+    }
+
+    /// 5: this hazard is reached and stands too near to the barrier.
+    pub fn too_near(hazard_index: usize) -> Refusal {
+        refusal(5, hazard_index as u64)
+    }
+
+    /// 6: this hazard's envelope leaves the road.
+    pub fn off_road(hazard_index: usize) -> Refusal {
+        refusal(6, hazard_index as u64)
+    }
+
+    /// 7: bytes are left over, from here on.
+    pub fn left_over(begin: usize) -> Refusal {
+        refusal(7, begin as u64)
+    }
+
+    /// 8: side above 1, level not 1 to 6, or p > q.
+    pub fn argument() -> Refusal {
+        refusal(8, 0)
+    }
+
+    /// 9: the output is shorter than the bytes needed.
+    pub fn output_short(needed: usize) -> Refusal {
+        refusal(9, needed as u64)
+    }
+
+    /// 10: the schedule is not the writing of a run list.
+    pub fn no_schedule() -> Refusal {
+        refusal(10, 0)
+    }
+}
+
+fn refusal(number: u64, value: u64) -> Refusal {
+    Refusal { number, value }
+}

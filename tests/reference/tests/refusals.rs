@@ -1,0 +1,226 @@
+//! The rows of the refusal table, and their order.
+
+mod common;
+
+use common::*;
+use reference::{Outcome, Refusal, lookup, plan, quantity};
+
+/// Plans both sides into a lent output and checks that nothing was written.
+fn refused(job: &[u8]) -> (u64, u64) {
+    let mut out = [0xAA; 64];
+    let right = plan(job, 0, &mut out).unwrap_err();
+    let left = plan(job, 1, &mut out).unwrap_err();
+    assert_eq!(right, left);
+    assert_eq!(out, [0xAA; 64]);
+    (right.number, right.value)
+}
+
+/// The printed job with the bytes of one number, counted from 0, exchanged.
+fn with_number_bytes(index: usize, replaced: &[u8]) -> (Vec<u8>, usize) {
+    let list = printed().list();
+    let mut job = bytes(&list[..index]);
+    let begin = job.len();
+    job.extend(replaced);
+    job.extend(bytes(&list[index + 1..]));
+    (job, begin)
+}
+
+#[test]
+fn row_1_bytes_end() {
+    let job = printed().bytes();
+    let mut begin = 0;
+    for value in printed().list() {
+        let size = bytes(&[value]).len();
+        for end in begin..begin + size {
+            assert_eq!(refused(&job[..end]), (1, begin as u64));
+        }
+        begin += size;
+    }
+    assert_eq!(begin, job.len());
+}
+
+#[test]
+fn row_2_number_form() {
+    let wrong: [&[u8]; 5] = [
+        &[0x80, 0x00],
+        &[0x81, 0x80, 0x00],
+        &[0x80, 0x80, 0x80, 0x80, 0x10],
+        &[0x80, 0x80, 0x80, 0x80, 0x80],
+        &[0x80, 0x80, 0x80, 0x80, 0x80, 0x00],
+    ];
+    for index in 0..printed().list().len() {
+        for replaced in wrong {
+            let (job, begin) = with_number_bytes(index, replaced);
+            assert_eq!(refused(&job), (2, begin as u64));
+        }
+    }
+}
+
+#[test]
+fn row_2_at_the_very_end() {
+    // A fifth byte with the top bit set is there, so the number is faulty in
+    // form even where the job ends behind it.
+    assert_eq!(refused(&[0x80; 5]), (2, 0));
+    assert_eq!(refused(&[0x80; 4]), (1, 0));
+}
+
+/// Least and greatest value of each header number, with A = 0.
+const HEADER_RANGES: [(u64, u64); 14] = [
+    (1, 1),
+    (0, 1_999_999_999),
+    (1, 2_000_000_000),
+    (1, 200_000),
+    (0, 200_000),
+    (1, 30_000),
+    (0, 20_000),
+    (0, 20_000),
+    (1, 5_000),
+    (1, 100),
+    (0, 10),
+    (0, 100_000),
+    (0, 200_000),
+    (0, 256),
+];
+
+fn header_refusal(no: usize, value: u64) -> Option<u64> {
+    let mut list = printed().hazards(&[]).list();
+    list[no - 1] = value;
+    let refusal = plan(&bytes(&list), 0, &mut [0; 8]).err()?;
+    (refusal.number == 3).then_some(refusal.value)
+}
+
+#[test]
+fn row_3_header_ranges() {
+    for (index, (low, high)) in HEADER_RANGES.into_iter().enumerate() {
+        let no = index + 1;
+        // A at its greatest value leaves the printed B out of range.
+        let greatest = if no == 2 { 999_999 } else { high };
+        assert_eq!(header_refusal(no, low), None, "{no}");
+        assert_eq!(header_refusal(no, greatest), None, "{no}");
+        assert_eq!(header_refusal(no, high + 1), Some(no as u64), "{no}");
+        if low > 0 {
+            assert_eq!(header_refusal(no, low - 1), Some(no as u64), "{no}");
+        }
+    }
+}
+
+#[test]
+fn row_3_road_end_after_begin() {
+    let road = |a, b| printed().hazards(&[]).header(A, a).header(B, b);
+    assert_eq!(road(1_999_999_999, 2_000_000_000).right(), []);
+    assert_eq!(road(2_000_000_000, 2_000_000_000).refused(), (3, 2));
+    assert_eq!(road(500, 500).refused(), (3, 3));
+    assert_eq!(road(500, 501).right(), []);
+}
+
+#[test]
+fn row_4_hazard_ranges() {
+    let road = printed().header(A, 100).header(B, 300_000);
+    let refusal = |field, value| {
+        let first = [0, 200_000, 210_000, 5_000, 9_000, 3];
+        let mut second = first;
+        second[field] = value;
+        let job = road.clone().hazards(&[first, second]);
+        job.runs(0).err().map(|r| (r.number, r.value))
+    };
+    assert_eq!(refusal(SIDE, 1), None);
+    assert_eq!(refusal(SIDE, 2), Some((4, 1)));
+    assert_eq!(refusal(S, 100), Some((6, 1)), "in range, but off the road");
+    assert_eq!(refusal(S, 99), Some((4, 1)));
+    assert_eq!(refusal(S, 300_000), Some((4, 1)));
+    assert_eq!(refusal(E, 200_001), None);
+    assert_eq!(refusal(E, 200_000), Some((4, 1)));
+    assert_eq!(refusal(E, 300_000), None);
+    assert_eq!(refusal(E, 300_001), Some((4, 1)));
+    assert_eq!(refusal(N, 0), Some((5, 1)), "in range, but too near");
+    assert_eq!(refusal(N, 60_001), Some((4, 1)));
+    assert_eq!(refusal(F, 5_000), None);
+    assert_eq!(refusal(F, 4_999), Some((4, 1)));
+    assert_eq!(refusal(F, 60_000), None);
+    assert_eq!(refusal(F, 60_001), Some((4, 1)));
+    assert_eq!(refusal(LEVEL, 1), None);
+    assert_eq!(refusal(LEVEL, 6), None);
+    assert_eq!(refusal(LEVEL, 0), Some((4, 1)));
+    assert_eq!(refusal(LEVEL, 7), Some((4, 1)));
+}
+
+const GOOD: [u64; 6] = [0, 200_000, 210_000, 5_000, 9_000, 3];
+const NEAR: [u64; 6] = [1, 200_000, 210_000, 3_999, 9_000, 3];
+const OFF: [u64; 6] = [1, 1_000, 210_000, 5_000, 9_000, 3];
+const NEAR_AND_OFF: [u64; 6] = [0, 1_000, 210_000, 3_999, 9_000, 3];
+
+#[test]
+fn rows_5_and_6() {
+    let with = |list: &[[u64; 6]]| printed().hazards(list).refused();
+    assert_eq!(with(&[GOOD, NEAR]), (5, 1));
+    assert_eq!(with(&[GOOD, OFF]), (6, 1));
+    assert_eq!(with(&[GOOD, NEAR_AND_OFF]), (5, 1));
+    // Hazards in order: the first that has a refusal.
+    assert_eq!(with(&[OFF, NEAR]), (6, 0));
+    assert_eq!(with(&[NEAR, OFF]), (5, 0));
+}
+
+#[test]
+fn nobody_reaches_nothing_is_refused() {
+    // Neither too near nor off the road, for it has no envelope.
+    let job = printed().header(C, 3_000).hazards(&[NEAR_AND_OFF]);
+    assert_eq!(job.right(), []);
+}
+
+#[test]
+fn row_7_before_5_and_6() {
+    let mut job = printed().hazards(&[NEAR, OFF]).bytes();
+    let length = job.len() as u64;
+    job.push(0x80);
+    assert_eq!(refused(&job), (7, length));
+}
+
+#[test]
+fn row_8_comes_first() {
+    let mut out = [0xAA; 4];
+    let refusal = Err(Refusal {
+        number: 8,
+        value: 0,
+    });
+    assert_eq!(plan(&[], 2, &mut out), refusal);
+    assert_eq!(plan(&printed().bytes(), u64::MAX, &mut out), refusal);
+    assert_eq!(out, [0xAA; 4]);
+    assert_eq!(quantity(&[], 0, 0, 0), refusal);
+    assert_eq!(quantity(&[0], 7, 0, 0), refusal);
+    assert_eq!(quantity(&[0], 1, 1, 0), refusal);
+}
+
+#[test]
+fn row_9_output_short() {
+    let job = printed().bytes();
+    let refusal = Err(Refusal {
+        number: 9,
+        value: 8,
+    });
+    for length in 0..8 {
+        let mut out = vec![0xAA; length];
+        assert_eq!(plan(&job, 0, &mut out), refusal);
+        assert_eq!(out, vec![0xAA; length]);
+    }
+    assert_eq!(plan(&job, 0, &mut [0; 8]), Ok(8));
+}
+
+#[test]
+fn row_9_comes_last() {
+    let job = printed().hazards(&[NEAR]).bytes();
+    let refusal = plan(&job, 0, &mut []).unwrap_err();
+    assert_eq!((refusal.number, refusal.value), (5, 0));
+}
+
+#[test]
+fn row_10_of_the_asked_side() {
+    let bad = [0x01];
+    let good = [0x00];
+    let outcome = |side| lookup(&bad, &good, side, 0).outcome;
+    let refusal = |number| Outcome::Refused(Refusal { number, value: 0 });
+    assert_eq!(outcome(0), refusal(10));
+    assert_eq!(outcome(1), Outcome::None);
+    assert_eq!(outcome(2), refusal(8));
+    assert_eq!(quantity(&bad, 1, 0, 1).unwrap_err().number, 10);
+    assert_eq!(quantity(&good, 1, 0, 1), Ok(0));
+}

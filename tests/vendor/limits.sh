@@ -1,0 +1,45 @@
+#!/bin/sh
+# The header's greatest sizes are attained: the longest accepted job, and a
+# schedule of 511 runs.
+set -eu
+tmp=$(mktemp -d)
+trap 'rm -rf "$tmp"' EXIT
+
+constant() {
+    awk -v name="$1" '$1 == "#define" && $2 == name { print $3 }' include/barrier.h
+}
+fail() {
+    echo "limits: $1" >&2
+    exit 1
+}
+header() {
+    echo "runout-forward $1
+        runout-opposite 20000
+        clear-zone 30000
+        centreline 20000
+        barrier-offset 20000
+        deflection 5000
+        flare 100 0
+        straight 100000
+        continuity $2"
+}
+
+# Every number as long as its range lets it be. The hazards stand outside the
+# clear zone, so nothing else is wrong with the job.
+{
+    echo "road 1000000000 2000000000"
+    header 200000 200000
+    awk 'BEGIN { for (i = 0; i < 256; i++) print "hazard right 1000000000 2000000000 60000 60000 6" }'
+} | "$BUILD/jobtext" >"$tmp/longest"
+[ "$(wc -c <"$tmp/longest")" -eq "$(constant BARRIER_JOB_LONGEST)" ] || fail "the longest job"
+[ "$("$BUILD/listing" <"$tmp/longest")" = "total 0 0" ] || fail "the longest job is not accepted"
+
+# One long low run with 255 short high ones in it.
+{
+    echo "road 0 2000000000"
+    header 1 0
+    echo "hazard right 1000000 1900000000 25000 30000 1"
+    awk 'BEGIN { for (i = 1; i < 256; i++) print "hazard right", i * 7000000, i * 7000000 + 3000000, 25000, 30000, 2 }'
+} | "$BUILD/jobtext" | "$BUILD/listing" >"$tmp/runs"
+[ "$(grep -c '^R' "$tmp/runs")" -eq "$(constant BARRIER_RUNS_MAX)" ] || fail "511 runs"
+echo "limits: the longest job is accepted, 511 runs are planned"
