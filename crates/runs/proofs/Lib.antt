@@ -2,8 +2,11 @@ pub mod LevelLaws
 pub mod GapLaws
 pub mod RunLaws
 pub mod RequiredLaws
-pub mod WalkLaws
-pub mod FillLaws
+pub mod BreakLaws
+pub mod RoomLaws
 pub mod SweepLaws
-pub mod StoreLaws
-pub mod BuildLaws
+pub mod StandLaws
+pub mod PlaceLaws
+pub mod SweptLaws
+pub mod SortLaws
+pub mod KeyLaws

@@ -103,35 +103,34 @@ points-length (e ∷ es) =
     let c = points-length es in
     omega arith
 
-pub points-start : {e : Stretch} {es : List Stretch} → List·Memᴰ e es → List·Memᴰ (e .start) (endPoints es)
+points-start : {e : Stretch} {es : List Stretch} → List·Memᴰ e es → List·Memᴰ (e .start) (endPoints es)
 unfolding endPoints
 points-start {e} (List·Memᴰ·head {x = x} {xs = xs} q) = rw q (insert-self (x .start) (insert (x .end) (endPoints xs)))
 points-start {e} (List·Memᴰ·tail {x = x} {xs = xs} m) = insert-keeps (x .start) (insert-keeps (x .end) (points-start m))
 
-pub points-end : {e : Stretch} {es : List Stretch} → List·Memᴰ e es → List·Memᴰ (e .end) (endPoints es)
+points-end : {e : Stretch} {es : List Stretch} → List·Memᴰ e es → List·Memᴰ (e .end) (endPoints es)
 unfolding endPoints
 points-end {e} (List·Memᴰ·head {x = x} {xs = xs} q) = rw q (insert-keeps (x .start) (insert-self (x .end) (endPoints xs)))
 points-end {e} (List·Memᴰ·tail {x = x} {xs = xs} m) = insert-keeps (x .start) (insert-keeps (x .end) (points-end m))
 
--- What holds of every start and every end holds of every end point.
-pub points-all : (P : ℕ → Type 0) (es : List Stretch) → ((e : Stretch) → List·Memᴰ e es → P (e .start) × P (e .end)) → (x : ℕ) → List·Memᴰ x (endPoints es) → P x
+points-bounded : (n : ℕ) (es : List Stretch) → Proper es → EndsBy n es → (x : ℕ) → List·Memᴰ x (endPoints es) → x ≤ n
 unfolding endPoints
-points-all P [] h x m = absurd (List·Memᴰ·not-nil m)
-points-all P (e ∷ es) h x m = go (insert-only (e .start) x _ m) (points-all P es (λ f k. h f (List·Memᴰ·tail k)) x)
+points-bounded n [] proper by x m = absurd (List·Memᴰ·not-nil m)
+points-bounded n (e ∷ es) proper by x m = go (insert-only (e .start) x _ m) (points-bounded n es (λ f k. proper f (List·Memᴰ·tail k)) (λ f k. by f (List·Memᴰ·tail k)) x)
   where
-    here : P (e .start) × P (e .end)
-    here = h e (List·Memᴰ·head refl)
+    p : e .start < e .end
+    p = proper e (List·Memᴰ·head refl)
 
-    inner : (x ≡ e .end) ⊎ List·Memᴰ x (endPoints es) → (List·Memᴰ x (endPoints es) → P x) → P x
-    inner (inl q) r = rw q (here .1)
+    b : e .end ≤ n
+    b = by e (List·Memᴰ·head refl)
+
+    inner : (x ≡ e .end) ⊎ List·Memᴰ x (endPoints es) → (List·Memᴰ x (endPoints es) → x ≤ n) → x ≤ n
+    inner (inl q) r = omega (arith, b)
     inner (inr k) r = r k
 
-    go : (x ≡ e .start) ⊎ List·Memᴰ x (insert (e .end) (endPoints es)) → (List·Memᴰ x (endPoints es) → P x) → P x
-    go (inl q) r = rw q (here .0)
+    go : (x ≡ e .start) ⊎ List·Memᴰ x (insert (e .end) (endPoints es)) → (List·Memᴰ x (endPoints es) → x ≤ n) → x ≤ n
+    go (inl q) r = omega (arith, p, b)
     go (inr k) r = inner (insert-only (e .end) x _ k) r
-
-pub points-bounded : (n : ℕ) (es : List Stretch) → Proper es → EndsBy n es → (x : ℕ) → List·Memᴰ x (endPoints es) → x ≤ n
-points-bounded n es proper by = points-all (λ (x : ℕ). x ≤ n) es (λ e m. (omega (arith, proper e m, by e m), by e m))
 
 -- Between two stations with no end point in between the filled sets are the same.
 module _ (es : List Stretch) (G p t : ℕ) (le : p ≤ t) (clear : (x : ℕ) → List·Memᴰ x (endPoints es) → (x ≤ p) ⊎ (t < x)) where

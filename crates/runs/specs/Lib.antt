@@ -2,4 +2,7 @@ pub mod Level
 pub mod RunList
 pub mod Required
 pub mod Stored
-pub mod Sweep
+pub mod Breaks
+pub mod Stand
+pub mod Steps
+pub mod Sorted

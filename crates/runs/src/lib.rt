@@ -1,5 +1,7 @@
 // Levels: envelopes, the level that they require at each millimetre, and its runs, by value.
 pub mod required;
+mod sort;
+mod sweep;
 
 // The millimetres [start, end) at a containment level.
 pub struct Stretch {

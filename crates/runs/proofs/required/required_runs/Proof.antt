@@ -1,52 +1,56 @@
--- `required::required_runs`: the sweep at each boundary, and its end, where the runs are the required ones.
+-- `runs::required::required_runs` meets its contract: the keys of the stored envelopes, sorted, are those of the same envelopes.
 -- Assumes nothing.
-use Prim.Native.Nat.{_-_, _<_}
-use mathlib.Core.Path.{refl}
+use Prim.Native.Nat.{_-_, _≤_}
+use native.Mathlib.Omega.{arith}
+use mathlib.Core.Path.{_≡_, refl, _∙_}
+use lib.ListN.{length, length-map}
+use Rattle.runs.proofs.KeyLaws.{Keyed, keyed-none, keyed-turn, sortable, sweepable, stored-runs, stored-required}
 use borrow.Author.Needs.{needs}
-use Rattle.runs.specs.RunList.{runsTo}
-use Rattle.runs.specs.Sweep.{noStation}
-use Rattle.runs.proofs.BuildLaws.{Sweeping, sweep-start, sweep-on, sweep-room, sweep-turn, sweep-end}
 use Rattle.runs.proofs.required.required_runs.Statement.{statement}
 use Rattle.runs.proofs.required.required_runs.Tie as tie
 
 abbrev Inv-loop : tie.InvT-loop
-Inv-loop envelopes continuity list₀ t₀ next₀ list t next = Sweeping envelopes continuity list t next
+Inv-loop continuity envelopes keys₀ ends₀ count i₀ keys ends i = (i ≤ count) × (length keys ≡ 256) × (length ends ≡ 256) × Keyed (envelopes .stretches) keys ends i
 
 abbrev μ-loop : tie.MeasureT-loop
-μ-loop envelopes continuity list₀ t₀ next₀ list t next = noStation - t
+μ-loop continuity envelopes keys₀ ends₀ count i₀ keys ends i = count - i
 
-loop-holds : tie.Need-loop-holds Inv-loop μ-loop
-unfolding runsTo
-loop-holds c =
-    let start = c .before in
-    sweep-start (start .args .envelopes) (start .args .continuity) (start .pre) _ (c .next-boundary .result) refl refl (c .next-boundary .ensures)
+full : (c : tie.Start Inv-loop μ-loop) → length (c .args .t1 .stretches) ≡ 256
+full c = simp length-map at (c .good .0 .1 .1 .1 .0 .1 .0 .1)
 
-appended-requires : tie.Need-appended-requires Inv-loop μ-loop
-appended-requires c κs =
-    let start = c .before .before .before .before in
-    let l = c .before .before .loop in
-    sweep-room (start .args .envelopes) (start .args .continuity) (start .pre) (l .list) (l .t) (l .next) (l .inv) (c .before .loop-test .taken)
-
-loop-less : tie.Need-loop-less Inv-loop μ-loop
-loop-less c =
-    let start = c .before .before .before .before .before .before in
-    let l = c .before .before .before .before .loop in
-    let on : l .t < l .next = sweep-on (start .args .envelopes) (start .args .continuity) (start .pre) (l .list) (l .t) (l .next) (l .inv) (c .before .before .before .loop-test .taken) in
-    search needs
+-- After the loop all keys stand.
+all-keyed : (c : tie.After-loop Inv-loop μ-loop) → Keyed (c .before .before .args .t1 .stretches) (c .before .loop .keys) (c .before .loop .ends) (c .before .before .args .t1 .count)
+all-keyed c =
+    let l = c .before .loop in
+    let same : l .i ≡ c .before .before .args .t1 .count = omega (arith, l .inv .0, c .loop-test .left) in
+    rw same at (l .inv .3)
 
 loop-again : tie.Need-loop-again Inv-loop μ-loop
 loop-again c =
+    let l = c .before .before .before .loop in
+    let start = c .before .before .before .before in
+    (omega arith, search needs, search needs, rw (c .key-of .ensures) (keyed-turn (start .args .t1 .stretches) (l .keys) (l .ends) (l .i) (l .inv .3) (omega (arith, start .pre .count)) (omega (arith, start .pre .count))))
+
+sort-requires : tie.Need-sort-requires Inv-loop μ-loop
+sort-requires c κs =
+    let l = c .before .before .loop in
+    let start = c .before .before .before in
+    sortable (start .args .t1) (start .pre) (full start) (l .keys) (l .ends) (start .args .t1 .count) refl (all-keyed (c .before)) (l .inv .1) (l .inv .2)
+
+swept-runs-requires : tie.Need-swept-runs-requires Inv-loop μ-loop
+swept-runs-requires c κs =
+    let l = c .before .before .before .before .before .loop in
     let start = c .before .before .before .before .before .before in
-    let l = c .before .before .before .before .loop in
-    let level = c .before .before .level-at in
-    sweep-turn (start .args .envelopes) (start .args .continuity) (start .pre) (l .list) (l .t) (l .next) (l .inv) (c .before .appended .result) (level .result) (c .next-boundary2 .result)
-    (level .ensures) (c .before .appended .ensures) (c .next-boundary2 .ensures) (c .before .before .before .loop-test .taken)
+    let sorting = c .before .before .sort in
+    sweepable (start .args .t1) (start .pre) (full start) (l .keys) (l .ends) (start .args .t1 .count) refl (all-keyed (c .before .before .before .before)) (l .inv .1) (l .inv .2) _ (sorting .ensures)
 
 returns : tie.Need-returns Inv-loop μ-loop
 returns c =
-    let start = c .before .before .before in
-    let l = c .before .loop in
-    sweep-end (start .args .envelopes) (start .args .continuity) (start .pre) (l .list) (l .t) (l .next) (l .inv) (c .loop-test .left)
+    let l = c .before .before .before .before .before .before .loop in
+    let start = c .before .before .before .before .before .before .before in
+    let sorting = c .before .before .before .sort in
+    stored-required (start .args .t1) (start .pre) (full start) (start .args .continuity) (c .swept-runs .result) (c .swept-runs .ensures
+    ∙ stored-runs (start .args .t1) (start .pre) (full start) (l .keys) (l .ends) (start .args .t1 .count) refl (all-keyed (c .before .before .before .before .before)) (l .inv .1) (l .inv .2) _ (sorting .ensures) (start .args .continuity))
 
 pub required-runs-spec : {M : Type 1} → statement M
 required-runs-spec =
@@ -54,11 +58,19 @@ required-runs-spec =
     (tie.spec
     Inv-loop
     μ-loop
+    (λ c. (omega arith, refl, refl, keyed-none (c .args .t1 .stretches) _ _))
+    (λ c. search needs)
+    (λ c. search needs)
     (λ c κs. search needs)
-    loop-holds
-    (λ c κs. search needs)
-    appended-requires
-    (λ c κs. search needs)
-    loop-less
+    (λ c. search needs)
+    (λ c. search needs)
+    (λ c. search needs)
+    (λ c. search needs)
+    (λ c. search needs)
+    (λ c. search needs)
     loop-again
+    sort-requires
+    (λ c. search needs)
+    (λ c. search needs)
+    swept-runs-requires
     returns)

@@ -1,0 +1,169 @@
+-- Keys of stored envelopes: what stands in the arrays, and that sorting the keys keeps the required runs.
+-- Assumes nothing.
+use Prim.Native.Nat.{ℕ, zero, suc, _+_, _-_, _/_, _%_, _≤_, _<_}
+use native.Mathlib.Omega.{arith}
+use native.Mathlib.Nat.{le-of-suc-le-suc}
+use native.Mathlib.Decide.{decLt}
+use mathlib.Core.Path.{_≡_, refl, sym, ap, _∙_}
+use mathlib.Core.Logic.{_⊎_, inl, inr}
+use mathlib.Core.List.{List, [], _∷_, List·Memᴰ, List·Memᴰ·head, List·Memᴰ·tail, List·Memᴰ·cases-cons, List·Memᴰ·not-nil, Memᴰ·cast}
+use lib.ListN.{length, getD, set, take}
+use lib.Seq.{getD-set-same, getD-set-other, length-take-le}
+use Rattle.runs.specs.declared.Stretch.{Stretch}
+use Rattle.runs.specs.declared.Envelopes.{Envelopes}
+use Rattle.runs.specs.Level.{requiredLevel}
+use Rattle.runs.specs.declared.RunList.{RunList}
+use Rattle.runs.specs.RunList.{mostRuns, runsOf, envelopesOf}
+use Rattle.runs.specs.Required.{requiredRuns}
+use Rattle.runs.specs.Stored.{StoredEnvelopes, RequiredRuns}
+use Rattle.runs.specs.Sorted.{Sortable, Sorted}
+use Rattle.runs.specs.Stand.{Sound, AllSound}
+use Rattle.runs.specs.Steps.{keyOf, envelopeOf, envelopesTo, Sweepable}
+use Rattle.runs.proofs.GapLaws.{required-more}
+use Rattle.runs.proofs.RunLaws.{stretch-path}
+use Rattle.runs.proofs.RequiredLaws.{RunsOf, required-runs, runs-of-unique}
+use Rattle.runs.proofs.PlaceLaws.{runs-length}
+use Rattle.runs.proofs.SweptLaws.{few-runs}
+
+-- Where a member of the first n entries stands.
+module _ {A : Type 0} where
+  record Placed (x : A) (n : ℕ) (l : List A) (d : A) : Type 0 where
+    at : ℕ
+    below : at < n
+    inside : at < length l
+    is : x ≡ getD l at d
+
+  placed : {x : A} (n : ℕ) (l : List A) (d : A) → List·Memᴰ x (take n l) → Placed x n l d
+  placed zero l d m = absurd (List·Memᴰ·not-nil m)
+  placed (suc n) [] d m = absurd (List·Memᴰ·not-nil m)
+  placed (suc n) (x ∷ xs) d (List·Memᴰ·head e) = record { at = 0; below = omega arith; inside = omega arith; is = e }
+  placed (suc n) (x ∷ xs) d (List·Memᴰ·tail m) =
+      let p = placed n xs d m in
+      record { at = suc (p .at); below = omega (arith, p .below); inside = omega (arith, p .inside); is = p .is }
+
+  among : (l : List A) (n i : ℕ) (d : A) → i < n → i < length l → List·Memᴰ (getD l i d) (take n l)
+  among l zero i d h k = absurd (omega arith)
+  among [] (suc n) i d h k = absurd (omega arith)
+  among (x ∷ xs) (suc n) zero d h k = List·Memᴰ·head refl
+  among (x ∷ xs) (suc n) (suc i) d h k = List·Memᴰ·tail (among xs n i d (le-of-suc-le-suc h) (le-of-suc-le-suc k))
+
+-- Lists with the same members have the same required runs.
+pub same-runs : (es fs : List Stretch) (G : ℕ) → AllSound es → AllSound fs → ((e : Stretch) → List·Memᴰ e es → List·Memᴰ e fs) → ((e : Stretch) → List·Memᴰ e fs → List·Memᴰ e es) → requiredRuns es G ≡ requiredRuns fs G
+same-runs es fs G p q to from = runs-of-unique (requiredRuns es G) (requiredRuns fs G) (record { rising = r .rising; shows = λ t. r .shows t ∙ level t }) (required-runs fs G (λ e m. q e m .long) (λ e m. q e m .ends))
+  where
+    r : RunsOf (requiredLevel es G) (requiredRuns es G)
+    r = required-runs es G (λ e m. p e m .long) (λ e m. p e m .ends)
+
+    level : (t : ℕ) → requiredLevel es G t ≡ requiredLevel fs G t
+    level t = omega (arith, required-more es fs G t to, required-more fs es G t from)
+
+-- The envelopes of keys.
+envelope-at : (keys ends : List ℕ) (n i : ℕ) → i < n → List·Memᴰ (envelopeOf ends (getD keys i 0)) (envelopesTo keys ends n)
+unfolding envelopesTo
+envelope-at keys ends zero i h = absurd (omega arith)
+envelope-at keys ends (suc n) i h = go (decLt i n) (envelope-at keys ends n i)
+  where
+    go : Dec (i < n) → (i < n → List·Memᴰ (envelopeOf ends (getD keys i 0)) (envelopesTo keys ends n)) → List·Memᴰ (envelopeOf ends (getD keys i 0)) (envelopesTo keys ends (suc n))
+    go (yes l) r = List·Memᴰ·tail (r l)
+    go (no l) r = List·Memᴰ·head (ap (λ (j : ℕ). envelopeOf ends (getD keys j 0)) (let e : i ≡ n = omega arith in e))
+
+record KeyAt (keys ends : List ℕ) (n : ℕ) (x : Stretch) : Type 0 where
+  at : ℕ
+  below : at < n
+  is : x ≡ envelopeOf ends (getD keys at 0)
+
+key-at : (keys ends : List ℕ) (n : ℕ) (x : Stretch) → List·Memᴰ x (envelopesTo keys ends n) → KeyAt keys ends n x
+unfolding envelopesTo
+key-at keys ends zero x m = absurd (List·Memᴰ·not-nil m)
+key-at keys ends (suc n) x m = go (List·Memᴰ·cases-cons m) (key-at keys ends n x)
+  where
+    go : (x ≡ envelopeOf ends (getD keys n 0)) ⊎ List·Memᴰ x (envelopesTo keys ends n) → (List·Memᴰ x (envelopesTo keys ends n) → KeyAt keys ends n x) → KeyAt keys ends (suc n) x
+    go (inl e) r = record { at = n; below = omega arith; is = e }
+    go (inr k) r = let w = r k in record { at = w .at; below = omega (arith, w .below); is = w .is }
+
+abbrev pub noStretch : Stretch
+noStretch = record { start = 0; end = 0; level = 0 }
+
+-- The keys and ends of the first n stretches stand in two arrays.
+pub record Keyed (stretches : List Stretch) (keys ends : List ℕ) (n : ℕ) : Type 0 where
+  pub key-is : (j : ℕ) → j < n → getD keys j 0 ≡ keyOf (getD stretches j noStretch) j
+  pub end-is : (j : ℕ) → j < n → getD ends j 0 ≡ getD stretches j noStretch .end
+
+pub keyed-none : (stretches : List Stretch) (keys ends : List ℕ) → Keyed stretches keys ends 0
+keyed-none stretches keys ends = record { key-is = λ j h. absurd (omega arith); end-is = λ j h. absurd (omega arith) }
+
+pub keyed-turn : (stretches : List Stretch) (keys ends : List ℕ) (i : ℕ) → Keyed stretches keys ends i → i < length keys → i < length ends
+    → Keyed stretches (set keys i (keyOf (getD stretches i noStretch) i)) (set ends i (getD stretches i noStretch .end)) (i + 1)
+keyed-turn stretches keys ends i k a b = record { key-is = λ j h. key j h (decLt j i); end-is = λ j h. end j h (decLt j i) }
+  where
+    key : (j : ℕ) → j < i + 1 → Dec (j < i) → getD (set keys i (keyOf (getD stretches i noStretch) i)) j 0 ≡ keyOf (getD stretches j noStretch) j
+    key j h (yes l) = getD-set-other keys i j _ 0 (λ z. omega arith) ∙ k .key-is j l
+    key j h (no l) =
+        let z : j ≡ i = omega arith in
+        rw z (getD-set-same keys i _ 0 a)
+
+    end : (j : ℕ) → j < i + 1 → Dec (j < i) → getD (set ends i (getD stretches i noStretch .end)) j 0 ≡ getD stretches j noStretch .end
+    end j h (yes l) = getD-set-other ends i j _ 0 (λ z. omega arith) ∙ k .end-is j l
+    end j h (no l) =
+        let z : j ≡ i = omega arith in
+        rw z (getD-set-same ends i _ 0 b)
+
+pub stored-sound : (e : Envelopes) → StoredEnvelopes e → AllSound (envelopesOf e)
+stored-sound e ok x m = record { long = ok .long x m; ends = ok .ends x m; low = ok .levels x m .0; top = ok .levels x m .1 }
+
+module _ (e : Envelopes) (ok : StoredEnvelopes e) (full : length (e .stretches) ≡ 256) where
+  pub sound-at : (j : ℕ) → j < e .count → Sound (getD (e .stretches) j noStretch)
+  sound-at j h = stored-sound e ok _ (among (e .stretches) (e .count) j noStretch h (omega (arith, ok .count)))
+
+  stored-few : (G : ℕ) → length (requiredRuns (envelopesOf e) G) ≤ mostRuns
+  stored-few G = few-runs (envelopesOf e) G (stored-sound e ok) (omega (arith, length-take-le (e .count) (e .stretches) (omega (arith, ok .count)), ok .count))
+
+  pub stored-required : (G : ℕ) (r : RunList) → runsOf r ≡ requiredRuns (envelopesOf e) G → RequiredRuns e G r
+  stored-required G r p = record { runs = p; count = omega (arith, runs-length (r .starts) (r .ends) (r .levels) (r .count), ap length p, stored-few G) }
+
+  module _ (keys ends : List ℕ) (n : ℕ) (all : n ≡ e .count) (k : Keyed (e .stretches) keys ends n) (key-places : length keys ≡ 256) (end-places : length ends ≡ 256) where
+    pub sortable : Sortable n keys
+    sortable = record {
+      length = key-places;
+      within = omega (arith, ok .count);
+      fit = λ i h. let s = sound-at i (omega arith) in omega (arith, k .key-is i h, s .long, s .ends, s .top, ok .count);
+    }
+
+    decode : (j : ℕ) → j < n → envelopeOf ends (getD keys j 0) ≡ getD (e .stretches) j noStretch
+    decode j h =
+        let s = sound-at j (omega arith) in
+        let q = k .key-is j h in
+        let few = ok .count in
+        let index : getD keys j 0 / 8 % 256 ≡ j = omega (arith, s .top) in
+        stretch-path _ _ (omega (arith, s .top)) (ap (λ (i : ℕ). getD ends i 0) index ∙ k .end-is j h) (omega (arith, s .top))
+
+    module _ (sorted-keys : List ℕ) (sorted : Sorted n keys sorted-keys) where
+      -- The envelope of a sorted key is stored, and the other way round.
+      to : (x : Stretch) → List·Memᴰ x (envelopesTo sorted-keys ends n) → List·Memᴰ x (envelopesOf e)
+      to x m =
+          let w = key-at sorted-keys ends n x m in
+          let p = placed n keys 0 (sorted .same .none-gained _ (among sorted-keys n (w .at) 0 (w .below) (omega (arith, w .below, sorted .same .length, ok .count)))) in
+          let same : x ≡ getD (e .stretches) (p .at) noStretch = w .is ∙ ap (envelopeOf ends) (p .is) ∙ decode (p .at) (p .below) in
+          Memᴰ·cast same (among (e .stretches) (e .count) (p .at) noStretch (omega (arith, p .below)) (omega (arith, p .below, ok .count)))
+
+      from : (x : Stretch) → List·Memᴰ x (envelopesOf e) → List·Memᴰ x (envelopesTo sorted-keys ends n)
+      from x m =
+          let p = placed (e .count) (e .stretches) noStretch m in
+          let q = placed n sorted-keys 0 (sorted .same .none-lost _ (among keys n (p .at) 0 (omega (arith, p .below)) (omega (arith, p .below, ok .count)))) in
+          let same : x ≡ envelopeOf ends (getD sorted-keys (q .at) 0) = p .is ∙ sym (decode (p .at) (omega (arith, p .below))) ∙ ap (envelopeOf ends) (q .is) in
+          Memᴰ·cast same (envelope-at sorted-keys ends n (q .at) (q .below))
+
+      swept-sound : AllSound (envelopesTo sorted-keys ends n)
+      swept-sound x m = stored-sound e ok x (to x m)
+
+      pub sweepable : Sweepable sorted-keys ends n
+      sweepable = record {
+        key-places = sorted .same .length ∙ key-places;
+        end-places = end-places;
+        few = omega (arith, ok .count);
+        rising = sorted .sorted;
+        sound = λ i h. swept-sound _ (envelope-at sorted-keys ends n i h);
+      }
+
+      pub stored-runs : (G : ℕ) → requiredRuns (envelopesTo sorted-keys ends n) G ≡ requiredRuns (envelopesOf e) G
+      stored-runs G = same-runs _ _ G swept-sound (stored-sound e ok) to from

@@ -1,0 +1,173 @@
+-- Break points and runs in arrays: one more, one less, what a store leaves alone.
+-- Assumes nothing.
+use Prim.Native.Nat.{ℕ, zero, suc, _+_, _-_, _≤_, _<_}
+use native.Mathlib.Omega.{arith}
+use native.Mathlib.Numerals.{add-one}
+use native.Mathlib.Decide.{decLe, decLt}
+use mathlib.Core.Path.{_≡_, refl, sym, ap, _∙_}
+use mathlib.Core.Logic.{_≢_}
+use mathlib.Core.Bool.{Bool, true, false}
+use mathlib.Core.List.{List, [], _∷_, _++_}
+use lib.ListN.{length, getD, set, length-append}
+use lib.Seq.{getD-set-same, getD-set-other}
+use lib.Dec.{ltb}
+use borrow.Author.Tests.{le-ltb, lt-leb, le-leb, eq-eqb, ne-eqb}
+use Rattle.refusal.specs.Choice.{if_then_else_}
+use Rattle.runs.specs.declared.Stretch.{Stretch}
+use Rattle.runs.specs.RunList.{runsTo}
+use Rattle.runs.specs.Stand.{bit, raisedTop, Raised}
+use Rattle.runs.specs.Breaks.{Break, levelOf, breaksTo, cut, setFrom, runsBelow}
+
+module _ (starts levels : List ℕ) where
+  pub breaks-last : (k : ℕ) → 0 < k → breaksTo starts levels k ≡ record { start = getD starts (k - 1) 0; level = getD levels (k - 1) 0 } ∷ breaksTo starts levels (k - 1)
+  unfolding breaksTo
+  breaks-last k h =
+      let e : k ≡ suc (k - 1) = omega arith in
+      ap (breaksTo starts levels) e
+
+  pub breaks-length : (k : ℕ) → length (breaksTo starts levels k) ≡ k
+  unfolding breaksTo
+  breaks-length zero = refl
+  breaks-length (suc k) = ap suc (breaks-length k)
+
+  -- A last break point of level 0 begins no run.
+  pub below-last : (e k : ℕ) → levelOf (breaksTo starts levels k) ≡ 0 → runsBelow e (breaksTo starts levels k) ≡ runsBelow (getD starts (k - 1) 0) (breaksTo starts levels (k - 1))
+  unfolding breaksTo runsBelow
+  below-last e zero z = refl
+  below-last e (suc k) z =
+      let q : suc k - 1 ≡ k = omega arith in
+      rw (q, le-ltb 0 (getD levels k 0) (omega arith)) refl
+
+  -- A break point at or after t is cut off; one before t ends the cutting.
+  pub cut-more : (t k : ℕ) → 0 < k → t ≤ getD starts (k - 1) 0 → cut t (breaksTo starts levels k) ≡ cut t (breaksTo starts levels (k - 1))
+  unfolding cut
+  cut-more t k h l = ap (cut t) (breaks-last k h) ∙ rw (le-leb _ _ l)
+
+  pub cut-done : (t k : ℕ) → 0 < k → getD starts (k - 1) 0 < t → cut t (breaksTo starts levels k) ≡ breaksTo starts levels k
+  unfolding cut
+  cut-done t k h l = ap (cut t) (breaks-last k h) ∙ (rw (lt-leb _ _ l)) ∙ sym (breaks-last k h)
+
+  pub cut-none : (t k : ℕ) → k ≤ 0 → cut t (breaksTo starts levels k) ≡ breaksTo starts levels k
+  unfolding breaksTo cut
+  cut-none t k h = let e : k ≡ 0 = omega arith in rw e
+
+  pub level-first : (k : ℕ) → k ≡ 0 → levelOf (breaksTo starts levels k) ≡ 0
+  unfolding breaksTo
+  level-first k e = rw e
+
+  pub level-last-of : (k : ℕ) → 0 < k → levelOf (breaksTo starts levels k) ≡ getD levels (k - 1) 0
+  level-last-of k h = ap levelOf (breaks-last k h)
+
+  -- Stores from k on leave the first k entries alone.
+  breaks-set : (k t v n : ℕ) → n ≤ k → breaksTo (set starts k t) (set levels k v) n ≡ breaksTo starts levels n
+  unfolding breaksTo
+  breaks-set k t v zero h = refl
+  breaks-set k t v (suc n) h =
+      let ne : n ≢ k = λ e. omega arith in
+      rw (getD-set-other starts k n t 0 ne, getD-set-other levels k n v 0 ne) (ap (λ (r : List Break). record { start = getD starts n 0; level = getD levels n 0 } ∷ r) (breaks-set k t v n (omega arith)))
+
+  pub breaks-push : (k t v : ℕ) → k < length starts → k < length levels → breaksTo (set starts k t) (set levels k v) (k + 1) ≡ record { start = t; level = v } ∷ breaksTo starts levels k
+  unfolding breaksTo
+  breaks-push k t v h l =
+      rw (add-one k, getD-set-same starts k t 0 h, getD-set-same levels k v 0 l) (ap (λ (r : List Break). record { start = t; level = v } ∷ r) (breaks-set k t v k (omega arith)))
+
+  -- The level from t on is v already; or it is set.
+  pub set-same : (t v k count : ℕ) → breaksTo starts levels k ≡ cut t (breaksTo starts levels count) → levelOf (breaksTo starts levels k) ≡ v → breaksTo starts levels k ≡ setFrom t v (breaksTo starts levels count)
+  unfolding setFrom
+  set-same t v k count e l = rw (← e, eq-eqb _ _ l)
+
+  pub set-push : (t v k count : ℕ) → breaksTo starts levels k ≡ cut t (breaksTo starts levels count) → levelOf (breaksTo starts levels k) ≢ v → k < length starts → k < length levels
+      → breaksTo (set starts k t) (set levels k v) (k + 1) ≡ setFrom t v (breaksTo starts levels count)
+  unfolding setFrom
+  set-push t v k count e n h l = rw (← e, ne-eqb _ _ n) (breaks-push k t v h l)
+
+-- The runs in arrays, while they are made from break points in arrays.
+pub runs-length : (starts ends levels : List ℕ) (k : ℕ) → length (runsTo starts ends levels k) ≡ k
+unfolding runsTo
+runs-length starts ends levels zero = refl
+runs-length starts ends levels (suc k) =
+    let r : Stretch = record { start = getD starts k 0; end = getD ends k 0; level = getD levels k 0 } in
+    let a = length-append (runsTo starts ends levels k) (r ∷ []) in
+    let b = runs-length starts ends levels k in
+    omega arith
+
+runs-set : (starts ends levels : List ℕ) (k s e v n : ℕ) → n ≤ k → runsTo (set starts k s) (set ends k e) (set levels k v) n ≡ runsTo starts ends levels n
+unfolding runsTo
+runs-set starts ends levels k s e v zero h = refl
+runs-set starts ends levels k s e v (suc n) h =
+    let ne : n ≢ k = λ z. omega arith in
+    rw (getD-set-other starts k n s 0 ne, getD-set-other ends k n e 0 ne, getD-set-other levels k n v 0 ne)
+    (ap (λ (r : List Stretch). r ++ record { start = getD starts n 0; end = getD ends n 0; level = getD levels n 0 } ∷ []) (runs-set starts ends levels k s e v n (omega arith)))
+
+runs-push : (starts ends levels : List ℕ) (k s e v : ℕ) → k < length starts → k < length ends → k < length levels
+    → runsTo (set starts k s) (set ends k e) (set levels k v) (k + 1) ≡ runsTo starts ends levels k ++ record { start = s; end = e; level = v } ∷ []
+unfolding runsTo
+runs-push starts ends levels k s e v a b c =
+    rw (add-one k, getD-set-same starts k s 0 a, getD-set-same ends k e 0 b, getD-set-same levels k v 0 c)
+    (ap (λ (r : List Stretch). r ++ record { start = s; end = e; level = v } ∷ []) (runs-set starts ends levels k s e v k (omega arith)))
+
+module _ (starts levels : List ℕ) where
+  -- One break point more, and its run where its level is not 0.
+  pub runs-turn : (rs re rl : List ℕ) (k i e d : ℕ) → runsTo rs re rl k ≡ runsBelow (getD starts i 0) (breaksTo starts levels i) → k < length rs → k < length re → k < length rl → d ≡ bit (ltb 0 (getD levels i 0))
+      → runsTo (set rs k (getD starts i 0)) (set re k e) (set rl k (getD levels i 0)) (k + d) ≡ runsBelow e (breaksTo starts levels (i + 1))
+  unfolding breaksTo runsBelow
+  runs-turn rs re rl k i e d h a b c q = rw (add-one i, q) (go (ltb 0 (getD levels i 0)))
+    where
+      go : (f : Bool) → runsTo (set rs k (getD starts i 0)) (set re k e) (set rl k (getD levels i 0)) (k + bit f)
+          ≡ (if f then runsBelow (getD starts i 0) (breaksTo starts levels i) ++ record { start = getD starts i 0; end = e; level = getD levels i 0 } ∷ [] else runsBelow (getD starts i 0) (breaksTo starts levels i))
+      go true = runs-push rs re rl k (getD starts i 0) e (getD levels i 0) a b c ∙ ap (λ (r : List Stretch). r ++ record { start = getD starts i 0; end = e; level = getD levels i 0 } ∷ []) h
+      go false =
+          let z : k + 0 ≡ k = omega arith in
+          rw z (runs-set rs re rl k (getD starts i 0) e (getD levels i 0) k (omega arith) ∙ h)
+
+  below-length : (e n : ℕ) → length (runsBelow e (breaksTo starts levels (suc n))) ≡ length (runsBelow (getD starts n 0) (breaksTo starts levels n)) + bit (ltb 0 (getD levels n 0))
+  unfolding breaksTo runsBelow
+  below-length e n = go (ltb 0 (getD levels n 0))
+    where
+      go : (f : Bool) → length (if f then runsBelow (getD starts n 0) (breaksTo starts levels n) ++ record { start = getD starts n 0; end = e; level = getD levels n 0 } ∷ [] else runsBelow (getD starts n 0) (breaksTo starts levels n))
+          ≡ length (runsBelow (getD starts n 0) (breaksTo starts levels n)) + bit f
+      go true = length-append (runsBelow (getD starts n 0) (breaksTo starts levels n)) (record { start = getD starts n 0; end = e; level = getD levels n 0 } ∷ [])
+      go false = omega arith
+
+  runs-grow : (n i e f : ℕ) → i ≤ n → length (runsBelow e (breaksTo starts levels i)) ≤ length (runsBelow f (breaksTo starts levels n))
+  unfolding breaksTo runsBelow
+  runs-grow zero i e f h = let z : i ≡ 0 = omega arith in rw z (omega arith)
+  runs-grow (suc n) i e f h = go (decLe i n) (runs-grow n i e (getD starts n 0))
+    where
+      go : Dec (i ≤ n) → (i ≤ n → length (runsBelow e (breaksTo starts levels i)) ≤ length (runsBelow (getD starts n 0) (breaksTo starts levels n))) → length (runsBelow e (breaksTo starts levels i)) ≤ length (runsBelow f (breaksTo starts levels (suc n)))
+      go (yes l) r = omega (arith, r l, below-length f n)
+      go (no l) r =
+          let z : i ≡ suc n = omega arith in
+          rw z (omega (arith, below-length e n, below-length f n))
+
+  -- The runs so far are no more than all.
+  pub runs-room : (rs re rl : List ℕ) (k i n most : ℕ) → runsTo rs re rl k ≡ runsBelow (getD starts i 0) (breaksTo starts levels i) → i ≤ n → length (runsBelow (getD starts n 0) (breaksTo starts levels n)) ≤ most → k ≤ most
+  runs-room rs re rl k i n most h l m =
+      omega (arith, runs-length rs re rl k, ap length h, runs-grow n i (getD starts i 0) (getD starts n 0) l)
+
+-- The tops, raised one after the other.
+pub record Raising (l e v : ℕ) (old new : List ℕ) : Type 0 where
+  pub passed : (w : ℕ) → w < v → getD new w 0 ≡ raisedTop l e w (getD old w 0)
+  pub ahead : (w : ℕ) → v ≤ w → getD new w 0 ≡ getD old w 0
+
+pub raising-none : (l e : ℕ) (tops : List ℕ) → Raising l e 0 tops tops
+raising-none l e tops = record { passed = λ w h. absurd (omega arith); ahead = λ w h. refl }
+
+pub raising-turn : (l e v x : ℕ) (old new : List ℕ) → Raising l e v old new → v < length new → x ≡ raisedTop l e v (getD new v 0) → Raising l e (v + 1) old (set new v x)
+raising-turn l e v x old new r h q = record {
+  passed = λ w k. pick w (decLt w v) k;
+  ahead = λ w k. getD-set-other new v w x 0 (λ z. omega arith) ∙ r .ahead w (omega arith);
+}
+  where
+    pick : (w : ℕ) → Dec (w < v) → w < v + 1 → getD (set new v x) w 0 ≡ raisedTop l e w (getD old w 0)
+    pick w (yes k) m = getD-set-other new v w x 0 (λ z. omega arith) ∙ r .passed w k
+    pick w (no k) m =
+        let z : w ≡ v = omega arith in
+        rw z (getD-set-same new v x 0 h ∙ q ∙ ap (raisedTop l e v) (r .ahead v (omega arith)))
+
+pub raising-end : (l e v : ℕ) (old new : List ℕ) → Raising l e v old new → l < v → Raised l e old new
+raising-end l e v old new r h w = go (decLt w v)
+  where
+    go : Dec (w < v) → getD new w 0 ≡ raisedTop l e w (getD old w 0)
+    go (yes k) = r .passed w k
+    go (no k) = rw (lt-leb w l (omega arith)) (r .ahead w (omega arith))

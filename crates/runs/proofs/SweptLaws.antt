@@ -1,0 +1,80 @@
+-- The sweep over keys: where it stands before the first envelope, after one more, after the last.
+-- Assumes nothing.
+use Prim.Native.Nat.{ℕ, zero, suc, _+_, _-_, _*_, _/_, _%_, _≤_, _<_}
+use native.Mathlib.Omega.{arith}
+use native.Mathlib.Numerals.{add-one}
+use mathlib.Core.Path.{_≡_, refl, sym, ap, _∙_}
+use mathlib.Core.List.{List}
+use lib.ListN.{length, getD, replicate}
+use lib.Dec.{leb}
+use borrow.Author.Tests.{leb-true}
+use Rattle.refusal.proofs.TestLaws.{and-left}
+use Rattle.runs.specs.declared.Stretch.{Stretch}
+use Rattle.runs.specs.Breaks.{Break, breaksTo, runsBelow}
+use Rattle.runs.specs.Stand.{AllSound, Raised, distinctTo, Stands}
+use Rattle.runs.specs.Steps.{Places, Room, Stepped, envelopesTo, Sweepable, Swept}
+use Rattle.runs.specs.Required.{requiredRuns}
+use Rattle.runs.specs.RunList.{lastStation, mostRuns, isRunList}
+use Rattle.runs.proofs.RequiredLaws.{required-runs, required-run-list, runs-of-unique}
+use Rattle.runs.proofs.StandLaws.{tops-fall, level-small, stands-first, stands-last, last-zero}
+use Rattle.runs.proofs.PlaceLaws.{breaks-length, below-last}
+
+pub zeros : (n v : ℕ) → _≡_ {A = ℕ} (getD (replicate n 0) v 0) 0
+zeros zero v = refl
+zeros (suc n) zero = refl
+zeros (suc n) (suc v) = zeros n v
+
+-- A sweep that is past the first i envelopes, and not past the start of a later one.
+pub record Sweeping (keys ends : List ℕ) (n G i : ℕ) (tops : List ℕ) (level : ℕ) (bs : List Break) : Type 0 where
+  pub at : ℕ
+  pub early : at ≤ lastStation
+  pub ahead : (j : ℕ) → i ≤ j → j < n → at ≤ getD keys j 0 / 2048
+  pub stands : Stands (envelopesTo keys ends i) G at tops level bs
+
+pub envelopes-length : (keys ends : List ℕ) (i : ℕ) → length (envelopesTo keys ends i) ≡ i
+unfolding envelopesTo
+envelopes-length keys ends zero = refl
+envelopes-length keys ends (suc i) = ap suc (envelopes-length keys ends i)
+
+module _ (keys ends : List ℕ) (n G : ℕ) where
+  -- Two places are enough for each envelope.
+  pub sweeping-room : {i : ℕ} {tops : List ℕ} {level : ℕ} (starts levels : List ℕ) (count : ℕ) → Sweeping keys ends n G i tops level (breaksTo starts levels count) → count + distinctTo tops level ≤ 2 * i
+  sweeping-room {i} starts levels count s = omega (arith, s .stands .room, breaks-length starts levels count, envelopes-length keys ends i)
+
+  pub room-left : {i most : ℕ} {tops : List ℕ} {level : ℕ} (starts levels : List ℕ) (count : ℕ) → Places starts levels → length tops ≡ 8 → 2 * i ≤ most → Sweeping keys ends n G i tops level (breaksTo starts levels count) → Room most starts levels tops count level
+  room-left starts levels count places eight h s =
+      record { places = places; eight = eight; falling = tops-fall (s .stands); small = level-small (s .stands); within = omega (arith, sweeping-room starts levels count s) }
+
+  pub sweeping-first : (tops starts levels : List ℕ) → ((v : ℕ) → getD tops v 0 ≡ 0) → Sweeping keys ends n G 0 tops 0 (breaksTo starts levels 0)
+  unfolding envelopesTo breaksTo
+  sweeping-first tops starts levels z = record { at = 0; early = omega arith; ahead = λ j h k. omega arith; stands = stands-first G tops z }
+
+  pub sweeping-turn : Sweepable keys ends n → (i : ℕ) → i < n → {tops tops′ : List ℕ} {level level′ : ℕ} {bs bs′ : List Break} → Sweeping keys ends n G i tops level bs
+      → Stepped tops (getD keys i 0 / 2048) (getD keys i 0 % 8) G level bs level′ bs′ → Raised (getD keys i 0 % 8) (getD ends (getD keys i 0 / 8 % 256) 0) tops tops′
+      → Sweeping keys ends n G (i + 1) tops′ level′ bs′
+  unfolding envelopesTo
+  sweeping-turn ok i lt {tops′ = tops′} s t r =
+      let x = ok .sound i lt in
+      record {
+        at = getD keys i 0 / 2048;
+        early = omega (arith, x .long, x .ends);
+        ahead = λ j h k. omega (arith, ok .rising i j (omega arith) k);
+        stands = rw (add-one i) (t (envelopesTo keys ends i) (s .at) (getD ends (getD keys i 0 / 8 % 256) 0) tops′ (s .ahead i (omega arith) lt) (s .stands) x r);
+      }
+
+-- Up to 256 sound envelopes have up to 511 runs.
+pub few-runs : (es : List Stretch) (G : ℕ) → AllSound es → length es ≤ 256 → length (requiredRuns es G) ≤ mostRuns
+unfolding isRunList
+few-runs es G sound h =
+    leb-true _ _ (and-left (leb (length (requiredRuns es G)) mostRuns) _ (required-run-list es G (λ e m. sound e m .long) (λ e m. sound e m .ends) h))
+
+module _ (keys ends : List ℕ) (n G : ℕ) (starts levels : List ℕ) (count : ℕ) (s : Swept keys ends n G starts levels count) where
+  -- The runs between the break points are the required ones.
+  pub swept-runs : runsBelow (getD starts (count - 1) 0) (breaksTo starts levels (count - 1)) ≡ requiredRuns (envelopesTo keys ends n) G
+  swept-runs =
+      let st = s .stands in
+      sym (below-last starts levels 0 count (last-zero st))
+      ∙ runs-of-unique _ _ (stands-last st 0) (required-runs (envelopesTo keys ends n) G (λ x m. st .sound x m .long) (λ x m. st .sound x m .ends))
+
+  pub swept-few : n ≤ 256 → length (runsBelow (getD starts (count - 1) 0) (breaksTo starts levels (count - 1))) ≤ mostRuns
+  swept-few h = omega (arith, ap length swept-runs, few-runs (envelopesTo keys ends n) G (s .stands .sound) (omega (arith, envelopes-length keys ends n)))

@@ -1,0 +1,66 @@
+-- What the steps of the sweep ask and give: the room in the arrays, the fall of the level up to a station, one envelope more, all envelopes.
+-- Assumes nothing.
+use Prim.Native.Nat.{ℕ, zero, suc, _+_, _*_, _/_, _%_, _≤_, _<_}
+use mathlib.Core.List.{List, [], _∷_}
+use mathlib.Core.Path.{_≡_}
+use lib.ListN.{length, getD}
+use Rattle.runs.specs.declared.Stretch.{Stretch}
+use Rattle.runs.specs.RunList.{lastStation}
+use Rattle.runs.specs.Breaks.{Break, breaksTo}
+use Rattle.runs.specs.Stand.{Sound, Raised, Falling, distinctTo, Stands}
+
+-- Places for break points: two for each of 256 envelopes.
+abbrev pub breakPlaces : ℕ
+breakPlaces = 512
+
+pub record Places (starts levels : List ℕ) : Type 0 where
+  pub start-places : length starts ≡ breakPlaces
+  pub level-places : length levels ≡ breakPlaces
+
+-- Each top to which the level will fall takes a place: with those in use they are `most` at most.
+pub record Room (most : ℕ) (starts levels tops : List ℕ) (count level : ℕ) : Type 0 where
+  pub places : Places starts levels
+  pub eight : length tops ≡ 8
+  pub falling : Falling tops
+  pub small : level ≤ 6
+  pub within : count + distinctTo tops level ≤ most
+
+-- The break points go on up to s.
+pub record Drained (tops : List ℕ) (s count level : ℕ) (bs : List Break) (count′ level′ : ℕ) (bs′ : List Break) : Type 0 where
+  pub within : count′ + distinctTo tops level′ ≤ count + distinctTo tops level
+  pub small : level′ ≤ 6
+  pub stands : (es : List Stretch) (G u : ℕ) → u ≤ s → Stands es G u tops level bs → Stands es G s tops level′ bs′
+
+-- The break points go on up to s, where an envelope of level l starts, whatever its end is.
+abbrev pub Stepped : (tops : List ℕ) (s l G level : ℕ) (bs : List Break) (level′ : ℕ) (bs′ : List Break) → Type 0
+Stepped tops s l G level bs level′ bs′ =
+    (es : List Stretch) (u e : ℕ) (tops′ : List ℕ) → u ≤ s → Stands es G u tops level bs → Sound (record { start = s; end = e; level = l }) → Raised l e tops tops′
+    → Stands (record { start = s; end = e; level = l } ∷ es) G s tops′ level′ bs′
+
+-- The key of the envelope at an index: keys rise as the starts do.
+abbrev pub keyOf : (e : Stretch) (index : ℕ) → ℕ
+keyOf e index = e .start * 2048 + index * 8 + e .level
+
+-- The envelope of a key, whose end stands at the index.
+abbrev pub envelopeOf : (ends : List ℕ) (key : ℕ) → Stretch
+envelopeOf ends key = record { start = key / 2048; end = getD ends (key / 8 % 256) 0; level = key % 8 }
+
+-- The envelopes of the first n keys, last one first.
+unfoldable pub envelopesTo : (keys ends : List ℕ) (n : ℕ) → List Stretch
+envelopesTo keys ends zero = []
+envelopesTo keys ends (suc n) = envelopeOf ends (getD keys n 0) ∷ envelopesTo keys ends n
+
+-- The first n keys rise, and are those of sound envelopes.
+pub record Sweepable (keys ends : List ℕ) (n : ℕ) : Type 0 where
+  pub key-places : length keys ≡ 256
+  pub end-places : length ends ≡ 256
+  pub few : n ≤ 256
+  pub rising : (i j : ℕ) → i ≤ j → j < n → getD keys i 0 ≤ getD keys j 0
+  pub sound : (i : ℕ) → i < n → Sound (envelopeOf ends (getD keys i 0))
+
+-- The break points of the required level up to the last station.
+pub record Swept (keys ends : List ℕ) (n G : ℕ) (starts levels : List ℕ) (count : ℕ) : Type 0 where
+  pub within : count ≤ breakPlaces
+  pub tops : List ℕ
+  pub level : ℕ
+  pub stands : Stands (envelopesTo keys ends n) G lastStation tops level (breaksTo starts levels count)

@@ -1,0 +1,272 @@
+// The sweep over envelopes in order of their starts: the break points of the required level, and its runs.
+use super::RunList;
+ghost use mathlib.Core.Path.{_≡_};
+ghost use mathlib.Core.List.{List};
+ghost use Prim.Native.Nat.{ℕ, _+_, _-_, _≤_, _<_, min, max};
+ghost use lib.ListN.{length, getD};
+ghost use Rattle.refusal.specs.Choice.{if_then_else_};
+ghost use Rattle.runs.specs.RunList.{runsOf, mostRuns};
+ghost use Rattle.runs.specs.Required.{requiredRuns};
+ghost use Rattle.runs.specs.Breaks.{levelOf, breaksTo, cut, setFrom, runsBelow};
+ghost use Rattle.runs.specs.Stand.{bit, aboveTo, Raised, raisedTop, filledFrom, lifted};
+ghost use Rattle.runs.specs.Steps.{breakPlaces, Places, Room, Drained, Stepped, envelopesTo, Sweepable, Swept};
+
+// Where a sweep stands: break points in use, and the required level there.
+pub struct Place {
+    pub count: usize,
+    pub level: usize,
+}
+
+fn one_if(b: bool) -> usize
+    ensures { λ r. ⌜ (r ≡ bit b) × (r ≤ 1) ⌝ }
+{
+    if b { 1 } else { 0 }
+}
+
+// How many levels have a top above t.
+fn above(tops: &[u32], t: u32) -> usize
+    requires { ⌜ length (now tops) ≡ 8 ⌝ }
+    ensures { λ r. ⌜ (r ≡ aboveTo (now (tops .entry)) t 6) × (r ≤ 6) ⌝ }
+{
+    one_if(t < tops[1])
+        + one_if(t < tops[2])
+        + one_if(t < tops[3])
+        + one_if(t < tops[4])
+        + one_if(t < tops[5])
+        + one_if(t < tops[6])
+}
+
+// How many of the break points lie before t.
+fn kept(starts: &[u32], count: usize, t: u32) -> usize
+    requires { ⌜ count ≤ length (now starts) ⌝ }
+    ensures { λ r. ⌜ (r ≤ count) × ((levels : List ℕ) → breaksTo (now (starts .entry)) levels r ≡ cut t (breaksTo (now (starts .entry)) levels count)) ⌝ }
+{
+    let mut k = count;
+    while 0 < k {
+        if starts[k - 1] < t {
+            return k;
+        }
+        k -= 1;
+    }
+    k
+}
+
+// The level from the last of k break points on.
+fn level_before(levels: &[u8], k: usize) -> u8
+    requires { ⌜ k ≤ length (now levels) ⌝ }
+    ensures { λ r. ⌜ ((starts : List ℕ) → r ≡ levelOf (breaksTo starts (now (levels .entry)) k)) ⌝ }
+{
+    if k == 0 {
+        return 0;
+    }
+    levels[k - 1]
+}
+
+// Level v from t on; before t nothing changes.
+fn set_from(starts: &mut [u32], levels: &mut [u8], count: usize, t: u32, v: usize) -> usize
+    requires { ⌜ Places (now starts) (now levels) ⌝ }
+    requires { ⌜ count < breakPlaces ⌝ }
+    requires { ⌜ v ≤ 6 ⌝ }
+    ensures { λ r. ⌜ (r ≤ count + 1) × (breaksTo (now (starts .exit)) (now (levels .exit)) r ≡ setFrom t v (breaksTo (now (starts .entry)) (now (levels .entry)) count)) ⌝ }
+{
+    let k = kept(&starts[..], count, t);
+    let level = v as u8;
+    if level_before(&levels[..], k) == level {
+        return k;
+    }
+    starts[k] = t;
+    levels[k] = level;
+    k + 1
+}
+
+// The gap before a new envelope filled: level v from its top on, where v is above the level that stands.
+fn fill(starts: &mut [u32], levels: &mut [u8], tops: &[u32], p: Place, v: usize) -> usize
+    requires { ⌜ Places (now starts) (now levels) ⌝ }
+    requires { ⌜ length (now tops) ≡ 8 ⌝ }
+    requires { ⌜ p .count < breakPlaces ⌝ }
+    requires { ⌜ v ≤ 6 ⌝ }
+    ensures { λ r. ⌜ (r ≤ p .count + 1) × (breaksTo (now (starts .exit)) (now (levels .exit)) r ≡ filledFrom (now (tops .entry)) (p .level) v (breaksTo (now (starts .entry)) (now (levels .entry)) (p .count))) ⌝ }
+{
+    let count = p.count;
+    if p.level < v {
+        return set_from(&mut starts[..], &mut levels[..], count, tops[v], v);
+    }
+    count
+}
+
+fn lesser(x: usize, y: usize) -> usize
+    ensures { λ r. ⌜ r ≡ min x y ⌝ }
+{
+    if x < y { x } else { y }
+}
+
+fn less_or_zero(x: u32, y: u32) -> u32
+    ensures { λ r. ⌜ r ≡ x - y ⌝ }
+{
+    if y <= x { x - y } else { 0 }
+}
+
+// An envelope from s at level l, above the level that stands there.
+fn lift(
+    starts: &mut [u32],
+    levels: &mut [u8],
+    tops: &[u32],
+    p: Place,
+    s: u32,
+    l: usize,
+    g: u32,
+) -> usize
+    requires { ⌜ Places (now starts) (now levels) ⌝ }
+    requires { ⌜ length (now tops) ≡ 8 ⌝ }
+    requires { ⌜ p .count + 1 < breakPlaces ⌝ }
+    requires { ⌜ l ≤ 6 ⌝ }
+    ensures { λ r. ⌜ (r ≤ p .count + 2) × (breaksTo (now (starts .exit)) (now (levels .exit)) r ≡ lifted (now (tops .entry)) (p .level) s l g (breaksTo (now (starts .entry)) (now (levels .entry)) (p .count))) ⌝ }
+{
+    let near = above(tops, less_or_zero(s, g));
+    let count = fill(&mut starts[..], &mut levels[..], tops, p, lesser(near, l));
+    set_from(&mut starts[..], &mut levels[..], count, s, l)
+}
+
+// The break points where the level falls, up to s.
+fn drain(starts: &mut [u32], levels: &mut [u8], tops: &[u32], p: Place, s: u32) -> Place
+    requires { ⌜ Room breakPlaces (now starts) (now levels) (now tops) (p .count) (p .level) ⌝ }
+    ensures { λ r. ⌜ Drained (now (tops .entry)) s (p .count) (p .level) (breaksTo (now (starts .entry)) (now (levels .entry)) (p .count)) (r .count) (r .level) (breaksTo (now (starts .exit)) (now (levels .exit)) (r .count)) ⌝ }
+{
+    let mut count = p.count;
+    let mut level = p.level;
+    while 0 < level {
+        let t = tops[level];
+        if s < t {
+            return Place { count, level };
+        }
+        level = above(tops, t);
+        starts[count] = t;
+        levels[count] = level as u8;
+        count += 1;
+    }
+    Place { count, level }
+}
+
+// The break points up to s, where an envelope of level l starts.
+fn step(
+    starts: &mut [u32],
+    levels: &mut [u8],
+    tops: &[u32],
+    p: Place,
+    s: u32,
+    l: usize,
+    g: u32,
+) -> Place
+    requires { ⌜ Room 510 (now starts) (now levels) (now tops) (p .count) (p .level) ⌝ }
+    requires { ⌜ l ≤ 6 ⌝ }
+    ensures { λ r. ⌜ Stepped (now (tops .entry)) s l g (p .level) (breaksTo (now (starts .entry)) (now (levels .entry)) (p .count)) (r .level) (breaksTo (now (starts .exit)) (now (levels .exit)) (r .count)) ⌝ }
+{
+    let q = drain(&mut starts[..], &mut levels[..], tops, p, s);
+    if l <= q.level {
+        return q;
+    }
+    let count = lift(&mut starts[..], &mut levels[..], tops, q, s, l, g);
+    Place { count, level: l }
+}
+
+fn greater(x: u32, y: u32) -> u32
+    ensures { λ r. ⌜ r ≡ max x y ⌝ }
+{
+    if x < y { y } else { x }
+}
+
+fn raised(top: u32, end: u32, within: bool) -> u32
+    ensures { λ r. ⌜ r ≡ (if within then max top end else top) ⌝ }
+{
+    if within {
+        return greater(top, end);
+    }
+    top
+}
+
+// An envelope more that ends at `end`, at level l: no level up to l has a lower top.
+fn raise(tops: &mut [u32], l: usize, end: u32)
+    requires { ⌜ length (now tops) ≡ 8 ⌝ }
+    requires { ⌜ l ≤ 6 ⌝ }
+    ensures { λ _. ⌜ Raised l end (now (tops .entry)) (now (tops .exit)) ⌝ }
+{
+    let mut v = 0;
+    while v < 7 {
+        tops[v] = raised(tops[v], end, v <= l);
+        v += 1;
+    }
+}
+
+// The break points of the required level of n envelopes, in order of their starts.
+fn sweep(
+    keys: &[u64],
+    ends: &[u32],
+    n: usize,
+    g: u32,
+    starts: &mut [u32],
+    levels: &mut [u8],
+) -> usize
+    requires { ⌜ Sweepable (now keys) (now ends) n ⌝ }
+    requires { ⌜ Places (now starts) (now levels) ⌝ }
+    ensures { λ r. ⌜ Swept (now (keys .entry)) (now (ends .entry)) n g (now (starts .exit)) (now (levels .exit)) r ⌝ }
+{
+    let mut tops: [u32; 8] = [0; 8];
+    let mut p = Place { count: 0, level: 0 };
+    let mut i = 0;
+    while i < n {
+        let key = keys[i];
+        let s = (key / 2048) as u32;
+        let l = (key % 8) as usize;
+        let at = (key / 8 % 256) as usize;
+        p = step(&mut starts[..], &mut levels[..], &tops[..], p, s, l, g);
+        raise(&mut tops[..], l, ends[at]);
+        i += 1;
+    }
+    let last = drain(
+        &mut starts[..],
+        &mut levels[..],
+        &tops[..],
+        p,
+        2_000_000_000,
+    );
+    last.count
+}
+
+// The runs from each break point to the next.
+fn runs_of(starts: &[u32], levels: &[u8], count: usize) -> RunList
+    requires { ⌜ Places (now starts) (now levels) ⌝ }
+    requires { ⌜ count ≤ breakPlaces ⌝ }
+    requires { ⌜ length (runsBelow (getD (now starts) (count - 1) 0) (breaksTo (now starts) (now levels) (count - 1))) ≤ mostRuns ⌝ }
+    ensures { λ r. ⌜ runsOf r ≡ runsBelow (getD (now (starts .entry)) (count - 1) 0) (breaksTo (now (starts .entry)) (now (levels .entry)) (count - 1)) ⌝ }
+{
+    let mut run_starts: [u32; 512] = [0; 512];
+    let mut run_ends: [u32; 512] = [0; 512];
+    let mut run_levels: [u8; 512] = [0; 512];
+    let mut k = 0;
+    let mut i = 0;
+    while i + 1 < count {
+        let level = levels[i];
+        run_starts[k] = starts[i];
+        run_ends[k] = starts[i + 1];
+        run_levels[k] = level;
+        k += one_if(0 < level);
+        i += 1;
+    }
+    RunList {
+        count: k,
+        starts: run_starts,
+        ends: run_ends,
+        levels: run_levels,
+    }
+}
+
+// The required runs of n envelopes whose keys rise.
+pub fn swept_runs(keys: &[u64], ends: &[u32], n: usize, g: u32) -> RunList
+    requires { ⌜ Sweepable (now keys) (now ends) n ⌝ }
+    ensures { λ r. ⌜ runsOf r ≡ requiredRuns (envelopesTo (now (keys .entry)) (now (ends .entry)) n) g ⌝ }
+{
+    let mut starts: [u32; 512] = [0; 512];
+    let mut levels: [u8; 512] = [0; 512];
+    let count = sweep(keys, ends, n, g, &mut starts[..], &mut levels[..]);
+    runs_of(&starts[..], &levels[..], count)
+}
