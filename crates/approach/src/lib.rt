@@ -36,6 +36,29 @@ fn whole_length(along: u64, across: u64, straight: u64, runout: u64, reach: u64,
     (dividend + (divisor - 1)) / divisor
 }
 
+// The same in 32 bits, for callers that know the numbers to be in the domain.
+pub fn domain_length(
+    along: u32,
+    across: u32,
+    straight: u32,
+    runout: u32,
+    reach: u32,
+    offset: u32,
+) -> u32
+    requires { ⌜ inDomain along across straight runout reach offset ≡ true ⌝ }
+    ensures { λ r. ⌜ r ≡ approachLength along across straight runout reach offset ⌝ }
+{
+    let length = whole_length(
+        along as u64,
+        across as u64,
+        straight as u64,
+        runout as u64,
+        reach as u64,
+        offset as u64,
+    );
+    length as u32
+}
+
 // Flare `across` for `along` (b for a) after a straight part T; runout length L, hazard reach R and barrier offset m.
 pub fn approach_length(
     along: u32,
@@ -48,15 +71,7 @@ pub fn approach_length(
     ensures { λ r. ⌜ r ≡ approach along across straight runout reach offset ⌝ }
 {
     if in_domain(along, across, straight, runout, reach, offset) {
-        let length = whole_length(
-            along as u64,
-            across as u64,
-            straight as u64,
-            runout as u64,
-            reach as u64,
-            offset as u64,
-        );
-        return Approach::Length(length as u32);
+        return Approach::Length(domain_length(along, across, straight, runout, reach, offset));
     }
     Approach::Outside
 }

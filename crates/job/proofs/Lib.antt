@@ -3,3 +3,4 @@ pub mod FieldLaws
 pub mod HeaderLaws
 pub mod HazardLaws
 pub mod RestLaws
+pub mod WritingLaws

@@ -65,7 +65,7 @@ headerRanges A =
     ∷ 0 to 256
     ∷ []
 
--- "Side (0 right, 1 left); s, from A to B − 1; e, from s + 1 to B; near offset n, 0 to 60,000; far offset f, n to 60,000; level 1 to 6."
+-- "Side (0 right, 1 left); s, from A to B − 1; e, from s + 1 to B; near offset n from the travelled-way edge on its side, 0 to 60,000; far offset f, n to 60,000; level 1 to 6."
 unfoldable pub hazardRanges : (A B s n : ℕ) → List Range
 hazardRanges A B s n = 0 to 1 ∷ A to (B - 1) ∷ (s + 1) to B ∷ 0 to 60000 ∷ n to 60000 ∷ 1 to 6 ∷ []
 

@@ -1,23 +1,19 @@
--- A number's groups passed one by one, lowest first: what the groups passed and the scan of those that are left make together.
+-- Laws of a number's groups passed one by one, lowest first.
 -- Assumes nothing.
 use Prim.Native.Nat.{ℕ, zero, suc, _+_, _-_, _*_, _^_, _≤_, _<_}
 use native.Mathlib.Nat.{mul-add, mul-assoc, add-assoc, mul-le-mul-left, pow-le-pow-right, pow-suc}
 use native.Mathlib.Numerals.{add-one}
 use native.Mathlib.Omega.{arith}
-use mathlib.Core.Path.{_≡_, refl, ap, ap₂}
+use native.Mathlib.Decide.{decLt}
+use mathlib.Core.Path.{_≡_, refl, sym, ap, ap₂, _∙_}
 use mathlib.Core.List.{List, _∷_}
 use lib.ListN.{length, getD, drop, drop-of-length-le}
 use lib.Seq.{drop-cons}
 use borrow.Author.Tests.{le-leb, lt-leb, eq-eqb, ne-eqb}
-use Rattle.number.specs.declared.Read.the-variants.{Number, Malformed}
-use Rattle.number.specs.Number.{writeIn, writeNumber, greatest, Scan, cut, overlong, whole, prefixed, scan, judged}
+use Rattle.number.specs.declared.Read.the-variants.{Number, Ended, Malformed}
+use Rattle.number.specs.Number.{writeIn, writeNumber, greatest, Scan, cut, overlong, whole, prefixed, scan, judged, readNumber}
+use Rattle.number.specs.Groups.{behind, readBehind}
 use Rattle.number.proofs.NumberLaws.{scan-last, scan-more, length-below, length-above}
-
--- A scan behind `passed` groups that make `low`, where the next group counts `weight`.
-abbrev pub behind : (low weight passed : ℕ) → Scan → Scan
-behind low weight passed cut = cut
-behind low weight passed overlong = overlong
-behind low weight passed (whole value groups) = whole (low + weight * value) (passed + groups)
 
 pub behind-first : (group : ℕ) (rest : Scan) → prefixed group rest ≡ behind group 128 1 rest
 behind-first group cut = refl
@@ -72,3 +68,61 @@ module _ (at low weight passed : ℕ) (some : 0 < passed) (most : passed < 5) (c
       let below = length-below 5 passed (low + weight * b) (omega (arith, pow-suc 128 passed)) in
       let above = length-above 5 passed (low + weight * b) (omega arith) (omega arith) in
       simp (le-leb (low + weight * b) greatest fits, eq-eqb (passed + 1) (length (writeIn 5 (low + weight * b))) (omega arith))
+
+-- A number read group by group
+
+-- The first group has others behind it.
+pub read-first : (s : List ℕ) (at : ℕ) → at < length s → 128 ≤ getD s at 0 → readNumber s at ≡ readBehind (getD s at 0 - 128) 128 1 s at
+unfolding readNumber readBehind
+read-first s at there h = ap (judged at) (scan-more-at 5 at s (omega arith) there h ∙ behind-first (getD s at 0 - 128) (scan 4 (drop (at + 1) s)))
+
+-- Behind five groups nothing is a number.
+read-overlong : (low weight : ℕ) (s : List ℕ) (at : ℕ) → readBehind low weight 5 s at ≡ Malformed
+unfolding readBehind scan
+read-overlong low weight s at = refl
+
+module _ (low weight passed : ℕ) (s : List ℕ) (at : ℕ) (most : passed < 5) where
+  pub read-ended : length s ≤ at + passed → readBehind low weight passed s at ≡ Ended
+  unfolding readBehind
+  read-ended h = rw (scan-ended (5 - passed) (at + passed) s (omega arith) h)
+
+  module _ (there : at + passed < length s) where
+    pub read-more : 128 ≤ getD s (at + passed) 0 → readBehind low weight passed s at ≡ readBehind (low + weight * (getD s (at + passed) 0 - 128)) (weight * 128) (passed + 1) s at
+    unfolding readBehind
+    read-more h =
+        let left : 5 - passed - 1 ≡ 5 - (passed + 1) = omega arith in
+        let next : at + passed + 1 ≡ at + (passed + 1) = omega arith in
+        ap (λ (r : Scan). judged at (behind low weight passed r)) (scan-more-at (5 - passed) (at + passed) s (omega arith) there h)
+        ∙ ap (judged at) (behind-more low weight passed (getD s (at + passed) 0 - 128) (scan (5 - passed - 1) (drop (at + passed + 1) s)))
+        ∙ rw (left, next)
+
+    read-last : getD s (at + passed) 0 < 128 → readBehind low weight passed s at ≡ judged at (behind low weight passed (whole (getD s (at + passed) 0) 1))
+    unfolding readBehind
+    read-last h = ap (λ (r : Scan). judged at (behind low weight passed r)) (scan-last-at (5 - passed) (at + passed) s (omega arith) there h)
+
+    read-great : getD s (at + passed) 0 < 128 → greatest < low + weight * getD s (at + passed) 0 → readBehind low weight passed s at ≡ Malformed
+    read-great h great = read-last h ∙ last-great at low weight passed (getD s (at + passed) 0) great
+
+    module _ (some : 0 < passed) (counts : weight ≡ 128 ^ passed) (under : low < weight) where
+      pub read-needless : getD s (at + passed) 0 ≡ 0 → readBehind low weight passed s at ≡ Malformed
+      read-needless none = read-last (omega arith) ∙ rw none (last-needless at low weight passed some most counts under)
+
+      pub read-whole : 0 < getD s (at + passed) 0 → getD s (at + passed) 0 < 128 → low + weight * getD s (at + passed) 0 ≤ greatest → readBehind low weight passed s at ≡ Number (low + weight * getD s (at + passed) 0) (at + (passed + 1))
+      read-whole pos h fits = read-last h ∙ last-whole at low weight passed some most counts under (getD s (at + passed) 0) pos h fits
+
+-- A group less its top bit.
+pub group-less : (low weight b : ℕ) → 128 ≤ b → low + weight * b - weight * 128 ≡ low + weight * (b - 128)
+group-less low weight b h =
+    let parts : b ≡ (b - 128) + 128 = omega arith in
+    let split : weight * b ≡ weight * (b - 128) + weight * 128 = ap (λ (m : ℕ). weight * m) parts ∙ mul-add weight (b - 128) 128 in
+    omega arith
+
+-- The fifth group has four bits.
+pub read-fifth-great : (low : ℕ) (s : List ℕ) (at : ℕ) → at + 4 < length s → 15 < getD s (at + 4) 0 → readBehind low (128 ^ 4) 4 s at ≡ Malformed
+read-fifth-great low s at there h = go (decLt (getD s (at + 4) 0) 128)
+  where
+    go : Dec (getD s (at + 4) 0 < 128) → readBehind low (128 ^ 4) 4 s at ≡ Malformed
+    go (yes l) = read-great low (128 ^ 4) 4 s at (omega arith) there l (omega arith)
+    go (no l) =
+        read-more low (128 ^ 4) 4 s at (omega arith) there (omega arith)
+        ∙ read-overlong (low + 128 ^ 4 * (getD s (at + 4) 0 - 128)) (128 ^ 5) s at

@@ -1,6 +1,9 @@
 // The number form of document 01: reading a number, counting its groups, writing it into lent memory.
 ghost use mathlib.Core.Path.{_≡_};
+ghost use Prim.Native.Nat.{_+_, _^_, _≤_, _<_};
+ghost use lib.ListN.{length};
 ghost use Rattle.number.specs.Number.{groupCount, writeNumber, readNumber, placed, placedNext};
+ghost use Rattle.number.specs.Groups.{readBehind};
 
 // What reading at an index finds.
 pub enum Read {
@@ -28,48 +31,83 @@ pub fn group_count(x: u32) -> usize
     ((bits * 9 + 64) / 64) as usize
 }
 
+// The number at `at` from its fifth group on, which has the last four bits; the groups before it make `low`.
+fn read_fifth(s: &[u8], at: usize, low: u32) -> Read
+    requires { ⌜ at + 3 < length (now s) ⌝ }
+    requires { ⌜ low < 128 ^ 4 ⌝ }
+    ensures { λ r. ⌜ r ≡ readBehind low (128 ^ 4) 4 (now (s .entry)) at ⌝ }
+{
+    if s.len() <= at + 4 {
+        return Read::Ended;
+    }
+    let fifth = s[at + 4] as u32;
+    if fifth == 0 {
+        return Read::Malformed;
+    }
+    if 15 < fifth {
+        return Read::Malformed;
+    }
+    Read::Number {
+        value: low + 268435456 * fifth,
+        next: at + 5,
+    }
+}
+
+// The groups before the fifth stay far below 32 bits.
 pub fn read_number(s: &[u8], at: usize) -> Read
     ensures { λ r. ⌜ r ≡ readNumber (now (s .entry)) at ⌝ }
 {
     if s.len() <= at {
         return Read::Ended;
     }
-    let first = s[at];
-    let mut i = at + 1;
+    let first = s[at] as u32;
     if first < 128 {
         return Read::Number {
-            value: first as u32,
-            next: i,
+            value: first,
+            next: at + 1,
         };
     }
     // What the groups so far make, and how much the next one counts.
-    let mut low = (first - 128) as u64;
-    let mut weight: u64 = 128;
-    let mut left: u32 = 4;
-    while 0 < left {
-        if s.len() <= i {
+    let mut low = first - 128;
+    let mut weight: u32 = 128;
+    let mut passed: usize = 1;
+    while passed < 4 {
+        if s.len() <= at + passed {
             return Read::Ended;
         }
-        let b = s[i] as u64;
-        i += 1;
+        let b = s[at + passed] as u32;
+        let value = low + weight * b;
+        passed += 1;
         if b < 128 {
             if b == 0 {
                 return Read::Malformed;
             }
-            let value = low + weight * b;
-            if value <= 4294967295 {
-                return Read::Number {
-                    value: value as u32,
-                    next: i,
-                };
-            }
-            return Read::Malformed;
+            return Read::Number {
+                value,
+                next: at + passed,
+            };
         }
-        low += weight * (b - 128);
         weight *= 128;
-        left -= 1;
+        low = value - weight;
     }
-    Read::Malformed
+    read_fifth(s, at, low)
+}
+
+// The bytes of x from index at on, where there is room; the index behind them.
+pub fn put_number(out: &mut [u8], at: usize, x: u32) -> usize
+    requires { ⌜ at + length (writeNumber x) ≤ length (now out) ⌝ }
+    ensures { λ r. ⌜ r ≡ at + length (writeNumber x) ⌝ }
+    ensures { λ _. ⌜ now (out .exit) ≡ placed (now (out .entry)) at (writeNumber x) ⌝ }
+{
+    let mut i = at;
+    let mut rest = x;
+    while 128 <= rest {
+        out[i] = (128 + rest % 128) as u8;
+        i += 1;
+        rest /= 128;
+    }
+    out[i] = rest as u8;
+    i + 1
 }
 
 // The bytes of x from index at on; where they do not fit, nothing.
@@ -84,13 +122,5 @@ pub fn write_number(out: &mut [u8], at: usize, x: u32) -> Write
     if out.len() - at < count {
         return Write::Full;
     }
-    let mut i = at;
-    let mut rest = x;
-    while 128 <= rest {
-        out[i] = (128 + rest % 128) as u8;
-        i += 1;
-        rest /= 128;
-    }
-    out[i] = rest as u8;
-    Write::Next(i + 1)
+    Write::Next(put_number(out, at, x))
 }

@@ -4,3 +4,4 @@ pub mod TestedLaws
 pub mod AcceptLaws
 pub mod SideLaws
 pub mod JobRunLaws
+pub mod AcceptedLaws

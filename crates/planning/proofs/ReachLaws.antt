@@ -12,7 +12,7 @@ use borrow.Author.Tests.{ltb-true, lt-ltb, le-ltb, eq-eqb}
 use Rattle.refusal.specs.Choice.{if_then_else_}
 use Rattle.refusal.proofs.TestLaws.{and-left, and-right, and-intro, or-cases, or-left, or-right}
 use Rattle.approach.specs.declared.Approach.the-variants.{Length}
-use Rattle.approach.specs.Approach.{approachLength, approach}
+use Rattle.approach.specs.Approach.{approachLength, inDomain, approach}
 use Rattle.approach.proofs.ApproachLaws.{Domain, domain-in, approach-inside, length-fits}
 use Rattle.job.specs.declared.Header.{Header}
 use Rattle.job.specs.declared.Hazard.{Hazard}
@@ -112,6 +112,10 @@ module _ (h : Header) (z : Hazard) (hf : HeaderFits h) (zf : HazardFits h z) (cl
   unfolding lengthening
   reaching-approach r = rw r (approach-inside _ _ _ _ _ _ (domain-in _ _ _ _ _ _ (reaching-domain r)))
 
+  reaching-length : reaches h z t ≡ true → approachLength (h .along) (h .across) (h .straight) (runout h t) (reachOf h z t) (offsetOf h z t) ≡ lengthening h z t
+  unfolding lengthening
+  reaching-length r = rw r
+
   pub lengthening-top : lengthening h z t ≤ 200000
   unfolding lengthening
   lengthening-top = go (reaches h z t) reaching-domain
@@ -121,13 +125,18 @@ module _ (h : Header) (z : Hazard) (hf : HeaderFits h) (zf : HazardFits h z) (cl
       go false d = omega arith
 
   -- The length asked for with a traffic's own numbers.
-  pub lengthening-asked :
-      {L w R : ℕ} → L ≡ runout h t → w ≡ farther h (z .side) t → R ≡ min (z .far + w) (h .zone) → 0 < L → z .near + w < h .zone
-      → approach (h .along) (h .across) (h .straight) L R (h .offset + w) ≡ Length (lengthening h z t)
-  unfolding reaches reachOf offsetOf
-  lengthening-asked {L} {w} {R} p q e some near =
-      let r : reaches h z t ≡ true = and-intro (present-runout h hf t ∙ lt-ltb 0 (runout h t) (omega arith)) (lt-ltb (z .near + farther h (z .side) t) (h .zone) (omega arith)) in
-      rw (e, p, q) (reaching-approach r)
+  module _ {L w R : ℕ} (p : L ≡ runout h t) (q : w ≡ farther h (z .side) t) (e : R ≡ min (z .far + w) (h .zone)) (some : 0 < L) (near : z .near + w < h .zone) where
+    asked-reaches : reaches h z t ≡ true
+    unfolding reaches
+    asked-reaches = and-intro (present-runout h hf t ∙ lt-ltb 0 (runout h t) (omega arith)) (lt-ltb (z .near + farther h (z .side) t) (h .zone) (omega arith))
+
+    pub lengthening-domain : inDomain (h .along) (h .across) (h .straight) L R (h .offset + w) ≡ true
+    unfolding reachOf offsetOf
+    lengthening-domain = rw (e, p, q) (domain-in _ _ _ _ _ _ (reaching-domain asked-reaches))
+
+    pub lengthening-asked : approachLength (h .along) (h .across) (h .straight) L R (h .offset + w) ≡ lengthening h z t
+    unfolding reachOf offsetOf
+    lengthening-asked = rw (e, p, q) (reaching-length asked-reaches)
 
 -- A traffic that does not reach lengthens by nothing.
 pub lengthening-absent : (h : Header) (z : Hazard) (t : Traffic) → HeaderFits h → runout h t ≡ 0 → 0 ≡ lengthening h z t

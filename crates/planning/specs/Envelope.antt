@@ -17,12 +17,12 @@ use Rattle.runs.specs.declared.Stretch.{Stretch}
 pub data Traffic : Type 0 where
   forward opposite : Traffic
 
--- "LO 0 means one-way or separated": there is no opposite traffic then.
+-- "LO, runout length of opposite traffic; 0 means one-way or separated": there is no opposite traffic then.
 abbrev pub present : Header → Traffic → Bool
 present h forward = true
 present h opposite = ltb 0 (h .opposite)
 
--- "The adjacent traffic of the right side is forward; of the left side opposite. With LO = 0, forward is adjacent to both sides and there is no far traffic."
+-- "The adjacent traffic of the right side is forward; of the left side opposite. With LO = 0, forward is adjacent to both sides and there is no far traffic." (Opposite traffic is then not present, so nothing asks on which side it would be.)
 abbrev pub adjacent : Header → (side : ℕ) → Traffic → Bool
 adjacent h side forward = eqb side 0 || eqb (h .opposite) 0
 adjacent h side opposite = eqb side 1
@@ -37,7 +37,7 @@ runout h opposite = h .opposite
 unfoldable pub farther : Header → (side : ℕ) → Traffic → ℕ
 farther h side t = if adjacent h side t then 0 else h .way
 
--- "Adjacent traffic reaches the hazard if n < C. Far traffic reaches it if n + W < C."
+-- "Adjacent traffic reaches the hazard if n < C"; "far traffic reaches it if n + W < C".
 unfoldable pub reaches : Header → Hazard → Traffic → Bool
 reaches h z t = present h t && ltb (z .near + farther h (z .side) t) (h .zone)
 

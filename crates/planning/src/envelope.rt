@@ -1,5 +1,4 @@
 // Which traffic reaches a hazard, the hazard's envelope, and refusals 5 and 6.
-use approach::Approach;
 use job::Hazard;
 use job::Header;
 use refusal::Refusal;
@@ -78,17 +77,14 @@ fn lengthened_by(header: Header, hazard: Hazard, traffic: Traffic) -> u32
     }
     let reach = lesser(hazard.far + farther, header.zone);
     let offset = header.offset + farther;
-    match approach::approach_length(
+    approach::domain_length(
         header.along,
         header.across,
         header.straight,
         runout,
         reach,
         offset,
-    ) {
-        Approach::Length(length) => length,
-        Approach::Outside => 0,
-    }
+    )
 }
 
 // A reached hazard that stands clear of the barrier: refusal 6, else its envelope.

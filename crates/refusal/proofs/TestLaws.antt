@@ -5,7 +5,7 @@ use mathlib.Core.Path.{_≡_, refl, sym, subst, _∙_}
 use mathlib.Core.Logic.{_⊎_, inl, inr, _↔_}
 use mathlib.Core.Bool.{Bool, true, false, _&&_, _||_, not, false≢true}
 use mathlib.Core.List.{List, [], _∷_, List·Memᴰ, List·Memᴰ·head, List·Memᴰ·tail, List·Memᴰ·cases-cons, List·Memᴰ·not-nil}
-use Rattle.refusal.specs.Choice.{if_then_else_, any, keep}
+use Rattle.refusal.specs.Choice.{if_then_else_, someOf, keep}
 
 pub and-left : (a b : Bool) → a && b ≡ true → a ≡ true
 and-left true b e = refl
@@ -44,18 +44,18 @@ module _ {A : Type 0} where
     pub member : List·Memᴰ one l
     pub passes : p one ≡ true
 
-  pub any-elim : (p : A → Bool) (l : List A) → any p l ≡ true → Passing p l
-  unfolding any
+  pub any-elim : (p : A → Bool) (l : List A) → someOf p l ≡ true → Passing p l
+  unfolding someOf
   any-elim p [] e = absurd (false≢true e)
-  any-elim p (x ∷ xs) e = go (or-cases (p x) (any p xs) e) (any-elim p xs)
+  any-elim p (x ∷ xs) e = go (or-cases (p x) (someOf p xs) e) (any-elim p xs)
     where
-      go : (p x ≡ true) ⊎ (any p xs ≡ true) → (any p xs ≡ true → Passing p xs) → Passing p (x ∷ xs)
+      go : (p x ≡ true) ⊎ (someOf p xs ≡ true) → (someOf p xs ≡ true → Passing p xs) → Passing p (x ∷ xs)
       go (inl h) r = record { one = x; member = List·Memᴰ·head refl; passes = h }
       go (inr h) r = let w = r h in record { one = w .one; member = List·Memᴰ·tail (w .member); passes = w .passes }
 
-  pub any-intro : (p : A → Bool) {x : A} {l : List A} → List·Memᴰ x l → p x ≡ true → any p l ≡ true
-  unfolding any
-  any-intro p (List·Memᴰ·head {x = y} {xs = ys} e) h = or-left (any p ys) (subst (λ (z : A). p z ≡ true) e h)
+  pub any-intro : (p : A → Bool) {x : A} {l : List A} → List·Memᴰ x l → p x ≡ true → someOf p l ≡ true
+  unfolding someOf
+  any-intro p (List·Memᴰ·head {x = y} {xs = ys} e) h = or-left (someOf p ys) (subst (λ (z : A). p z ≡ true) e h)
   any-intro p (List·Memᴰ·tail {x = y} m) h = or-right (p y) (any-intro p m h)
 
   pub keep-elim : (p : A → Bool) {x : A} (l : List A) → List·Memᴰ x (keep p l) → List·Memᴰ x l × (p x ≡ true)

@@ -11,9 +11,9 @@ module _ {ℓ} {A : Type ℓ} where
 
 module _ {ℓ} {A : Type ℓ} where
   -- some element passes the test
-  unfoldable pub any : (A → Bool) → List A → Bool
-  any p [] = false
-  any p (x ∷ xs) = p x || any p xs
+  unfoldable pub someOf : (A → Bool) → List A → Bool
+  someOf p [] = false
+  someOf p (x ∷ xs) = p x || someOf p xs
 
   -- the elements that pass the test
   unfoldable pub keep : (A → Bool) → List A → List A

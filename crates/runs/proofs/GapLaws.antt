@@ -9,7 +9,7 @@ use mathlib.Core.List.{List, [], _∷_, List·Memᴰ}
 use lib.Dec.{ltb, leb, eqb}
 use native.Mathlib.Decide.{decLe, decLt}
 use borrow.Author.Tests.{ltb-true, ltb-false, leb-true, leb-false, lt-ltb, le-leb}
-use Rattle.refusal.specs.Choice.{if_then_else_, any, keep}
+use Rattle.refusal.specs.Choice.{if_then_else_, someOf, keep}
 use Rattle.runs.specs.declared.Stretch.{Stretch}
 use Rattle.runs.specs.Level.{Covers, NoShortGap, Has, InSet, Gap, InGap, Filled, Highest, has, between, atLeast, filled, highest, requiredLevel}
 use Rattle.refusal.proofs.TestLaws.{and-left, and-right, and-intro, decided, not-both, Passing, any-elim, any-intro, keep-elim, keep-intro}
@@ -201,19 +201,19 @@ module _ (es : List Stretch) (G : ℕ) where
 
   -- The executable filling is the paper's.
   module _ (proper : Proper es) (v : ℕ) where
-    inSet→ : (t : ℕ) → any (λ (e : Stretch). has e t) (atLeast v es) ≡ true → InSet es v t
+    inSet→ : (t : ℕ) → someOf (λ (e : Stretch). has e t) (atLeast v es) ≡ true → InSet es v t
     inSet→ t h =
         let w = any-elim (λ (e : Stretch). has e t) (atLeast v es) h in
         let k = keep-elim (λ (e : Stretch). leb v (e .level)) es (w .member) in
         record { one = w .one; member = k .0; high = leb-true _ _ (k .1); has = (leb-true _ _ (and-left _ _ (w .passes)), ltb-true _ _ (and-right (leb (w .one .start) t) _ (w .passes))) }
 
-    →inSet : (t : ℕ) → InSet es v t → any (λ (e : Stretch). has e t) (atLeast v es) ≡ true
+    →inSet : (t : ℕ) → InSet es v t → someOf (λ (e : Stretch). has e t) (atLeast v es) ≡ true
     →inSet t s = any-intro (λ (e : Stretch). has e t) (keep-intro (λ (e : Stretch). leb v (e .level)) (s .member) (le-leb _ _ (s .high))) (and-intro (le-leb _ _ (s .has .0)) (lt-ltb _ _ (s .has .1)))
 
     pub inSet? : (t : ℕ) → Dec (InSet es v t)
-    inSet? t = go (decided (any (λ (e : Stretch). has e t) (atLeast v es)))
+    inSet? t = go (decided (someOf (λ (e : Stretch). has e t) (atLeast v es)))
       where
-        go : (any (λ (e : Stretch). has e t) (atLeast v es) ≡ true) ⊎ (any (λ (e : Stretch). has e t) (atLeast v es) ≡ false) → Dec (InSet es v t)
+        go : (someOf (λ (e : Stretch). has e t) (atLeast v es) ≡ true) ⊎ (someOf (λ (e : Stretch). has e t) (atLeast v es) ≡ false) → Dec (InSet es v t)
         go (inl h) = yes (inSet→ t h)
         go (inr h) = no (λ s. not-both (→inSet t s) h)
 

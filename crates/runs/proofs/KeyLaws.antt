@@ -124,7 +124,7 @@ module _ (e : Envelopes) (ok : StoredEnvelopes e) (full : length (e .stretches) 
   module _ (keys ends : List ℕ) (n : ℕ) (all : n ≡ e .count) (k : Keyed (e .stretches) keys ends n) (key-places : length keys ≡ 256) (end-places : length ends ≡ 256) where
     pub sortable : Sortable n keys
     sortable = record {
-      length = key-places;
+      size = key-places;
       within = omega (arith, ok .count);
       fit = λ i h. let s = sound-at i (omega arith) in omega (arith, k .key-is i h, s .long, s .ends, s .top, ok .count);
     }
@@ -142,7 +142,7 @@ module _ (e : Envelopes) (ok : StoredEnvelopes e) (full : length (e .stretches) 
       to : (x : Stretch) → List·Memᴰ x (envelopesTo sorted-keys ends n) → List·Memᴰ x (envelopesOf e)
       to x m =
           let w = key-at sorted-keys ends n x m in
-          let p = placed n keys 0 (sorted .same .none-gained _ (among sorted-keys n (w .at) 0 (w .below) (omega (arith, w .below, sorted .same .length, ok .count)))) in
+          let p = placed n keys 0 (sorted .same .none-gained _ (among sorted-keys n (w .at) 0 (w .below) (omega (arith, w .below, sorted .same .size, ok .count)))) in
           let same : x ≡ getD (e .stretches) (p .at) noStretch = w .is ∙ ap (envelopeOf ends) (p .is) ∙ decode (p .at) (p .below) in
           Memᴰ·cast same (among (e .stretches) (e .count) (p .at) noStretch (omega (arith, p .below)) (omega (arith, p .below, ok .count)))
 
@@ -158,7 +158,7 @@ module _ (e : Envelopes) (ok : StoredEnvelopes e) (full : length (e .stretches) 
 
       pub sweepable : Sweepable sorted-keys ends n
       sweepable = record {
-        key-places = sorted .same .length ∙ key-places;
+        key-places = sorted .same .size ∙ key-places;
         end-places = end-places;
         few = omega (arith, ok .count);
         rising = sorted .sorted;

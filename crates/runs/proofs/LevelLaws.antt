@@ -8,7 +8,7 @@ use mathlib.Core.Bool.{Bool, true, false, _&&_, _||_, not, false≢true}
 use mathlib.Core.List.{List, [], _∷_, List·Memᴰ, List·Memᴰ·head, List·Memᴰ·tail, List·Memᴰ·cases-cons, List·Memᴰ·not-nil}
 use lib.Dec.{ltb, leb, eqb}
 use borrow.Author.Tests.{ltb-true, ltb-false, leb-true, leb-false, lt-ltb, le-leb}
-use Rattle.refusal.specs.Choice.{if_then_else_, any, keep}
+use Rattle.refusal.specs.Choice.{if_then_else_, someOf, keep}
 use Rattle.runs.specs.declared.Stretch.{Stretch}
 use Rattle.runs.specs.Level.{Has, InSet, Gap, InGap, Filled, Highest, has, between, atLeast, filled, highest, requiredLevel}
 use Rattle.refusal.proofs.TestLaws.{and-left, and-right, and-intro, or-cases, or-left, or-right, decided, not-both, Passing, any-elim, any-intro, keep-elim, keep-intro}
@@ -51,12 +51,12 @@ module _ (es : List Stretch) (v G t : ℕ) where
 
   pub filled→joined : filled (atLeast v es) G t ≡ true → Joined es v G t
   unfolding filled
-  filled→joined e = go (or-cases (any (λ (e : Stretch). has e t) (atLeast v es)) _ e)
+  filled→joined e = go (or-cases (someOf (λ (e : Stretch). has e t) (atLeast v es)) _ e)
     where
-      go : (any (λ (e : Stretch). has e t) (atLeast v es) ≡ true) ⊎ (any (λ (a : Stretch). any (between G t a) (atLeast v es)) (atLeast v es) ≡ true) → Joined es v G t
+      go : (someOf (λ (e : Stretch). has e t) (atLeast v es) ≡ true) ⊎ (someOf (λ (a : Stretch). someOf (between G t a) (atLeast v es)) (atLeast v es) ≡ true) → Joined es v G t
       go (inl h) = in-one (any-elim (λ (e : Stretch). has e t) (atLeast v es) h)
       go (inr h) =
-          let w = any-elim (λ (a : Stretch). any (between G t a) (atLeast v es)) (atLeast v es) h in
+          let w = any-elim (λ (a : Stretch). someOf (between G t a) (atLeast v es)) (atLeast v es) h in
           in-pair (w .one) (w .member) (any-elim (between G t (w .one)) (atLeast v es) (w .passes))
 
   pub joined→filled : Joined es v G t → filled (atLeast v es) G t ≡ true
@@ -64,8 +64,8 @@ module _ (es : List Stretch) (v G t : ℕ) where
   joined→filled (covered e m h x) =
       or-left _ (any-intro (λ (e : Stretch). has e t) (keep-intro (high v) m (le-leb _ _ h)) (and-intro (le-leb _ _ (x .0)) (lt-ltb _ _ (x .1))))
   joined→filled (bridged a b m n h k x y z) =
-      or-right (any (λ (e : Stretch). has e t) (atLeast v es))
-      (any-intro (λ (a : Stretch). any (between G t a) (atLeast v es)) (keep-intro (high v) m (le-leb _ _ h))
+      or-right (someOf (λ (e : Stretch). has e t) (atLeast v es))
+      (any-intro (λ (a : Stretch). someOf (between G t a) (atLeast v es)) (keep-intro (high v) m (le-leb _ _ h))
       (any-intro (between G t a) (keep-intro (high v) n (le-leb _ _ k)) (and-intro (and-intro (le-leb _ _ x) (lt-ltb _ _ y)) (lt-ltb _ _ z))))
 
 -- Filling is monotone in the level and in the envelopes.

@@ -10,3 +10,4 @@ pub mod PlaceLaws
 pub mod SweptLaws
 pub mod SortLaws
 pub mod KeyLaws
+pub mod StoredLaws

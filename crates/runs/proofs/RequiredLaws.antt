@@ -14,7 +14,7 @@ use Rattle.refusal.specs.Choice.{if_then_else_}
 use Rattle.runs.specs.declared.Stretch.{Stretch}
 use Rattle.runs.specs.Level.{Has, Gap, requiredLevel}
 use Rattle.runs.specs.RunList.{IsRun}
-use Rattle.runs.specs.Required.{insert, endPoints, put, runsBetween, requiredRuns}
+use Rattle.runs.specs.Required.{insertStation, endPoints, put, runsBetween, requiredRuns}
 use Rattle.runs.specs.RunList.{lastStation, mostRuns, risingRuns, isRunList, shownLevel}
 use Rattle.refusal.proofs.TestLaws.{and-left, and-right, and-intro, decided, not-both}
 use Rattle.runs.proofs.LevelLaws.{Joined, covered, bridged, Proper, EndsBy, level-top, level→joined, joined→level}
@@ -24,34 +24,34 @@ abbrev Sorted : List ℕ → Type 0
 Sorted [] = Unit {0}
 Sorted (p ∷ ps) = ((x : ℕ) → List·Memᴰ x ps → p ≤ x) × Sorted ps
 
-insert-self : (x : ℕ) (l : List ℕ) → List·Memᴰ x (insert x l)
-unfolding insert
+insert-self : (x : ℕ) (l : List ℕ) → List·Memᴰ x (insertStation x l)
+unfolding insertStation
 insert-self x [] = List·Memᴰ·head refl
 insert-self x (y ∷ ys) = go (leb x y) (insert-self x ys)
   where
-    go : (b : Bool) → List·Memᴰ x (insert x ys) → List·Memᴰ x (if b then x ∷ y ∷ ys else y ∷ insert x ys)
+    go : (b : Bool) → List·Memᴰ x (insertStation x ys) → List·Memᴰ x (if b then x ∷ y ∷ ys else y ∷ insertStation x ys)
     go true r = List·Memᴰ·head refl
     go false r = List·Memᴰ·tail r
 
-insert-keeps : (x : ℕ) {z : ℕ} {l : List ℕ} → List·Memᴰ z l → List·Memᴰ z (insert x l)
-unfolding insert
+insert-keeps : (x : ℕ) {z : ℕ} {l : List ℕ} → List·Memᴰ z l → List·Memᴰ z (insertStation x l)
+unfolding insertStation
 insert-keeps x {z} (List·Memᴰ·head {x = y} {xs = ys} e) = go (leb x y)
   where
-    go : (b : Bool) → List·Memᴰ z (if b then x ∷ y ∷ ys else y ∷ insert x ys)
+    go : (b : Bool) → List·Memᴰ z (if b then x ∷ y ∷ ys else y ∷ insertStation x ys)
     go true = List·Memᴰ·tail (List·Memᴰ·head e)
     go false = List·Memᴰ·head e
 insert-keeps x {z} (List·Memᴰ·tail {x = y} {xs = ys} m) = go (leb x y) (insert-keeps x m)
   where
-    go : (b : Bool) → List·Memᴰ z (insert x ys) → List·Memᴰ z (if b then x ∷ y ∷ ys else y ∷ insert x ys)
+    go : (b : Bool) → List·Memᴰ z (insertStation x ys) → List·Memᴰ z (if b then x ∷ y ∷ ys else y ∷ insertStation x ys)
     go true r = List·Memᴰ·tail (List·Memᴰ·tail m)
     go false r = List·Memᴰ·tail r
 
-insert-only : (x z : ℕ) (l : List ℕ) → List·Memᴰ z (insert x l) → (z ≡ x) ⊎ List·Memᴰ z l
-unfolding insert
+insert-only : (x z : ℕ) (l : List ℕ) → List·Memᴰ z (insertStation x l) → (z ≡ x) ⊎ List·Memᴰ z l
+unfolding insertStation
 insert-only x z [] m = List·Memᴰ·cases-cons m
 insert-only x z (y ∷ ys) m = go (leb x y) m (insert-only x z ys)
   where
-    move : (z ≡ y) ⊎ List·Memᴰ z (insert x ys) → (List·Memᴰ z (insert x ys) → (z ≡ x) ⊎ List·Memᴰ z ys) → (z ≡ x) ⊎ List·Memᴰ z (y ∷ ys)
+    move : (z ≡ y) ⊎ List·Memᴰ z (insertStation x ys) → (List·Memᴰ z (insertStation x ys) → (z ≡ x) ⊎ List·Memᴰ z ys) → (z ≡ x) ⊎ List·Memᴰ z (y ∷ ys)
     move (inl e) r = inr (List·Memᴰ·head e)
     move (inr k) r = up (r k)
       where
@@ -59,16 +59,16 @@ insert-only x z (y ∷ ys) m = go (leb x y) m (insert-only x z ys)
         up (inl e) = inl e
         up (inr k) = inr (List·Memᴰ·tail k)
 
-    go : (b : Bool) → List·Memᴰ z (if b then x ∷ y ∷ ys else y ∷ insert x ys) → (List·Memᴰ z (insert x ys) → (z ≡ x) ⊎ List·Memᴰ z ys) → (z ≡ x) ⊎ List·Memᴰ z (y ∷ ys)
+    go : (b : Bool) → List·Memᴰ z (if b then x ∷ y ∷ ys else y ∷ insertStation x ys) → (List·Memᴰ z (insertStation x ys) → (z ≡ x) ⊎ List·Memᴰ z ys) → (z ≡ x) ⊎ List·Memᴰ z (y ∷ ys)
     go true k r = List·Memᴰ·cases-cons k
     go false k r = move (List·Memᴰ·cases-cons k) r
 
-insert-sorted : (x : ℕ) (l : List ℕ) → Sorted l → Sorted (insert x l)
-unfolding insert
+insert-sorted : (x : ℕ) (l : List ℕ) → Sorted l → Sorted (insertStation x l)
+unfolding insertStation
 insert-sorted x [] s = (λ z m. absurd (List·Memᴰ·not-nil m), tt)
 insert-sorted x (y ∷ ys) s = go (leb x y) refl (insert-sorted x ys (s .1))
   where
-    go : (b : Bool) → leb x y ≡ b → Sorted (insert x ys) → Sorted (if b then x ∷ y ∷ ys else y ∷ insert x ys)
+    go : (b : Bool) → leb x y ≡ b → Sorted (insertStation x ys) → Sorted (if b then x ∷ y ∷ ys else y ∷ insertStation x ys)
     go true e r = (λ z m. low z (List·Memᴰ·cases-cons m), s)
       where
         low : (z : ℕ) → (z ≡ y) ⊎ List·Memᴰ z ys → x ≤ z
@@ -80,12 +80,12 @@ insert-sorted x (y ∷ ys) s = go (leb x y) refl (insert-sorted x ys (s .1))
         low z (inl q) = omega (arith, leb-false x y e)
         low z (inr m) = s .0 z m
 
-insert-length : (x : ℕ) (l : List ℕ) → length (insert x l) ≡ suc (length l)
-unfolding insert
+insert-length : (x : ℕ) (l : List ℕ) → length (insertStation x l) ≡ suc (length l)
+unfolding insertStation
 insert-length x [] = refl
 insert-length x (y ∷ ys) = go (leb x y) (insert-length x ys)
   where
-    go : (b : Bool) → length (insert x ys) ≡ suc (length ys) → length (if b then x ∷ y ∷ ys else y ∷ insert x ys) ≡ suc (suc (length ys))
+    go : (b : Bool) → length (insertStation x ys) ≡ suc (length ys) → length (if b then x ∷ y ∷ ys else y ∷ insertStation x ys) ≡ suc (suc (length ys))
     go true r = refl
     go false r = omega arith
 
@@ -98,14 +98,14 @@ pub points-length : (es : List Stretch) → length (endPoints es) ≡ length es 
 unfolding endPoints
 points-length [] = omega arith
 points-length (e ∷ es) =
-    let a = insert-length (e .start) (insert (e .end) (endPoints es)) in
+    let a = insert-length (e .start) (insertStation (e .end) (endPoints es)) in
     let b = insert-length (e .end) (endPoints es) in
     let c = points-length es in
     omega arith
 
 points-start : {e : Stretch} {es : List Stretch} → List·Memᴰ e es → List·Memᴰ (e .start) (endPoints es)
 unfolding endPoints
-points-start {e} (List·Memᴰ·head {x = x} {xs = xs} q) = rw q (insert-self (x .start) (insert (x .end) (endPoints xs)))
+points-start {e} (List·Memᴰ·head {x = x} {xs = xs} q) = rw q (insert-self (x .start) (insertStation (x .end) (endPoints xs)))
 points-start {e} (List·Memᴰ·tail {x = x} {xs = xs} m) = insert-keeps (x .start) (insert-keeps (x .end) (points-start m))
 
 points-end : {e : Stretch} {es : List Stretch} → List·Memᴰ e es → List·Memᴰ (e .end) (endPoints es)
@@ -128,7 +128,7 @@ points-bounded n (e ∷ es) proper by x m = go (insert-only (e .start) x _ m) (p
     inner (inl q) r = omega (arith, b)
     inner (inr k) r = r k
 
-    go : (x ≡ e .start) ⊎ List·Memᴰ x (insert (e .end) (endPoints es)) → (List·Memᴰ x (endPoints es) → x ≤ n) → x ≤ n
+    go : (x ≡ e .start) ⊎ List·Memᴰ x (insertStation (e .end) (endPoints es)) → (List·Memᴰ x (endPoints es) → x ≤ n) → x ≤ n
     go (inl q) r = omega (arith, p, b)
     go (inr k) r = inner (insert-only (e .end) x _ k) r
 

@@ -13,8 +13,8 @@ use borrow.Author.Tests.{ltb-true, ltb-false, leb-true, leb-false, lt-ltb, le-lt
 use Rattle.refusal.specs.Choice.{if_then_else_}
 use Rattle.runs.specs.declared.Stretch.{Stretch}
 use Rattle.runs.specs.Level.{Has, Gap, requiredLevel}
-use Rattle.runs.specs.Required.{insert, endPoints, put, runsBetween, requiredRuns}
-use Rattle.runs.specs.RunList.{lastStation, mostRuns, risingRuns, isRunList, shownLevel}
+use Rattle.runs.specs.Required.{put, runsBetween}
+use Rattle.runs.specs.RunList.{lastStation, mostRuns, mayFollow, risingRuns, isRunList, shownLevel}
 use Rattle.refusal.proofs.TestLaws.{and-left, and-right, and-intro, decided, not-both}
 use Rattle.runs.proofs.LevelLaws.{Joined, covered, bridged, Proper, level-top, level→joined, joined→level}
 
@@ -35,7 +35,7 @@ touching : (e v : ℕ) (r : Stretch) → not (eqb e (r .start) && eqb v (r .leve
 touching e v r h p q = not-both (and-intro (eq-eqb _ _ p) (eq-eqb _ _ q)) (not-true _ h)
 
 pub rising : (e v : ℕ) (rs : List Stretch) → risingRuns e v rs ≡ true → Rising e v rs
-unfolding risingRuns
+unfolding risingRuns mayFollow
 rising e v [] h = tt
 rising e v (r ∷ rs) h =
     let a1 = and-left _ (risingRuns (r .end) (r .level) rs) h in
@@ -64,7 +64,7 @@ apart a b c d h = go (decided (eqb a b)) (decided (eqb c d))
     go (inr p) (inr q) = rw p
 
 pub rising-test : (e v : ℕ) (rs : List Stretch) → Rising e v rs → risingRuns e v rs ≡ true
-unfolding risingRuns
+unfolding risingRuns mayFollow
 rising-test e v [] h = refl
 rising-test e v (r ∷ rs) h =
     let n = h .0 in

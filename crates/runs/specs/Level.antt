@@ -6,7 +6,7 @@ use mathlib.Core.Logic.{_⊎_}
 use mathlib.Core.Bool.{Bool, true, false, _&&_, _||_}
 use mathlib.Core.List.{List, [], _∷_, List·Memᴰ}
 use lib.Dec.{ltb, leb, eqb}
-use Rattle.refusal.specs.Choice.{if_then_else_, any, keep}
+use Rattle.refusal.specs.Choice.{if_then_else_, someOf, keep}
 use Rattle.runs.specs.declared.Stretch.{Stretch}
 
 -- 1. As the paper says it.
@@ -30,7 +30,7 @@ pub record Gap (S : ℕ → Type 0) (x y : ℕ) : Type 0 where
   pub after : S y
   pub none : (t : ℕ) → x ≤ t → t < y → ¬ S t
 
--- The set with every gap shorter than G added.
+-- t lies in a gap shorter than G.
 pub record InGap (G : ℕ) (S : ℕ → Type 0) (t : ℕ) : Type 0 where
   pub from : ℕ
   pub to : ℕ
@@ -39,6 +39,7 @@ pub record InGap (G : ℕ) (S : ℕ → Type 0) (t : ℕ) : Type 0 where
   pub lower : from ≤ t
   pub upper : t < to
 
+-- "Add every gap shorter than G."
 abbrev pub Filled : ℕ → (ℕ → Type 0) → ℕ → Type 0
 Filled G S t = S t ⊎ InGap G S t
 
@@ -61,7 +62,7 @@ abbrev pub atLeast : ℕ → List Stretch → List Stretch
 atLeast v es = keep (λ (e : Stretch). leb v (e .level)) es
 
 unfoldable pub filled : List Stretch → ℕ → ℕ → Bool
-filled es G t = any (λ (e : Stretch). has e t) es || any (λ (a : Stretch). any (between G t a) es) es
+filled es G t = someOf (λ (e : Stretch). has e t) es || someOf (λ (a : Stretch). someOf (between G t a) es) es
 
 -- The highest of the levels v, v - 1, .., 1 whose filled set has t; else 0.
 unfoldable pub highest : List Stretch → ℕ → ℕ → ℕ → ℕ

@@ -1,7 +1,10 @@
+-- The paper's definitions.
 pub mod Level
 pub mod RunList
 pub mod Required
+-- What the builder is given and gives.
 pub mod Stored
+-- Steps of the code.
 pub mod Breaks
 pub mod Stand
 pub mod Steps

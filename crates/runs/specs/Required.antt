@@ -9,14 +9,14 @@ use Rattle.runs.specs.declared.Stretch.{Stretch}
 use Rattle.runs.specs.Level.{requiredLevel}
 
 -- A station put into a rising list.
-unfoldable pub insert : ℕ → List ℕ → List ℕ
-insert x [] = x ∷ []
-insert x (y ∷ ys) = let r = insert x ys in if leb x y then x ∷ y ∷ ys else y ∷ r
+unfoldable pub insertStation : ℕ → List ℕ → List ℕ
+insertStation x [] = x ∷ []
+insertStation x (y ∷ ys) = let r = insertStation x ys in if leb x y then x ∷ y ∷ ys else y ∷ r
 
 -- The starts and ends of the envelopes, rising: the level can change only there.
 unfoldable pub endPoints : List Stretch → List ℕ
 endPoints [] = []
-endPoints (e ∷ es) = insert (e .start) (insert (e .end) (endPoints es))
+endPoints (e ∷ es) = insertStation (e .start) (insertStation (e .end) (endPoints es))
 
 -- A stretch put before a rising list of runs: left out where it is empty or has level 0; made one with the first run where the two touch and have one level.
 unfoldable pub put : Stretch → List Stretch → List Stretch

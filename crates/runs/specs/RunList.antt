@@ -24,25 +24,34 @@ pub record IsRun (f : ℕ → ℕ) (r : Stretch) : Type 0 where
 abbrev pub mostRuns : ℕ
 mostRuns = 511
 
+-- "Ends up to 2,000,000,000": the greatest end.
 abbrev pub lastStation : ℕ
 lastStation = 2000000000
 
--- Runs after one that ended at e with level v: rising, "lengths from 1, levels 1 to 6, ends up to 2,000,000,000, touching runs of different level".
-unfoldable pub risingRuns : (e v : ℕ) → List Stretch → Bool
-risingRuns e v [] = true
-risingRuns e v (r ∷ rs) =
+-- A run that may follow one that ended at e with level v: rising, "lengths from 1, levels 1 to 6, ends up to 2,000,000,000, touching runs of different level".
+unfoldable pub mayFollow : (e v : ℕ) → Stretch → Bool
+mayFollow e v r =
     leb e (r .start) && ltb (r .start) (r .end) && leb (r .end) lastStation && leb 1 (r .level) && leb (r .level) 6
     && not (eqb e (r .start) && eqb v (r .level))
-    && risingRuns (r .end) (r .level) rs
+
+-- Runs after one that ended at e with level v.
+unfoldable pub risingRuns : (e v : ℕ) → List Stretch → Bool
+risingRuns e v [] = true
+risingRuns e v (r ∷ rs) = mayFollow e v r && risingRuns (r .end) (r .level) rs
 
 -- "A run list has at most 511 runs." No run has level 0, so the first one differs from what stands before it.
 unfoldable pub isRunList : List Stretch → Bool
 isRunList rs = leb (length rs) mostRuns && risingRuns 0 0 rs
 
--- "At t a schedule shows the level of the run that has t, else 0."
+-- "At t a schedule shows the level of the run that has t, in the run list whose writing it is, else 0."
 unfoldable pub shownLevel : List Stretch → (t : ℕ) → ℕ
 shownLevel [] t = 0
 shownLevel (r ∷ rs) t = if leb (r .start) t && ltb t (r .end) then r .level else shownLevel rs t
+
+-- Where the last of the runs ends; e where there is none.
+abbrev pub lastEnd : (e : ℕ) → List Stretch → ℕ
+lastEnd e [] = e
+lastEnd e (r ∷ rs) = lastEnd (r .end) rs
 
 -- The first n entries of three arrays, side by side; the runs of a stored list.
 unfoldable pub runsTo : (starts ends levels : List ℕ) (n : ℕ) → List Stretch

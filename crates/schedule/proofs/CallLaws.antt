@@ -64,7 +64,7 @@ output-length s side out = go (plan s side (length out)) refl
 part-of-split : (s : List ℕ) (i : ℕ) (w rest : List ℕ) → drop i s ≡ w ++ rest → take (length w) (drop i s) ≡ w
 part-of-split s i w rest e = rw e (take-append-seam w rest)
 
-pub find-found : (s : List ℕ) (e v i : ℕ) (rs : List Stretch) (rest : List ℕ) (t : ℕ) (p : Part) → Rising e v rs → drop i s ≡ writeRecords e rs ++ rest → findRecord e i rs t ≡ found p → FoundRun s rs t p
+pub find-found : (s : List ℕ) (e v i : ℕ) (rs : List Stretch) (rest : List ℕ) (t : ℕ) (p : Part) → Rising e v rs → drop i s ≡ writeRecords e rs ++ rest → findRecord e i rs t ≡ found p → FoundRun s e i rs t p
 unfolding findRecord writeRecords
 find-found s e v i [] rest t p up q f = let z : _≡_ {A = ℕ} 0 1 = cc in absurd (omega arith)
 find-found s e v i (r ∷ rs) rest t p up q f =
@@ -77,20 +77,34 @@ find-found s e v i (r ∷ rs) rest t p up q f =
     later = sym (drop-drop (length (writeRecord e r)) i s) ∙ rw split (drop-append-seam (writeRecord e r) (writeRecords (r .end) rs ++ rest))
 
     Rec : Type 0
-    Rec = findRecord (r .end) (i + length (writeRecord e r)) rs t ≡ found p → FoundRun s rs t p
+    Rec = findRecord (r .end) (i + length (writeRecord e r)) rs t ≡ found p → FoundRun s (r .end) (i + length (writeRecord e r)) rs t p
 
-    further : shownLevel (r ∷ rs) t ≡ shownLevel rs t → FoundRun s rs t p → FoundRun s (r ∷ rs) t p
-    further l w = record { run = w .run; member = List·Memᴰ·tail (w .member); has = w .has; previous-end = w .previous-end; bytes = w .bytes; level = l ∙ w .level }
+    further : shownLevel (r ∷ rs) t ≡ shownLevel rs t → FoundRun s (r .end) (i + length (writeRecord e r)) rs t p → FoundRun s e i (r ∷ rs) t p
+    further l w =
+        record {
+          run = w .run;
+          before = r ∷ w .before;
+          after = w .after;
+          split = ap (λ (others : List Stretch). r ∷ others) (w .split);
+          member = List·Memᴰ·tail (w .member);
+          has = w .has;
+          bytes = w .bytes;
+          place = w .place ∙ sym (rw (length-append (writeRecord e r) (writeRecords (r .end) (w .before))) (omega arith));
+          level = l ∙ w .level;
+        }
 
-    go : (a : Bool) → leb (r .start) t ≡ a → (b : Bool) → ltb t (r .end) ≡ b → (if a && b then found (record { at = i; len = length (writeRecord e r) }) else findRecord (r .end) (i + length (writeRecord e r)) rs t) ≡ found p → Rec → FoundRun s (r ∷ rs) t p
+    go : (a : Bool) → leb (r .start) t ≡ a → (b : Bool) → ltb t (r .end) ≡ b → (if a && b then found (record { at = i; len = length (writeRecord e r) }) else findRecord (r .end) (i + length (writeRecord e r)) rs t) ≡ found p → Rec → FoundRun s e i (r ∷ rs) t p
     go true x true y c rec =
         let w : record { at = i; len = length (writeRecord e r) } ≡ p = cc in
-        subst (FoundRun s (r ∷ rs) t) w (record {
+        subst (FoundRun s e i (r ∷ rs) t) w (record {
           run = r;
+          before = [];
+          after = rs;
+          split = refl;
           member = List·Memᴰ·head refl;
           has = (leb-true _ _ x, ltb-true _ _ y);
-          previous-end = e;
           bytes = part-of-split s i (writeRecord e r) (writeRecords (r .end) rs ++ rest) split;
+          place = omega arith;
           level = shown-in r rs t (leb-true _ _ x) (ltb-true _ _ y);
         })
     go true x false y c rec = further (shown-after r rs t (ltb-false _ _ y)) (rec c)

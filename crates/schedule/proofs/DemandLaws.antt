@@ -1,4 +1,4 @@
--- Demands 2 and 3, proved of the definitions.
+-- The three demands, proved of the definitions.
 -- Assumes nothing.
 use Prim.Native.Nat.{ℕ, zero, suc, _+_, _-_, _≤_, _<_}
 use native.Mathlib.Omega.{arith}

@@ -7,5 +7,7 @@ pub mod PlanLaws
 pub mod QuantityLaws
 pub mod PlaceLaws
 pub mod DemandLaws
+pub mod FormulaLaws
 pub mod QueryLaws
 pub mod CaseLaws
+pub mod RefusalLaws

@@ -37,6 +37,15 @@ so-far-none start end h = rw (le-ltb start end h)
 abbrev pub finding : (from to e at t : ℕ) → List Stretch → Found
 finding from to e at t rs = orLater (soFar from to) (findRecord e at rs t)
 
+-- Behind the last run: what was found.
+pub finding-over : (from to e at t : ℕ) → finding from to e at t [] ≡ soFar from to
+unfolding findRecord
+finding-over from to e at t = go (soFar from to)
+  where
+    go : (f : Found) → orLater f nowhere ≡ f
+    go (found p) = refl
+    go nowhere = refl
+
 pub place-start : (s : List ℕ) (t : ℕ) (n : Reading) → Bytes s → headAt s ≡ accepted n → placeIn s t ≡ thenRuns (walkRecords (n .value) 0 0 s (n .next)) (finding 0 0 0 (n .next) t)
 unfolding placeIn
 place-start s t n b h =

@@ -15,10 +15,10 @@ use Rattle.number.specs.declared.Read.{Read}
 use Rattle.number.specs.declared.Read.the-variants.{Number, Ended, Malformed}
 use Rattle.number.proofs.NumberLaws.{Bytes, read-number, number-read, read-bounds}
 use Rattle.runs.specs.declared.Stretch.{Stretch}
-use Rattle.runs.specs.RunList.{mostRuns, risingRuns, isRunList}
+use Rattle.runs.specs.RunList.{mayFollow, mostRuns, risingRuns, isRunList}
 use Rattle.runs.proofs.RunLaws.{Next}
 use Rattle.schedule.specs.Schedule.{writeRecord, writeRecords, writeSchedule, orTen, readSchedule}
-use Rattle.schedule.specs.Walk.{headAt, mayFollow, Passed, followingRun, recordAt, walkRecords}
+use Rattle.schedule.specs.Walk.{headAt, Passed, followingRun, recordAt, walkRecords}
 use Rattle.schedule.proofs.ScheduleLaws.{schedule-read}
 use Rattle.schedule.proofs.WalkLaws.{follows, passed, runRead, Numbers, all-three, no-gap, no-length, no-level, numbers, read-walk}
 

@@ -18,12 +18,12 @@ use Rattle.number.proofs.Read
 use denote.Enum.Declared.{tagOf}
 use types.Run.{OneOf}
 use Rattle.runs.specs.declared.Stretch.{Stretch}
-use Rattle.runs.specs.RunList.{mostRuns, risingRuns, isRunList}
+use Rattle.runs.specs.RunList.{mayFollow, mostRuns, risingRuns, isRunList}
 use Rattle.runs.proofs.RunLaws.{Next, rising, rising-test}
 use Rattle.schedule.specs.Schedule.{Records, readRecords, orTen, readSchedule}
 use Rattle.schedule.specs.declared.walk.Record.{Record}
 use Rattle.schedule.specs.declared.walk.Record.the-variants as Record
-use Rattle.schedule.specs.Walk.{recordReply, headAt, mayFollow, Passed, followingRun, recordAt, walkRecords}
+use Rattle.schedule.specs.Walk.{recordReply, headAt, Passed, followingRun, recordAt, walkRecords}
 
 -- Where a `let` finds no number, by the tag that it tests.
 pub no-number : {B : Type 0} (at : ℕ) (f : Reading → Answer B) (r : Read) → OneOf (1 ∷ 2 ∷ []) (tagOf Read.the-type r) → orTen (readingOf at r >>= f) ≡ refused 10 0

@@ -2,20 +2,16 @@
 -- Assumes nothing.
 use Prim.Native.Nat.{ℕ, zero, suc, _+_, _-_, _*_, _≤_, _<_}
 use native.Mathlib.Omega.{arith}
-use native.Mathlib.Decide.{decLt}
 use native.Mathlib.Numerals.{add-one}
 use mathlib.Core.Path.{_≡_, refl, sym, subst, ap, _∙_}
 use mathlib.Core.Bool.{true}
 use mathlib.Core.List.{List, [], _∷_, _++_, append-assoc, append-nil}
 use lib.ListN.{length, getD, length-append}
-use lib.Dec.{leb}
-use borrow.Author.Tests.{leb-true}
-use Rattle.refusal.proofs.TestLaws.{and-left, and-right}
 use Rattle.number.specs.Number.{writeNumber, groupCount, placed}
 use Rattle.number.proofs.NumberLaws.{number-length, group-count, placed-append, placed-length}
 use Rattle.runs.specs.declared.Stretch.{Stretch}
-use Rattle.runs.specs.RunList.{mostRuns, risingRuns, isRunList, runsTo}
-use Rattle.runs.proofs.RunLaws.{Next, Rising, rising}
+use Rattle.runs.specs.RunList.{isRunList, runsTo, lastEnd}
+use Rattle.runs.proofs.StoredLaws.{run, firstRuns, behind, run-next}
 use Rattle.schedule.specs.Schedule.{writeRecord, writeRecords, writeSchedule}
 use Rattle.schedule.specs.Writing.{RecordFits, stretch}
 
@@ -57,20 +53,6 @@ pub record-short : (e : ℕ) (r : Stretch) → length (writeRecord e r) ≤ 15
 unfolding writeRecord
 record-short e r = simp length-append (omega (arith, number-length (r .start - e), number-length (r .end - r .start), number-length (r .level)))
 
--- Where the last of the runs ends, and its level; e and v where there is none.
-abbrev pub lastEnd : ℕ → List Stretch → ℕ
-lastEnd e [] = e
-lastEnd e (r ∷ rs) = lastEnd (r .end) rs
-
-abbrev pub lastLevel : ℕ → List Stretch → ℕ
-lastLevel v [] = v
-lastLevel v (r ∷ rs) = lastLevel (r .level) rs
-
--- Behind rising runs the next one follows the last.
-next-after : (e v : ℕ) (rs : List Stretch) (r : Stretch) (ss : List Stretch) → Rising e v (rs ++ r ∷ ss) → Next (lastEnd e rs) (lastLevel v rs) r
-next-after e v [] r ss h = h .0
-next-after e v (x ∷ rs) r ss h = next-after (x .end) (x .level) rs r ss (h .1)
-
 last-snoc : (e : ℕ) (rs : List Stretch) (r : Stretch) → lastEnd e (rs ++ r ∷ []) ≡ r .end
 last-snoc e [] r = refl
 last-snoc e (x ∷ rs) r = last-snoc (x .end) rs r
@@ -81,63 +63,32 @@ records-split e [] r ss = refl
 records-split e (x ∷ rs) r ss = rw (records-split (x .end) rs r ss) (sym (append-assoc (writeRecord e x) (writeRecords (x .end) rs) (writeRecord (lastEnd (x .end) rs) r ++ writeRecords (r .end) ss)))
 
 module _ (starts ends levels : List ℕ) where
-  -- The i-th run, and the first i.
-  abbrev pub run : ℕ → Stretch
-  run i = stretch (getD starts i 0) (getD ends i 0) (getD levels i 0)
-
-  abbrev pub firstRuns : ℕ → List Stretch
-  firstRuns i = runsTo starts ends levels i
-
-  pub runs-length : (i : ℕ) → length (firstRuns i) ≡ i
-  unfolding runsTo
-  runs-length zero = refl
-  runs-length (suc i) = rw (length-append (firstRuns i) (run i ∷ [])) (omega (arith, runs-length i))
-
-  record Behind (i n : ℕ) : Type 0 where
-    rest : List Stretch
-    split : firstRuns n ≡ firstRuns i ++ run i ∷ rest
-
-  behind : (i n : ℕ) → i < n → Behind i n
-  unfolding runsTo
-  behind i zero h = absurd (omega arith)
-  behind i (suc n) h = go (decLt i n) (behind i n)
-    where
-      go : Dec (i < n) → (i < n → Behind i n) → Behind i (suc n)
-      go (yes l) r = let b = r l in record { rest = b .rest ++ run n ∷ []; split = rw (b .split) (append-assoc (firstRuns i) (run i ∷ b .rest) (run n ∷ [])) }
-      go (no l) r = record { rest = []; split = ap (λ (k : ℕ). firstRuns k ++ run k ∷ []) (let e : n ≡ i = omega arith in e) }
-
   -- Each run of a run list fits behind those before it.
-  pub run-fits : (n i : ℕ) → isRunList (firstRuns n) ≡ true → i < n → RecordFits (lastEnd 0 (firstRuns i)) (getD starts i 0) (getD ends i 0) (getD levels i 0)
-  unfolding isRunList
+  pub run-fits : (n i : ℕ) → isRunList (firstRuns starts ends levels n) ≡ true → i < n
+      → RecordFits (lastEnd 0 (firstRuns starts ends levels i)) (getD starts i 0) (getD ends i 0) (getD levels i 0)
   run-fits n i h l =
-      let b = behind i n l in
-      let up = rising 0 0 (firstRuns n) (and-right (leb (length (firstRuns n)) mostRuns) _ h) in
-      let next = next-after 0 0 (firstRuns i) (run i) (b .rest) (rw (b .split) at up) in
+      let next = run-next starts ends levels n h i l in
       record { after = next .after; long = next .long; ends = next .ends; top = next .top }
 
-  pub count-top : (n : ℕ) → isRunList (firstRuns n) ≡ true → n ≤ mostRuns
-  unfolding isRunList
-  count-top n h = omega (arith, runs-length n, leb-true (length (firstRuns n)) mostRuns (and-left _ (risingRuns 0 0 (firstRuns n)) h))
-
   -- One record more.
-  pub records-more : (i : ℕ) → writeRecords 0 (firstRuns (i + 1)) ≡ writeRecords 0 (firstRuns i) ++ writeRecord (lastEnd 0 (firstRuns i)) (run i)
+  pub records-more : (i : ℕ) → writeRecords 0 (firstRuns starts ends levels (i + 1)) ≡ writeRecords 0 (firstRuns starts ends levels i) ++ writeRecord (lastEnd 0 (firstRuns starts ends levels i)) (run starts ends levels i)
   unfolding runsTo writeRecords
-  records-more i = rw (add-one i) (records-split 0 (firstRuns i) (run i) [] ∙ rw append-nil)
+  records-more i = rw (add-one i) (records-split 0 (firstRuns starts ends levels i) (run starts ends levels i) [] ∙ rw append-nil)
 
-  pub last-more : (i : ℕ) → lastEnd 0 (firstRuns (i + 1)) ≡ getD ends i 0
+  pub last-more : (i : ℕ) → lastEnd 0 (firstRuns starts ends levels (i + 1)) ≡ getD ends i 0
   unfolding runsTo
-  last-more i = rw (add-one i) (last-snoc 0 (firstRuns i) (run i))
+  last-more i = rw (add-one i) (last-snoc 0 (firstRuns starts ends levels i) (run starts ends levels i))
 
   -- The first i records and the next are no longer than all n.
-  pub records-within : (i n : ℕ) → i < n → length (writeRecords 0 (firstRuns i)) + length (writeRecord (lastEnd 0 (firstRuns i)) (run i)) ≤ length (writeRecords 0 (firstRuns n))
+  pub records-within : (i n : ℕ) → i < n → length (writeRecords 0 (firstRuns starts ends levels i)) + length (writeRecord (lastEnd 0 (firstRuns starts ends levels i)) (run starts ends levels i)) ≤ length (writeRecords 0 (firstRuns starts ends levels n))
   records-within i n h =
-      let b = behind i n h in
-      rw (b .split, records-split 0 (firstRuns i) (run i) (b .rest), length-append, length-append) (omega arith)
+      let b = behind starts ends levels i n h in
+      rw (b .split, records-split 0 (firstRuns starts ends levels i) (run starts ends levels i) (b .rest), length-append, length-append) (omega arith)
 
-  pub records-none : writeRecords 0 (firstRuns 0) ≡ []
+  pub records-none : writeRecords 0 (firstRuns starts ends levels 0) ≡ []
   unfolding runsTo writeRecords
   records-none = refl
 
-  pub last-none : lastEnd 0 (firstRuns 0) ≡ 0
+  pub last-none : lastEnd 0 (firstRuns starts ends levels 0) ≡ 0
   unfolding runsTo
   last-none = refl

@@ -13,7 +13,7 @@ use Rattle.number.specs.Number.{writeNumber}
 use Rattle.runs.specs.declared.Stretch.{Stretch}
 use Rattle.planning.specs.Envelope.{acceptJob}
 use Rattle.runs.specs.Level.{Has}
-use Rattle.runs.specs.RunList.{shownLevel}
+use Rattle.runs.specs.RunList.{shownLevel, lastEnd}
 use Rattle.planning.specs.Required.{jobRuns}
 use Rattle.schedule.specs.declared.reply.Plan.{Plan}
 use Rattle.schedule.specs.declared.reply.Plan.the-variants as Plan
@@ -21,7 +21,7 @@ use Rattle.schedule.specs.declared.reply.Quantity.{Quantity}
 use Rattle.schedule.specs.declared.reply.Quantity.the-variants as Quantity
 use Rattle.schedule.specs.declared.reply.Lookup.{Lookup}
 use Rattle.schedule.specs.declared.reply.Lookup.the-variants as Lookup
-use Rattle.schedule.specs.Schedule.{writeSchedule, writeRecord, readSchedule}
+use Rattle.schedule.specs.Schedule.{writeSchedule, writeRecord, writeRecords, readSchedule}
 
 -- Plan
 
@@ -108,28 +108,32 @@ partOf (accepted nowhere) = record { at = 0; len = 0 }
 partOf (refused k v) = record { at = 0; len = 0 }
 
 -- "A companion call gives found, none or the refusal."
-pub data Outcome : Type 0 where
-  one none : Outcome
+pub data Companion : Type 0 where
+  someRun noRun : Companion
 
-unfoldable pub outcomeOf : Answer Found → Answer Outcome
-outcomeOf (accepted (found p)) = accepted one
-outcomeOf (accepted nowhere) = accepted none
+unfoldable pub outcomeOf : Answer Found → Answer Companion
+outcomeOf (accepted (found p)) = accepted someRun
+outcomeOf (accepted nowhere) = accepted noRun
 outcomeOf (refused k v) = refused k v
 
-abbrev pub lookupReply : Lookup → Answer Outcome
-lookupReply Lookup.Found = accepted one
-lookupReply Lookup.Nothing = accepted none
+abbrev pub lookupReply : Lookup → Answer Companion
+lookupReply Lookup.Found = accepted someRun
+lookupReply Lookup.Nothing = accepted noRun
 lookupReply (Lookup.Refused r) = refusal r
 
 -- The bytes that a part has.
 abbrev pub partBytes : Part → List ℕ → List ℕ
 partBytes p s = take (p .len) (drop (p .at) s)
 
--- The record of the run that has t.
-pub record FoundRun (s : List ℕ) (rs : List Stretch) (t : ℕ) (p : Part) : Type 0 where
+-- The record of the run that has t, among runs whose first record stands at byte index i after a run that ended at e:
+-- it goes by the end of the run before it, and stands behind the records of those before it.
+pub record FoundRun (s : List ℕ) (e i : ℕ) (rs : List Stretch) (t : ℕ) (p : Part) : Type 0 where
   pub run : Stretch
+  pub before : List Stretch
+  pub after : List Stretch
+  pub split : rs ≡ before ++ run ∷ after
   pub member : List·Memᴰ run rs
   pub has : Has run t
-  pub previous-end : ℕ
-  pub bytes : partBytes p s ≡ writeRecord previous-end run
+  pub bytes : partBytes p s ≡ writeRecord (lastEnd e before) run
+  pub place : p .at ≡ i + length (writeRecords e before)
   pub level : shownLevel rs t ≡ run .level

@@ -3,7 +3,7 @@
 use Prim.Native.Nat.{ℕ, _+_, _-_}
 use mathlib.Core.List.{List, [], _∷_, _++_}
 use Rattle.refusal.specs.Answer.{Answer, accepted, refused, _>>=_}
-use Rattle.number.specs.Number.{writeNumber}
+use Rattle.job.specs.Writing.{writeNumbers}
 use Rattle.runs.specs.declared.Stretch.{Stretch}
 use Rattle.schedule.specs.Schedule.{writeSchedule}
 use Rattle.schedule.specs.Calls.{plan}
@@ -56,14 +56,9 @@ cases =
     ∷ case (header 1 0 9000 0 3000 0 50 2 ++ (hazard 1 100 5000 3 ++ hazard 141 200 5000 1)) (accepted (run 0 100 3 ∷ run 100 200 1 ∷ []))
     ∷ []
 
--- The numbers as bytes.
-unfoldable pub bytesOf : List ℕ → List ℕ
-bytesOf [] = []
-bytesOf (n ∷ ns) = writeNumber n ++ bytesOf ns
-
 -- What plan gives for the right side with room for 64 bytes, and the writing of what is expected.
 unfoldable pub planned : Case → Answer (List ℕ)
-planned c = plan (bytesOf (c .job)) 0 64
+planned c = plan (writeNumbers (c .job)) 0 64
 
 unfoldable pub written : Case → Answer (List ℕ)
 written c = c .expected >>= λ rs. accepted (writeSchedule rs)

@@ -1,24 +1,24 @@
--- The owner's demands 2 and 3, as statements about the definitions.
+-- The owner's three demands, sentence by sentence, as statements about the definitions.
 -- Assumes nothing.
-use Prim.Native.Nat.{ℕ, zero, suc, _+_, _-_, _≤_, _<_}
+use Prim.Native.Nat.{ℕ, _+_, _-_, _*_, _≤_, _<_}
 use mathlib.Core.Path.{_≡_}
 use mathlib.Core.Logic.{_↔_}
 use mathlib.Core.Bool.{Bool, true, false}
 use mathlib.Core.List.{List, [], _∷_, _++_, List·Memᴰ}
 use lib.ListN.{length, take, drop}
 use Rattle.refusal.specs.Answer.{Answer, accepted, refused, _>>=_}
+use Rattle.number.specs.Number.{writeNumber}
 use Rattle.job.specs.declared.Header.{Header}
 use Rattle.job.specs.declared.Hazard.{Hazard}
 use Rattle.job.specs.Job.{Job}
 use Rattle.runs.specs.declared.Stretch.{Stretch}
-use Rattle.planning.specs.Envelope.{acceptJob, reached, envelope}
+use Rattle.planning.specs.Envelope.{Traffic, acceptJob, envelope, forward, offsetOf, opposite, reachOf, reached, reaches, runout, sideEnvelopes}
 use Rattle.runs.specs.Level.{NoShortGap, Has, Gap, InSet, Filled, Highest}
 use Rattle.runs.specs.RunList.{shownLevel, isRunList}
 use Rattle.schedule.specs.Schedule.{writeSchedule, readSchedule}
 use Rattle.planning.specs.Required.{jobLevel, jobRuns}
 use Rattle.schedule.specs.Calls.{FoundRun, outputAfter, Found, found, nowhere, asked, lookup, plan, millimetres, quantity}
 use Rattle.runs.specs.RunList.{IsRun}
-use Rattle.planning.specs.Envelope.{sideEnvelopes}
 
 -- s is an accepted job, j.
 abbrev pub Accepted : List ℕ → Job → Type 0
@@ -61,9 +61,28 @@ pub record LeastCovering (j : Job) (side : ℕ) (w : List ℕ) : Type 0 where
 abbrev pub Demand2 : Type 0
 Demand2 = (s : List ℕ) (j : Job) (side : ℕ) (w : List ℕ) → Accepted s j → side ≤ 1 → Planned s side w → LeastCovering j side w
 
--- What lookup finds at t in a schedule that requires a level there: the record of a run of that level that has t, or nothing where the level is 0.
+-- A traffic's station upstream of a hazard, d whole millimetres before its end on that side.
+abbrev pub Upstream : Traffic → Hazard → (d t : ℕ) → Type 0
+Upstream forward z d t = t + d + 1 ≡ z .start
+Upstream opposite z d t = t ≡ z .end + d
+
+-- Demand 2, "built in document 01 from the published length-of-need formula": the formula itself, multiplied out, with no rounding and no division.
+-- Each millimetre whose end towards the hazard is nearer to it than the formula's length is covered.
+abbrev pub Demand2-formula : Type 0
+Demand2-formula =
+    (s : List ℕ) (j : Job) (side : ℕ) (w : List ℕ) → Accepted s j → side ≤ 1 → Planned s side w
+    → (z : Hazard) → List·Memᴰ z (j .hazards) → z .side ≡ side → (traffic : Traffic) → reaches (j .header) z traffic ≡ true
+    → (d t : ℕ) → Upstream traffic z d t
+    → let h = j .header in
+    let L = runout h traffic in
+    let R = reachOf h z traffic in
+    let m = offsetOf h z traffic in
+    d * (h .across * L + h .along * R) < L * (h .along * R + h .across * h .straight - h .along * m)
+    → z .level ≤ scheduleLevel w t
+
+-- What lookup finds at t in the schedule of a job that requires a level there: the record of a run of that level that has t, or nothing where the level is 0.
 abbrev pub ShowsLevel : (w : List ℕ) (rs : List Stretch) (t level : ℕ) → Found → Type 0
-ShowsLevel w rs t level (found p) = (f : FoundRun w rs t p) × (f .run .level ≡ level) × (1 ≤ level)
+ShowsLevel w rs t level (found p) = (f : FoundRun w 0 (length (writeNumber (length rs))) rs t p) × (f .run .level ≡ level) × (1 ≤ level)
 ShowsLevel w rs t level nowhere = level ≡ 0
 
 pub record Looked (j : Job) (side : ℕ) (right left : List ℕ) (t : ℕ) : Type 0 where

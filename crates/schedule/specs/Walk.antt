@@ -1,15 +1,14 @@
 -- A schedule read in one walk: its records one by one, each checked as it is read. All its refusals are 10, so refusing at once gives the same answer as reading first.
 -- Assumes nothing.
 use Prim.Native.Nat.{ℕ, zero, suc, _+_, _-_, min, max}
-use mathlib.Core.Bool.{Bool, _&&_, not}
 use mathlib.Core.List.{List, [], _∷_}
 use lib.ListN.{length}
-use lib.Dec.{ltb, leb, eqb}
+use lib.Dec.{leb, eqb}
 use Rattle.refusal.specs.Choice.{if_then_else_}
 use Rattle.refusal.specs.Answer.{Answer, accepted, refused, _>>=_, unless-refuse}
 use Rattle.number.specs.Number.{Reading, numberAt}
 use Rattle.runs.specs.declared.Stretch.{Stretch}
-use Rattle.runs.specs.RunList.{mostRuns, lastStation}
+use Rattle.runs.specs.RunList.{mostRuns, mayFollow}
 use Rattle.schedule.specs.Schedule.{orTen, readSchedule}
 use Rattle.schedule.specs.declared.walk.Head.{Head}
 use Rattle.schedule.specs.declared.walk.Head.the-variants as Head
@@ -26,12 +25,6 @@ headAt s = orTen (
 abbrev pub headReply : Head → Answer Reading
 headReply (Head.Count count next) = accepted (record { value = count; next = next })
 headReply Head.Bad = refused 10 0
-
--- The rules of a run list for one run, after a run that ended at e with level v.
-unfoldable pub mayFollow : (e v : ℕ) → Stretch → Bool
-mayFollow e v r =
-    leb e (r .start) && ltb (r .start) (r .end) && leb (r .end) lastStation && leb 1 (r .level) && leb (r .level) 6
-    && not (eqb e (r .start) && eqb v (r .level))
 
 -- A run, and the index behind its record.
 pub record Passed : Type 0 where

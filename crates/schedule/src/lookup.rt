@@ -1,55 +1,20 @@
 // The call lookup, its companion, and where the record is.
+use super::query::Walked;
+use super::query::walk;
 use super::reply::Located;
 use super::reply::Lookup;
-use super::walk::Head;
-use super::walk::Record;
-use super::walk::read_head;
-use super::walk::read_record;
 use refusal::Refusal;
-use runs::Stretch;
 ghost use mathlib.Core.Path.{_≡_};
-ghost use Rattle.runs.specs.Level as Level;
 ghost use Rattle.schedule.specs.Calls as Calls;
 ghost use Rattle.schedule.specs.Place.{IsPart, askedSlice, placeIn, locatedReply};
 
-// The run has the station.
-fn has(run: Stretch, station: u64) -> bool
-    ensures { λ r. ⌜ r ≡ Level.has run station ⌝ }
-{
-    run.start as u64 <= station && station < run.end as u64
-}
-
-// The record's place in a schedule, in one walk of its records to their end.
+// The record's place in a schedule; no level is asked for.
 fn place_in(s: &[u8], station: u64) -> Located
     ensures { λ r. ⌜ locatedReply r ≡ placeIn (now (s .entry)) station ⌝ }
 {
-    let Head::Count { count, next: first } = read_head(s) else {
+    let Walked::Over { sum: _, from, to } = walk(s, 0, 0, 0, station) else {
         return Located::Refused(Refusal::Schedule);
     };
-    let mut left = count;
-    let mut at = first;
-    // The last run's end and level.
-    let mut end: u32 = 0;
-    let mut last: u32 = 0;
-    // The record of the run that has the station; empty until it is passed.
-    let mut from: usize = 0;
-    let mut to: usize = 0;
-    while 0 < left {
-        let Record::Next { run, next } = read_record(s, at, end, last) else {
-            return Located::Refused(Refusal::Schedule);
-        };
-        if has(run, station) {
-            from = at;
-            to = next;
-        }
-        at = next;
-        end = run.end;
-        last = run.level;
-        left -= 1;
-    }
-    if at != s.len() {
-        return Located::Refused(Refusal::Schedule);
-    }
     if from < to {
         Located::Found {
             start: from,

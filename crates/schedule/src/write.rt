@@ -1,12 +1,12 @@
 // Writing a run list as a schedule: its length in bytes, and its bytes into lent memory.
-use number::Write;
+use number::put_number;
 use runs::RunList;
 ghost use mathlib.Core.Path.{_≡_};
 ghost use mathlib.Core.Bool.{true};
 ghost use mathlib.Core.List.{_++_};
 ghost use Prim.Native.Nat.{_+_, _≤_};
 ghost use lib.ListN.{length, drop};
-ghost use Rattle.number.specs.Number.{placed, writeNumber};
+ghost use Rattle.number.specs.Number.{placed};
 ghost use Rattle.runs.specs.RunList.{isRunList, runsOf};
 ghost use Rattle.schedule.specs.Schedule.{writeSchedule, writeRecord};
 ghost use Rattle.schedule.specs.Writing.{RecordFits, stretch};
@@ -37,18 +37,6 @@ pub fn schedule_length(list: RunList) -> usize
         i += 1;
     }
     bytes
-}
-
-// The bytes of a number from `at` on, where there is room; the index behind them.
-fn put_number(out: &mut [u8], at: usize, x: u32) -> usize
-    requires { ⌜ at + length (writeNumber x) ≤ length (now out) ⌝ }
-    ensures { λ r. ⌜ r ≡ at + length (writeNumber x) ⌝ }
-    ensures { λ _. ⌜ now (out .exit) ≡ placed (now (out .entry)) at (writeNumber x) ⌝ }
-{
-    match number::write_number(out, at, x) {
-        Write::Next(next) => next,
-        Write::Full => at,
-    }
 }
 
 // The record of a run from `at` on; the index behind it.

@@ -1,12 +1,11 @@
 -- `approach::approach_length` meets its contract: the formula's length in the domain, and `Outside` outside it.
 -- Assumes nothing.
-use native.Mathlib.Omega.{arith}
 use mathlib.Core.Path.{_≡_, ap, sym, _∙_}
 use mathlib.Core.Bool.{true}
 use borrow.Author.Needs.{needs}
 use Rattle.approach.specs.declared.Approach.the-variants.{Length}
 use Rattle.approach.specs.Approach.{inDomain}
-use Rattle.approach.proofs.ApproachLaws.{in-domain, length-fits, approach-inside, approach-outside}
+use Rattle.approach.proofs.ApproachLaws.{approach-inside, approach-outside}
 use Rattle.approach.proofs.approach_length.Statement.{statement}
 use Rattle.approach.proofs.approach_length.Tie as tie
 
@@ -19,6 +18,5 @@ approach-length-spec =
     (tie.spec
     (λ c κs. search needs)
     (λ c κs. inside c)
-    (λ c. omega (arith, c .whole-length .ensures, length-fits _ _ _ _ _ _ (in-domain _ _ _ _ _ _ (inside (c .before)))))
-    (λ c. ap Length (c .whole-length .ensures) ∙ sym (approach-inside _ _ _ _ _ _ (inside (c .before))))
+    (λ c. ap Length (c .domain-length .ensures) ∙ sym (approach-inside _ _ _ _ _ _ (inside (c .before))))
     (λ c. sym (approach-outside _ _ _ _ _ _ (sym (c .before .in-domain .ensures) ∙ c .if1 .left))))

@@ -1,70 +1,36 @@
--- `number::write_number` meets its contract. The loop's invariant: the writing of `rest`, stored from `i` on, gives what the writing of `x`,
--- stored from `at` on, gives. The measure is `rest`. Assumes nothing.
-use mathlib.Core.Path.{_≡_, refl, sym, ap, _∙_}
-use mathlib.Core.List.{[], _∷_}
-use Prim.Native.Nat.{ℕ, _+_, _/_, _%_, _≤_, _<_}
-use native.Mathlib.Nat.{add-comm}
-use native.Mathlib.Numerals.{add-one}
+-- `number::write_number` meets its contract: without room nothing is written, and with it the number is. Assumes nothing.
+use mathlib.Core.Path.{_≡_, sym, ap, _∙_}
+use Prim.Native.Nat.{_+_, _≤_, _<_}
 use native.Mathlib.Omega.{arith}
-use lib.ListN.{length, length-set}
-use lib.Seq.{sets}
+use lib.ListN.{length}
 use borrow.Author.Needs.{needs}
 use Rattle.number.specs.declared.Write.the-variants.{Next}
-use Rattle.number.specs.Number.{writeNumber, greatest, groupCount}
-use Rattle.number.proofs.NumberLaws.{group-count, write-one, write-step, placed-full, placed-next-full, placed-next-fits, placed-sets}
+use Rattle.number.specs.Number.{writeNumber}
+use Rattle.number.proofs.NumberLaws.{group-count, placed-full, placed-next-full, placed-next-fits}
 use Rattle.number.proofs.write_number.Statement.{statement}
 use Rattle.number.proofs.write_number.Tie as tie
 
-abbrev Inv-loop : tie.InvT-loop
-Inv-loop out₀ at x count i₀ rest₀ out i rest =
-    (rest ≤ greatest) × (i + length (writeNumber rest) ≡ at + groupCount x) × (length out ≡ length out₀) × (sets out i (writeNumber rest) ≡ sets out₀ at (writeNumber x))
-
-abbrev μ-loop : tie.MeasureT-loop
-μ-loop out₀ at x count i₀ rest₀ out i rest = rest
-
--- In a turn `rest` has several groups, and behind the loop one.
-more : (c : tie.In-loop Inv-loop μ-loop) → writeNumber (c .before .loop .rest) ≡ (128 + c .before .loop .rest % 128) ∷ writeNumber (c .before .loop .rest / 128)
-more c = let r = c .before .loop .rest in write-step r (c .loop-test .taken) (c .before .loop .inv .0) ∙ ap (λ (b : ℕ). b ∷ writeNumber (r / 128)) (add-comm (r % 128) 128)
-
-last : (c : tie.After-loop Inv-loop μ-loop) → writeNumber (c .before .loop .rest) ≡ c .before .loop .rest ∷ []
-last c = write-one (c .before .loop .rest) (c .loop-test .left)
-
-returns : tie.Need-returns Inv-loop μ-loop
+returns : tie.Need-returns
 returns c =
     let a = c .before .before .before .args in
     let full : length (a .out .now) < a .at + length (writeNumber (a .x)) = omega arith in
     (sym (placed-next-full (a .out .now) (a .at) (writeNumber (a .x)) full), sym (placed-full (a .out .now) (a .at) (writeNumber (a .x)) full))
 
-returns-2 : tie.Need-returns-2 Inv-loop μ-loop
+returns-2 : tie.Need-returns-2
 returns-2 c =
     let a = c .before .before .before .before .args in
     let full : length (a .out .now) < a .at + length (writeNumber (a .x)) = omega (arith, group-count (a .x) (omega arith)) in
     (sym (placed-next-full (a .out .now) (a .at) (writeNumber (a .x)) full), sym (placed-full (a .out .now) (a .at) (writeNumber (a .x)) full))
 
-loop-holds : tie.Need-loop-holds Inv-loop μ-loop
-loop-holds c = (omega arith, omega (arith, group-count (c .before .before .before .before .args .x) (omega arith)), refl, refl)
+put-number-requires : tie.Need-put-number-requires
+put-number-requires c κs = omega (arith, group-count (c .before .before .before .before .before .args .x) (omega arith))
 
-loop-again : tie.Need-loop-again Inv-loop μ-loop
-loop-again c =
-    let l = c .before .loop in (
-      omega arith,
-      omega (arith, ap length (more c)),
-      simp length-set (omega arith),
-      rw (add-one (l .i)) (ap (sets (l .out) (l .i)) (sym (more c)) ∙ l .inv .3),
-    )
-
-returns-3 : tie.Need-returns-3 Inv-loop μ-loop
+returns-3 : tie.Need-returns-3
 returns-3 c =
-    let l = c .before .loop in
-    let a = c .before .before .before .before .before .before .args in
-    let fits : a .at + length (writeNumber (a .x)) ≤ length (a .out .now) = omega (arith, group-count (a .x) (omega arith)) in (
-      ap Next (omega (arith, ap length (last c), group-count (a .x) (omega arith))) ∙ sym (placed-next-fits (a .out .now) (a .at) (writeNumber (a .x)) fits),
-      ap (sets (l .out) (l .i)) (sym (last c)) ∙ l .inv .3 ∙ sym (placed-sets (a .out .now) (a .at) (writeNumber (a .x)) fits),
-    )
+    let a = c .before .before .before .before .before .before .before .before .args in
+    let put = c .before .before .put-number in
+    let fits : a .at + length (writeNumber (a .x)) ≤ length (a .out .now) = omega (arith, group-count (a .x) (omega arith)) in
+    (ap Next (put .ensures .0) ∙ sym (placed-next-fits (a .out .now) (a .at) (writeNumber (a .x)) fits), put .ensures .1)
 
 pub write-number-spec : {M : Type 1} → statement M
-write-number-spec =
-    tie.close
-    (tie.spec Inv-loop μ-loop (λ c κs. search needs) returns (λ c. omega arith) returns-2 loop-holds (λ c. omega arith) (λ c. omega arith)
-    (λ c. omega (arith, ap length (more c))) (λ c. omega arith) (λ c. omega arith) loop-again (λ c. omega arith)
-    (λ c. omega (arith, ap length (last c))) (λ c. omega arith) (λ c. simp length-set (omega arith)) returns-3)
+write-number-spec = tie.close (tie.spec (λ c κs. search needs) returns (λ c. omega arith) returns-2 put-number-requires (λ c. search needs) returns-3)

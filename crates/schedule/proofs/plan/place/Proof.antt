@@ -17,17 +17,21 @@ unfolding bytesWritten
 returns c =
     let a = c .before .before .before .args in
     let w = writeSchedule (runsOf (a .list)) in
+    let counted = c .before .bytes-needed .ensures .1 (c .if1 .taken) in
     let short : length (a .out .now) < length w = omega arith in
-    rw (fitted-short w (length (a .out .now)) short) (ap (refused 9) (c .before .schedule-length .ensures), refl)
+    rw (fitted-short w (length (a .out .now)) short) (ap (refused 9) counted, refl)
+
+put-schedule-requires : tie.Need-put-schedule-requires
+put-schedule-requires c κs = let fits = c .before .before .bytes-needed .ensures .0 (c .before .if1 .left) in search (needs, fits)
 
 returns-2 : tie.Need-returns-2
 unfolding bytesWritten
 returns-2 c =
     let a = c .before .before .before .before .before .before .before .args in
     let w = writeSchedule (runsOf (a .list)) in
-    let fits : length w ≤ length (a .out .now) = omega arith in
+    let fits : length w ≤ length (a .out .now) = c .before .before .before .before .before .bytes-needed .ensures .0 (c .before .before .before .before .if1 .left) in
     let put = c .before .before .put-schedule in
     rw (fitted-fits w (length (a .out .now)) fits) (ap accepted (put .ensures .0), put .ensures .1 ∙ placed-first (a .out .now) w fits)
 
 pub place-spec : {M : Type 1} → statement M
-place-spec = tie.close (tie.spec (λ c κs. search needs) returns (λ c κs. search needs) (λ c. search needs) returns-2)
+place-spec = tie.close (tie.spec (λ c κs. search needs) returns put-schedule-requires (λ c. search needs) returns-2)

@@ -11,9 +11,10 @@ use borrow.Author.Needs.{needs}
 use Rattle.number.specs.Number.{writeNumber, placed}
 use Rattle.number.proofs.NumberLaws.{placed-append, placed-length, placed-none}
 use Rattle.runs.specs.declared.RunList.{RunList}
-use Rattle.runs.specs.RunList.{runsOf}
+use Rattle.runs.specs.RunList.{runsOf, lastEnd}
 use Rattle.schedule.specs.Schedule.{writeRecord, writeRecords, writeSchedule}
-use Rattle.schedule.proofs.WriteLaws.{lastEnd, firstRuns, run, runs-length, run-fits, count-top, records-more, records-within, last-more, records-none, last-none}
+use Rattle.runs.proofs.StoredLaws.{firstRuns, run, runs-length, count-top}
+use Rattle.schedule.proofs.WriteLaws.{run-fits, records-more, records-within, last-more, records-none, last-none}
 use Rattle.schedule.proofs.write.put_schedule.Statement.{statement}
 use Rattle.schedule.proofs.write.put_schedule.Tie as tie
 

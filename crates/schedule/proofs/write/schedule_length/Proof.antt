@@ -5,10 +5,12 @@ use native.Mathlib.Omega.{arith}
 use mathlib.Core.Path.{_≡_, refl, sym, ap, _∙_}
 use lib.ListN.{length, getD, length-append}
 use borrow.Author.Needs.{needs}
+use Rattle.runs.specs.RunList.{lastEnd}
 use Rattle.number.specs.Number.{writeNumber}
 use Rattle.number.proofs.NumberLaws.{number-length, group-count}
 use Rattle.schedule.specs.Schedule.{writeRecords, writeSchedule}
-use Rattle.schedule.proofs.WriteLaws.{lastEnd, firstRuns, run, runs-length, run-fits, count-top, record-short, records-more, last-more, records-none, last-none}
+use Rattle.runs.proofs.StoredLaws.{firstRuns, run, runs-length, count-top}
+use Rattle.schedule.proofs.WriteLaws.{run-fits, record-short, records-more, last-more, records-none, last-none}
 use Rattle.schedule.proofs.write.schedule_length.Statement.{statement}
 use Rattle.schedule.proofs.write.schedule_length.Tie as tie
 use Rattle.schedule.proofs.write.schedule_length.Reads as reads

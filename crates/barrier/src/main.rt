@@ -1,0 +1,41 @@
+// The program: a job from standard input, its report to standard output. What is printed is decided by crate `report`.
+use report::Reply;
+ghost use mathlib.Core.Path.{_≡_};
+ghost use Prim.Native.Nat.{_≤_};
+ghost use lib.ListN.{length, take};
+ghost use Rattle.io.specs.Counts.{Counts};
+ghost use Rattle.report.specs.Text.{reported};
+
+// Room for the first 8,192 bytes of input; no accepted job is that long.
+fn job_room() -> [u8; 8192]
+    ensures { λ r. ⌜ 8192 ≡ length r ⌝ }
+{
+    [0; 8192]
+}
+
+// Room for every report.
+fn text_room() -> [u8; 32768]
+    ensures { λ r. ⌜ 32768 ≡ length r ⌝ }
+{
+    [0; 32768]
+}
+
+// The report stands in the first bytes of the text; this many.
+fn fill(job: &[u8], text: &mut [u8]) -> usize
+    requires { ⌜ 32768 ≤ length (now text) ⌝ }
+    ensures { λ r. ⌜ Counts r (now (text .exit)) ⌝ }
+    ensures { λ r. ⌜ take r (now (text .exit)) ≡ reported (now (job .entry)) ⌝ }
+{
+    match report::report(job, text) {
+        Reply::Printed(count) => count,
+        Reply::Short => 0,
+    }
+}
+
+fn main() {
+    let mut job = job_room();
+    let mut text = text_room();
+    let read = io::read_full(libc::STDIN_FILENO, &mut job);
+    let count = fill(&job[..read], &mut text);
+    io::write_all(libc::STDOUT_FILENO, &text[..count]);
+}

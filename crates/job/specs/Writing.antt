@@ -1,0 +1,33 @@
+-- The writing of a job: its numbers in the tables' order, one behind the other, each in its shortest form.
+-- Assumes nothing.
+use Prim.Native.Nat.{ℕ}
+use mathlib.Core.List.{List, [], _∷_, _++_}
+use Rattle.number.specs.Number.{writeNumber}
+use Rattle.job.specs.declared.Header.{Header}
+use Rattle.job.specs.declared.Hazard.{Hazard}
+use Rattle.job.specs.Job.{Job}
+
+-- The fourteen numbers of the header table.
+abbrev pub headerNumbers : Header → List ℕ
+headerNumbers h =
+    h .kind ∷ h .begin ∷ h .end ∷ h .forward ∷ h .opposite ∷ h .zone ∷ h .way ∷ h .offset ∷ h .deflection ∷ h .along ∷ h .across ∷ h .straight ∷ h .continuity ∷ h .count ∷ []
+
+-- "Side; s; e; near offset n; far offset f; level."
+abbrev pub hazardNumbers : Hazard → List ℕ
+hazardNumbers z = z .side ∷ z .start ∷ z .end ∷ z .near ∷ z .far ∷ z .level ∷ []
+
+unfoldable pub hazardsNumbers : List Hazard → List ℕ
+hazardsNumbers [] = []
+hazardsNumbers (z ∷ zs) = hazardNumbers z ++ hazardsNumbers zs
+
+-- The header's numbers, then six for each hazard.
+unfoldable pub numbersOf : Job → List ℕ
+numbersOf j = headerNumbers (j .header) ++ hazardsNumbers (j .hazards)
+
+-- Each number's writing, one behind the other.
+unfoldable pub writeNumbers : List ℕ → List ℕ
+writeNumbers [] = []
+writeNumbers (x ∷ xs) = writeNumber x ++ writeNumbers xs
+
+unfoldable pub writeJob : Job → List ℕ
+writeJob j = writeNumbers (numbersOf j)
