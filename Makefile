@@ -1,12 +1,44 @@
-# Two commands for a fresh machine that has the Rattle toolchain: make run, make test.
-.PHONY: run test
+# Two commands for a fresh machine with the Rattle toolchain, gcc and cargo: make run, make test.
+# Beside them: make fuzz SECONDS=n, make bench, make bench-instructions, and Makefile.vendor's make install and make examples.
+.PHONY: run test engine hand fuzz bench bench-instructions
 
-# The engine's program is not there yet: this says so and fails.
+SECONDS ?= 60
+CARGO = cargo --quiet
+HAND = $(CARGO) run --release --locked --manifest-path tests/Cargo.toml
+
+# Document 01's printed example, through the program: proved, built, run.
 run:
-	@echo "the program 'barrier' is not built yet: definitions and proofs stand, see README.md" >&2
-	@exit 1
+	@mkdir -p target
+	@rt check barrier >target/run.log 2>&1 || { cat target/run.log; exit 1; }
+	@target/bin/barrier <crates/barrier/stdin
 
-# Formatting, then the toolchain's gate: its last line is 'N passed, M failed'.
-test:
+# Everything. The toolchain's gate comes last: all proved from nothing, each must-fail edit refused, each program run.
+test: hand vendor-test
 	rt fmt --check
 	rt ci
+
+# The program and the archive, proved.
+engine:
+	rt check
+	rt staticlib barrier_engine
+
+# The implementation by another hand: its own tests, the test of the test, and the engine held against it.
+hand: engine
+	$(CARGO) test --locked --manifest-path tests/Cargo.toml
+	$(HAND) -p cases
+	$(HAND) -p differential
+	$(HAND) -p program -- target/bin/barrier
+	$(HAND) -p stack
+
+fuzz: engine
+	$(HAND) -p differential -- --seconds $(SECONDS)
+
+bench: engine
+	$(HAND) -p bench
+
+bench-instructions: engine
+	sh tests/instructions.sh
+
+include Makefile.vendor
+
+vendor-test vendor-programs install: engine

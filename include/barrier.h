@@ -181,7 +181,8 @@
  * The engine has no state, allocates nothing, opens nothing, prints nothing
  * and sets no errno.  Every call returns, whatever bytes it is given.  Any
  * call may run on any thread at any time, several at once too, as long as no
- * thread changes a buffer that another call is using.
+ * thread changes a buffer that another call is using.  One call of
+ * barrier_plan takes some 25 KiB of stack, of the others less than 1 KiB.
  *
  * ---------------------------------------------------------------------------
  * LINKING
