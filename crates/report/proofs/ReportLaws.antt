@@ -3,7 +3,6 @@
 use Prim.Native.Nat.{ℕ, _+_, _-_, _*_, _≤_}
 use native.Mathlib.Omega.{arith}
 use mathlib.Core.Path.{_≡_, refl}
-use mathlib.Core.Logic.{_↔_}
 use mathlib.Core.Bool.{true}
 use mathlib.Core.List.{List, [], _∷_, _++_}
 use lib.ListN.{length, length-append}
@@ -11,7 +10,6 @@ use Rattle.refusal.specs.Choice.{someOf, keep}
 use Rattle.refusal.specs.Answer.{Answer, accepted, refused}
 use Rattle.number.specs.Number.{writeIn, writeNumber, scan, readNumber, numberAt}
 use Rattle.approach.specs.Approach.{ceilDiv, approachLength}
-use Rattle.approach.proofs.ApproachLaws.{approach-exactly}
 use Rattle.job.specs.Writing.{writeNumbers}
 use Rattle.job.specs.Job.{Job, headerRanges, hazardRanges, readFields, readHeader, readHazards, readJob}
 use Rattle.runs.specs.declared.Stretch.{Stretch}
@@ -109,11 +107,6 @@ report-fits s = go (acceptJob s) refl
 pub printed-report : reported (writeNumbers printedJob) ≡ printedText
 unfolding writeNumbers printedJob printedText someOf keep writeIn writeNumber scan readNumber numberAt ceilDiv approachLength headerRanges hazardRanges readFields readHeader readHazards readJob farther reachOf offsetOf reaches reached lengthening envelope envelopes testHazard testHazards acceptJob filled highest requiredLevel insertStation endPoints put runsBetween requiredRuns jobRuns digitsIn decimal fields line runLines covered runsReport reported
 printed-report = refl
-
--- Its run begins before the hazard by the promised length: the least whole number of millimetres that is not below the formula.
-pub printed-approach : (n : ℕ) → (200000 - 155773 ≤ n) ↔ (101000 * (15 * 9000 + 1 * 13340 - 15 * 3000) ≤ n * (1 * 101000 + 15 * 9000))
-unfolding ceilDiv approachLength
-printed-approach n = approach-exactly 15 1 13340 101000 9000 3000 (omega arith) n
 
 -- No bytes at all.
 pub empty-report : reported [] ≡ refusedLine 1 0
