@@ -28,7 +28,6 @@ hand: engine
 	$(HAND) -p cases
 	$(HAND) -p differential
 	$(HAND) -p program -- target/bin/barrier
-	$(HAND) -p stack
 
 fuzz: engine
 	$(HAND) -p differential -- --seconds $(SECONDS)

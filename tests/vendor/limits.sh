@@ -1,6 +1,6 @@
 #!/bin/sh
 # The header's greatest sizes are attained: the longest accepted job, and a
-# schedule of 511 runs.
+# schedule of 511 runs. The stack that it names suffices for both.
 set -eu
 tmp=$(mktemp -d)
 trap 'rm -rf "$tmp"' EXIT
@@ -40,6 +40,13 @@ header() {
     header 1 0
     echo "hazard right 1000000 1900000000 25000 30000 1"
     awk 'BEGIN { for (i = 1; i < 256; i++) print "hazard right", i * 7000000, i * 7000000 + 3000000, 25000, 30000, 2 }'
-} | "$BUILD/jobtext" | "$BUILD/listing" >"$tmp/runs"
+} | "$BUILD/jobtext" >"$tmp/many"
+"$BUILD/listing" <"$tmp/many" >"$tmp/runs"
 [ "$(grep -c '^R' "$tmp/runs")" -eq "$(constant BARRIER_RUNS_MAX)" ] || fail "511 runs"
 echo "limits: the longest job is accepted, 511 runs are planned"
+
+$CC -std=c99 -O2 -Wall -Wextra -Werror -pedantic -Iinclude tests/vendor/stack.c -L"$LIBDIR" -lbarrier_engine -o "$tmp/stack"
+for job in longest many; do
+    "$tmp/stack" <"$tmp/$job" >"$tmp/depths" || { cat "$tmp/depths"; fail "more stack than BARRIER_STACK_MAX"; }
+done
+cat "$tmp/depths"

@@ -32,14 +32,15 @@ pub struct Header {
     pub count: u32,
 }
 
-// A hazard [start, end) on a side (0 right, 1 left), between a near and a far offset, with its containment level.
+// A hazard [start, end) between a near and a far offset, on a side (0 right, 1 left), with its containment level. The two small
+// numbers share a word: 256 hazards are most of what a call needs of the stack.
 pub struct Hazard {
-    pub side: u32,
     pub start: u32,
     pub end: u32,
     pub near: u32,
     pub far: u32,
-    pub level: u32,
+    pub side: u16,
+    pub level: u16,
 }
 
 // A job's numbers as stored: the first `count` hazards are the job's.

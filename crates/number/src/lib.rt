@@ -67,25 +67,24 @@ pub fn read_number(s: &[u8], at: usize) -> Read
             next: at + 1,
         };
     }
-    // What the groups so far make, and how much the next one counts.
+    // What the groups so far make, how much the next one counts, and where it stands.
     let mut low = first - 128;
     let mut weight: u32 = 128;
+    let mut next = at + 1;
     let mut passed: usize = 1;
     while passed < 4 {
-        if s.len() <= at + passed {
+        if s.len() <= next {
             return Read::Ended;
         }
-        let b = s[at + passed] as u32;
+        let b = s[next] as u32;
         let value = low + weight * b;
         passed += 1;
+        next += 1;
         if b < 128 {
             if b == 0 {
                 return Read::Malformed;
             }
-            return Read::Number {
-                value,
-                next: at + passed,
-            };
+            return Read::Number { value, next };
         }
         weight *= 128;
         low = value - weight;

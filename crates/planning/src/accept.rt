@@ -39,7 +39,7 @@ pub fn side_envelopes(job: StoredJob, side: u32) -> SideEnvelopes
         index += 1;
         match tested {
             Tested::Envelope(envelope) => {
-                if hazard.side == side {
+                if hazard.side as u32 == side {
                     stretches[count] = envelope;
                     count += 1;
                 }

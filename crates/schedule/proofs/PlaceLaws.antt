@@ -2,80 +2,85 @@
 -- Assumes nothing.
 use Prim.Native.Nat.{ℕ, _+_, _-_, _≤_, _<_}
 use native.Mathlib.Omega.{arith}
-use native.Mathlib.Decide.{decLt}
-use mathlib.Core.Path.{_≡_, refl, sym, subst, ap}
+use mathlib.Core.Path.{_≡_, refl, sym, subst, ap, _∙_}
 use mathlib.Core.Bool.{Bool, true, false, _&&_}
 use mathlib.Core.List.{List, [], _∷_, _++_}
 use lib.ListN.{length, length-append}
 use lib.Dec.{leb, ltb, eqb}
-use borrow.Author.Tests.{leb-true, lt-leb, lt-ltb, le-ltb}
+use borrow.Author.Tests.{le-leb, lt-leb, lt-ltb, le-ltb}
 use denote.Ref.{RefT, now}
 use Rattle.refusal.specs.Choice.{if_then_else_}
 use Rattle.refusal.specs.Answer.{Answer, accepted, refused, unless-refuse}
-use Rattle.refusal.proofs.TestLaws.{and-left}
 use Rattle.refusal.proofs.AnswerLaws.{bound}
 use Rattle.number.specs.Number.{Reading, writeNumber}
 use Rattle.number.proofs.NumberLaws.{Bytes, small-length}
 use Rattle.runs.specs.declared.Stretch.{Stretch}
-use Rattle.runs.specs.Level.{has}
 use Rattle.runs.proofs.RunLaws.{Rising}
 use Rattle.schedule.specs.Schedule.{writeRecord, writeRecords, writeSchedule, readSchedule}
 use Rattle.schedule.specs.Walk.{headAt, Passed, recordAt, walkRecords}
 use Rattle.schedule.specs.Calls.{Part, Found, found, nowhere, findRecord, asked, lookup, partOf}
-use Rattle.schedule.specs.Place.{IsPart, askedSlice, placeIn, between, soFar, orLater}
+use Rattle.schedule.specs.Place.{IsPart, askedSlice, placeIn, between}
+use Rattle.schedule.specs.Query.{soFar, orLater}
 use Rattle.schedule.proofs.ScheduleLaws.{schedule-read}
 use Rattle.schedule.proofs.QuantityLaws.{read-rising}
 use Rattle.schedule.proofs.StepLaws.{thenRuns, walk-start, walk-passed, record-read, record-length, head-length}
 
-pub so-far : (start end : ℕ) → start < end → soFar start end ≡ found (between start end)
-so-far start end h = rw (lt-ltb start end h)
+pub so-far : (from to reached t : ℕ) → t < reached → soFar from to reached t ≡ found (between from to)
+so-far from to reached t h = rw (lt-ltb t reached h)
 
-pub so-far-none : (start end : ℕ) → end ≤ start → soFar start end ≡ nowhere
-so-far-none start end h = rw (le-ltb start end h)
+pub so-far-none : (from to reached t : ℕ) → reached ≤ t → soFar from to reached t ≡ nowhere
+so-far-none from to reached t h = rw (le-ltb t reached h)
 
 -- What a walk finds: what it found so far, or what the runs behind have.
-abbrev pub finding : (from to e at t : ℕ) → List Stretch → Found
-finding from to e at t rs = orLater (soFar from to) (findRecord e at rs t)
+abbrev pub finding : (from to reached e at t : ℕ) → List Stretch → Found
+finding from to reached e at t rs = orLater (soFar from to reached t) (findRecord e at rs t)
 
 -- Behind the last run: what was found.
-pub finding-over : (from to e at t : ℕ) → finding from to e at t [] ≡ soFar from to
+pub finding-over : (from to reached e at t : ℕ) → finding from to reached e at t [] ≡ soFar from to reached t
 unfolding findRecord
-finding-over from to e at t = go (soFar from to)
+finding-over from to reached e at t = go (soFar from to reached t)
   where
     go : (f : Found) → orLater f nowhere ≡ f
     go (found p) = refl
     go nowhere = refl
 
-pub place-start : (s : List ℕ) (t : ℕ) (n : Reading) → Bytes s → headAt s ≡ accepted n → placeIn s t ≡ thenRuns (walkRecords (n .value) 0 0 s (n .next)) (finding 0 0 0 (n .next) t)
+pub place-start : (s : List ℕ) (t : ℕ) (n : Reading) → Bytes s → headAt s ≡ accepted n → placeIn s t ≡ thenRuns (walkRecords (n .value) 0 0 s (n .next)) (finding 0 0 0 0 (n .next) t)
 unfolding placeIn
 place-start s t n b h =
-    walk-start (λ rs. findRecord 0 (length (writeNumber (length rs))) rs t) (finding 0 0 0 (n .next) t) s n h
-    (λ rs e. ap (λ (i : ℕ). findRecord 0 i rs t) (head-length s n rs b h e))
+    walk-start (λ rs. findRecord 0 (length (writeNumber (length rs))) rs t) (finding 0 0 0 0 (n .next) t) s n h
+    (λ rs e. rw (so-far-none 0 0 0 t (omega arith)) (ap (λ (i : ℕ). findRecord 0 i rs t) (head-length s n rs b h e)))
 
--- A turn of the walk. Once the station's run is passed, no run behind it has the station.
-module _ (t from to k e v : ℕ) (s : List ℕ) (at : ℕ) (p : Passed) (b : Bytes s) (some : 0 < k) (r : recordAt e v s at ≡ accepted p) where
-  abbrev pub Turn : (from′ to′ : ℕ) → Type 0
-  Turn from′ to′ = thenRuns (walkRecords k e v s at) (finding from to e at t) ≡ thenRuns (walkRecords (k - 1) (p .run .end) (p .run .level) s (p .next)) (finding from′ to′ (p .run .end) (p .next) t)
+-- A turn of the walk: a run that starts behind the station does not have it, nor does any that ended before this one starts.
+module _ (t from to reached k e v : ℕ) (s : List ℕ) (at : ℕ) (p : Passed) (b : Bytes s) (some : 0 < k) (r : recordAt e v s at ≡ accepted p) where
+  abbrev pub Turn : (from′ to′ reached′ : ℕ) → Type 0
+  Turn from′ to′ reached′ =
+      thenRuns (walkRecords k e v s at) (finding from to reached e at t)
+      ≡ thenRuns (walkRecords (k - 1) (p .run .end) (p .run .level) s (p .next)) (finding from′ to′ reached′ (p .run .end) (p .next) t)
 
   size : (p .next ≡ at + length (writeRecord e (p .run))) × (at < p .next)
   size = record-length e v s at p b (record-read e v s at p r)
 
-  pub passed-by : has (p .run) t ≡ false → Turn from to
-  unfolding findRecord
-  passed-by h = walk-passed (finding from to e at t) (finding from to (p .run .end) (p .next) t) k e v s at p some r
-      (λ rs. rw h (ap (λ (i : ℕ). orLater (soFar from to) (findRecord (p .run .end) i rs t)) (sym (size .0))))
+  turned : (from′ to′ reached′ : ℕ)
+      → ((rs : List Stretch) → finding from to reached e at t (p .run ∷ rs) ≡ orLater (soFar from′ to′ reached′ t) (findRecord (p .run .end) (at + length (writeRecord e (p .run))) rs t))
+      → Turn from′ to′ reached′
+  turned from′ to′ reached′ same = walk-passed (finding from to reached e at t) (finding from′ to′ reached′ (p .run .end) (p .next) t) k e v s at p some r
+      (λ rs. same rs ∙ ap (λ (i : ℕ). orLater (soFar from′ to′ reached′ t) (findRecord (p .run .end) i rs t)) (sym (size .0)))
 
-  pub passed-here : has (p .run) t ≡ true → (from < to → t < e) → Turn at (p .next)
+  pub passed-by : t < p .run .start → Turn from to reached
   unfolding findRecord
-  passed-here h before = walk-passed (finding from to e at t) (finding at (p .next) (p .run .end) (p .next) t) k e v s at p some r
-      (λ rs. rw (so-far-none from to none, h, so-far at (p .next) (size .1)) (ap (λ (n : ℕ). found (record { at = at; len = n })) (omega (arith, size .0))))
+  passed-by h = turned from to reached (λ rs. rw (lt-leb (p .run .start) t h))
+
+  pub passed-here : reached ≤ e → p .run .start ≤ t → Turn at (p .next) (p .run .end)
+  unfolding findRecord
+  passed-here before h =
+      let none = so-far-none from to reached t (omega (arith, record-read e v s at p r .next-run .after)) in
+      let long : p .next - at ≡ length (writeRecord e (p .run)) = omega (arith, size .0) in
+      turned at (p .next) (p .run .end) (λ rs. rw (none, le-leb (p .run .start) t h, long) (go rs (ltb t (p .run .end))))
     where
-      none : to ≤ from
-      none = go (decLt from to)
-        where
-          go : Dec (from < to) → to ≤ from
-          go (yes l) = absurd (omega (arith, before l, record-read e v s at p r .next-run .after, leb-true (p .run .start) t (and-left (leb (p .run .start) t) (ltb t (p .run .end)) h)))
-          go (no l) = omega arith
+      go : (rs : List Stretch) (c : Bool) → let n = length (writeRecord e (p .run)) in let rest = findRecord (p .run .end) (at + n) rs t in
+          (if true && c then found (record { at = at; len = n }) else rest) ≡ orLater (if c then found (record { at = at; len = n }) else nowhere) rest
+      go rs true = refl
+      go rs false = refl
 
 -- By side
 module _ (right left : List ℕ) (side t : ℕ) where

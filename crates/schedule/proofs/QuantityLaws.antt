@@ -32,9 +32,9 @@ overlaps-more r rs v p q = go (eqb (r .level) v)
     go false = omega arith
 
 -- A turn of the walk: the run passed counts, and then those behind it.
-pub sum-turn : (v p q sum : ℕ) (k e u : ℕ) (s : List ℕ) (at : ℕ) (ps : Passed) (n : ℕ) → 0 < k → recordAt e u s at ≡ accepted ps → n ≡ overlapAt (ps .run) v p q
-    → thenRuns (walkRecords k e u s at) (λ rs. sum + overlaps rs v p q) ≡ thenRuns (walkRecords (k - 1) (ps .run .end) (ps .run .level) s (ps .next)) (λ rs. sum + n + overlaps rs v p q)
-sum-turn v p q sum k e u s at ps n h r m = walk-passed (λ rs. sum + overlaps rs v p q) (λ rs. sum + n + overlaps rs v p q) k e u s at ps h r (λ rs. omega (arith, overlaps-more (ps .run) rs v p q))
+pub sum-turn : (v p q sum sum′ : ℕ) (k e u : ℕ) (s : List ℕ) (at : ℕ) (ps : Passed) → 0 < k → recordAt e u s at ≡ accepted ps → sum′ ≡ sum + overlapAt (ps .run) v p q
+    → thenRuns (walkRecords k e u s at) (λ rs. sum + overlaps rs v p q) ≡ thenRuns (walkRecords (k - 1) (ps .run .end) (ps .run .level) s (ps .next)) (λ rs. sum′ + overlaps rs v p q)
+sum-turn v p q sum sum′ k e u s at ps h r m = walk-passed (λ rs. sum + overlaps rs v p q) (λ rs. sum′ + overlaps rs v p q) k e u s at ps h r (λ rs. omega (arith, overlaps-more (ps .run) rs v p q))
 
 -- A run that follows one which ended at e has no more millimetres than there are from there to its end.
 pub overlap-most : (e u : ℕ) (r : Stretch) → Next e u r → (v p q : ℕ) → e + overlapAt r v p q ≤ r .end

@@ -1,29 +1,30 @@
 -- Laws of the walk: which run may follow another, and that reading a schedule is reading its head and walking its records.
 -- Assumes nothing.
-use Prim.Native.Nat.{ℕ, zero, suc, _+_, _≤_}
+use Prim.Native.Nat.{ℕ, zero, suc, _+_, _≤_, _<_}
 use native.Mathlib.Omega.{arith}
+use native.Mathlib.Decide.{decLt}
 use mathlib.Core.Path.{_≡_, refl, sym, ap, _∙_}
 use mathlib.Core.Logic.{inl, inr}
 use mathlib.Core.Bool.{Bool, true, false, _&&_}
 use mathlib.Core.List.{List, [], _∷_, _++_, append-assoc, append-nil}
-use lib.ListN.{length, length-append}
+use lib.ListN.{length, length-append, getD, drop, drop-of-length-le}
+use lib.Seq.{drop-cons}
 use lib.Dec.{leb, eqb}
 use borrow.Author.Tests.{le-leb, leb-true}
 use Rattle.refusal.specs.Answer.{Answer, accepted, refused, _>>=_, unless-refuse}
 use Rattle.refusal.proofs.TestLaws.{and-left, and-intro}
-use Rattle.number.specs.Number.{Reading, readingOf, numberAt}
+use Rattle.number.specs.Number.{Reading, scan, readingOf, numberAt, readNumber, writeNumber}
 use Rattle.number.specs.declared.Read.{Read}
 use Rattle.number.specs.declared.Read.the-variants.{Number, Ended, Malformed}
 use Rattle.number.proofs.Read
+use Rattle.number.proofs.NumberLaws.{Bytes, write-one, small-length, read-writing, read-stands}
 use denote.Enum.Declared.{tagOf}
 use types.Run.{OneOf}
 use Rattle.runs.specs.declared.Stretch.{Stretch}
 use Rattle.runs.specs.RunList.{mayFollow, mostRuns, risingRuns, isRunList}
 use Rattle.runs.proofs.RunLaws.{Next, rising, rising-test}
 use Rattle.schedule.specs.Schedule.{Records, readRecords, orTen, readSchedule}
-use Rattle.schedule.specs.declared.walk.Record.{Record}
-use Rattle.schedule.specs.declared.walk.Record.the-variants as Record
-use Rattle.schedule.specs.Walk.{recordReply, headAt, Passed, followingRun, recordAt, walkRecords}
+use Rattle.schedule.specs.Walk.{headAt, Passed, followingRun, recordAt, walkRecords}
 
 -- Where a `let` finds no number, by the tag that it tests.
 pub no-number : {B : Type 0} (at : ℕ) (f : Reading → Answer B) (r : Read) → OneOf (1 ∷ 2 ∷ []) (tagOf Read.the-type r) → orTen (readingOf at r >>= f) ≡ refused 10 0
@@ -31,11 +32,6 @@ no-number at f (Number v n) (inl e) = absurd (omega arith)
 no-number at f (Number v n) (inr e) = absurd (omega arith)
 no-number at f Ended k = refl
 no-number at f Malformed k = refl
-
--- A record's reply refuses nothing but 10.
-pub or-ten-record : (r : Record) → recordReply r ≡ orTen (recordReply r)
-or-ten-record (Record.Next run next) = refl
-or-ten-record Record.Bad = refl
 
 -- One run
 
@@ -61,6 +57,54 @@ run-refused e v gap len lev next n = go (mayFollow e v (runAfter e gap len lev))
     go : (b : Bool) → mayFollow e v (runAfter e gap len lev) ≡ b → _>>=_ {B = Passed} (unless-refuse b 10 0) (λ _. accepted (record { run = runAfter e gap len lev; next = next })) ≡ refused 10 0
     go true h = absurd (n (follows e v (runAfter e gap len lev) h))
     go false h = refl
+
+-- The level's byte
+
+abbrev levelled : (e v gap len : ℕ) → List ℕ → (at : ℕ) → Answer Passed
+levelled e v gap len s at = orTen (numberAt s at >>= λ lev. followingRun e v gap len (lev .value) (lev .next))
+
+module _ (e v gap len : ℕ) (s : List ℕ) (at : ℕ) where
+  pub level-ended : length s ≤ at → levelled e v gap len s at ≡ refused 10 0
+  unfolding numberAt readNumber scan
+  level-ended h = rw (drop-of-length-le s h)
+
+  or-ten-run : (lev next : ℕ) → orTen (followingRun e v gap len lev next) ≡ followingRun e v gap len lev next
+  unfolding followingRun
+  or-ten-run lev next = go (mayFollow e v (runAfter e gap len lev))
+    where
+      go : (b : Bool) → let a = _>>=_ {B = Passed} (unless-refuse b 10 0) (λ _. accepted (record { run = runAfter e gap len lev; next = next })) in orTen a ≡ a
+      go true = refl
+      go false = refl
+
+  -- A number above 6 is no level.
+  no-level-above : (lev next : ℕ) → 6 < lev → followingRun e v gap len lev next ≡ refused 10 0
+  no-level-above lev next h = run-refused e v gap len lev next (λ n. omega (arith, n .top))
+
+  -- The number that stands at an index is its byte, or has no level's value.
+  pub level-byte : Bytes s → at < length s → levelled e v gap len s at ≡ followingRun e v gap len (getD s at 0) (at + 1)
+  unfolding numberAt
+  level-byte b there = go (decLt (getD s at 0) 128)
+    where
+      first : drop at s ≡ getD s at 0 ∷ drop (suc at) s
+      first = drop-cons s at 0 there
+
+      go : Dec (getD s at 0 < 128) → levelled e v gap len s at ≡ followingRun e v gap len (getD s at 0) (at + 1)
+      go (yes h) =
+          let writing : drop at s ≡ writeNumber (getD s at 0) ++ drop (suc at) s = first ∙ rw (write-one (getD s at 0) h) in
+          rw (read-writing s at (getD s at 0) (drop (suc at) s) (omega arith) writing, small-length (getD s at 0) h) (or-ten-run (getD s at 0) (at + 1))
+      go (no h) = turn (readNumber s at) refl ∙ sym (no-level-above (getD s at 0) (at + 1) (omega arith))
+        where
+          above : (x n : ℕ) → readNumber s at ≡ Number x n → Dec (x < 128) → 128 ≤ x
+          above x n e (yes l) =
+              let one : writeNumber x ++ drop n s ≡ x ∷ drop n s = rw (write-one x l) in
+              let two = sym first ∙ read-stands s at x n b e .split ∙ one in
+              let same : getD s at 0 ≡ x = cc in absurd (omega arith)
+          above x n e (no l) = omega arith
+
+          turn : (r : Read) → readNumber s at ≡ r → orTen (readingOf at r >>= λ lev. followingRun e v gap len (lev .value) (lev .next)) ≡ refused 10 0
+          turn (Number x n) e = rw (no-level-above x n (omega (arith, above x n e (decLt x 128))))
+          turn Ended e = refl
+          turn Malformed e = refl
 
 -- All records
 

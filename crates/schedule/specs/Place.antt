@@ -4,7 +4,7 @@ use Prim.Native.Nat.{ℕ, _+_, _-_}
 use mathlib.Core.Path.{_≡_}
 use mathlib.Core.List.{List}
 use lib.ListN.{length, take, drop}
-use lib.Dec.{ltb, eqb}
+use lib.Dec.{eqb}
 use denote.Ref.{RefT, now, ptr}
 use Rattle.refusal.specs.Choice.{if_then_else_}
 use Rattle.refusal.specs.Answer.{Answer, accepted, _>>=_}
@@ -37,11 +37,3 @@ abbrev pub locatedReply : Located → Answer Found
 locatedReply (Located.Found start end) = accepted (found (between start end))
 locatedReply Located.Nothing = accepted nowhere
 locatedReply (Located.Refused r) = refusal r
-
--- The place found so far in a walk, none where it is empty; and then what is found behind it.
-abbrev pub soFar : (start end : ℕ) → Found
-soFar start end = if ltb start end then found (between start end) else nowhere
-
-abbrev pub orLater : Found → Found → Found
-orLater (found p) later = found p
-orLater nowhere later = later

@@ -12,10 +12,16 @@ ghost use Rattle.schedule.specs.Place.{IsPart, askedSlice, placeIn, loca
 fn place_in(s: &[u8], station: u64) -> Located
     ensures { λ r. ⌜ locatedReply r ≡ placeIn (now (s .entry)) station ⌝ }
 {
-    let Walked::Over { sum: _, from, to } = walk(s, 0, 0, 0, station) else {
+    let Walked::Over {
+        sum: _,
+        from,
+        to,
+        reached,
+    } = walk(s, 0, 0, 0, station)
+    else {
         return Located::Refused(Refusal::Schedule);
     };
-    if from < to {
+    if station < reached as u64 {
         Located::Found {
             start: from,
             end: to,

@@ -8,14 +8,15 @@ ghost use Rattle.schedule.specs.Walk.{overlapSum};
 ghost use Rattle.schedule.specs.Calls as Calls;
 
 // The millimetres of [p, q) that the schedule's runs of the level have; no record is looked up.
-fn overlap_sum(s: &[u8], level: u64, p: u64, q: u64) -> Quantity
+fn overlap_sum(s: &[u8], level: u32, p: u64, q: u64) -> Quantity
     ensures { λ r. ⌜ Calls.quantityReply r ≡ overlapSum (now (s .entry)) level p q ⌝ }
 {
-    match walk(s, level, p, q, 2000000000) {
+    match walk(s, level, p, q, 0) {
         Walked::Over {
             sum,
             from: _,
             to: _,
+            reached: _,
         } => Quantity::Millimetres(sum),
         Walked::Bad => Quantity::Refused(Refusal::Schedule),
     }
@@ -33,5 +34,5 @@ pub fn quantity(schedule: &[u8], level: u64, p: u64, q: u64) -> Quantity
     if q < p {
         return Quantity::Refused(Refusal::Argument);
     }
-    overlap_sum(schedule, level, p, q)
+    overlap_sum(schedule, level as u32, p, q)
 }

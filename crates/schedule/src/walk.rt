@@ -83,12 +83,9 @@ pub fn read_record(s: &[u8], at: usize, end: u32, level: u32) -> Record
     else {
         return Record::Bad;
     };
-    let Read::Number {
-        value: own,
-        next: k,
-    } = number::read_number(s, j)
-    else {
+    // A level is below 128, so it takes one byte; what takes more is none.
+    if s.len() <= j {
         return Record::Bad;
-    };
-    following_run(end, level, gap, length, own, k)
+    }
+    following_run(end, level, gap, length, s[j] as u32, j + 1)
 }

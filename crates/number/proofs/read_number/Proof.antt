@@ -1,5 +1,5 @@
 -- `number::read_number` meets its contract. The loop's invariant: what is to be read is what is read behind the `passed` groups, which make
--- `low`. The measure is the groups left before the fifth. Assumes nothing.
+-- `low` and end before `next`. The measure is the groups left before the fifth. Assumes nothing.
 use mathlib.Core.Path.{_≡_, refl, sym, ap, ap₂, _∙_}
 use mathlib.Core.List.{List}
 use Prim.Native.Nat.{ℕ, _+_, _-_, _*_, _^_, _≤_, _<_}
@@ -17,11 +17,11 @@ use Rattle.number.proofs.read_number.Statement.{statement}
 use Rattle.number.proofs.read_number.Tie as tie
 
 abbrev Inv-loop : tie.InvT-loop
-Inv-loop s at first low₀ weight₀ passed₀ low weight passed =
-    (0 < passed) × (passed ≤ 4) × (at + passed ≤ length s) × (weight ≡ 128 ^ passed) × (low < weight) × (readNumber s at ≡ readBehind low weight passed s at)
+Inv-loop s at first low₀ weight₀ next₀ passed₀ low weight next passed =
+    (0 < passed) × (passed ≤ 4) × (next ≤ length s) × (next ≡ at + passed) × (weight ≡ 128 ^ passed) × (low < weight) × (readNumber s at ≡ readBehind low weight passed s at)
 
 abbrev μ-loop : tie.MeasureT-loop
-μ-loop s at first low₀ weight₀ passed₀ low weight passed = 4 - passed
+μ-loop s at first low₀ weight₀ next₀ passed₀ low weight next passed = 4 - passed
 
 -- In the loop's body, behind the test that the bytes go on.
 abbrev Body : Type 0
@@ -42,17 +42,24 @@ Weight c = c .before .before .before .loop .weight
 abbrev Passed : Body → ℕ
 Passed c = c .before .before .before .loop .passed
 
+abbrev Next : Body → ℕ
+Next c = c .before .before .before .loop .next
+
 abbrev B : Body → ℕ
 B c = getD (S c) (At c + Passed c) 0
 
+-- The byte that is read.
+stands : (c : Body) → getD (S c) (Next c) 0 ≡ B c
+stands c = ap (λ (i : ℕ). getD (S c) i 0) (c .before .before .before .loop .inv .3)
+
 counts : (c : Body) → Weight c ≡ 128 ^ Passed c
-counts c = c .before .before .before .loop .inv .3
+counts c = c .before .before .before .loop .inv .4
 
 weight-le : (c : Body) → Weight c ≤ 128 ^ 3
 weight-le c = rw (counts c) (pow-le-pow-right {n = 128} (omega arith) {i = Passed c} {j = 3} (omega arith))
 
 byte : (c : Body) → B c < 256
-byte c = omega (arith, c .shared-slice-known3 .given (At c + Passed c))
+byte c = omega (arith, c .shared-slice-known3 .given (Next c), stands c)
 
 -- What a group makes stays below 32 bits.
 room : (c : Body) → Weight c * B c ≤ Weight c * 255
@@ -80,6 +87,7 @@ loop-holds c =
       omega arith,
       omega arith,
       refl,
+      refl,
       omega (arith, c .before .shared-slice-known2 .given (a .at)),
       read-first (a .s .now) (a .at) (c .before .before .if1 .left) (c .if2 .left),
     )
@@ -88,33 +96,36 @@ returns-3 : tie.Need-returns-3 Inv-loop μ-loop
 returns-3 c =
     let l = c .before .before .loop in
     let a = c .before .before .before .before .before .before .before .args in
-    sym (l .inv .5 ∙ read-ended (l .low) (l .weight) (l .passed) (a .s .now) (a .at) (omega arith) (c .if3 .taken))
+    sym (l .inv .6 ∙ read-ended (l .low) (l .weight) (l .passed) (a .s .now) (a .at) (omega arith) (omega arith))
 
 returns-4 : tie.Need-returns-4 Inv-loop μ-loop
 returns-4 c =
     let b = c .before .before in
     let l = b .before .before .before .loop in
-    sym (l .inv .5 ∙ read-needless (Low b) (Weight b) (Passed b) (S b) (At b) (omega arith) (b .before .if3 .left) (omega arith) (counts b) (l .inv .4) (c .if5 .taken))
+    sym (l .inv .6 ∙ read-needless (Low b) (Weight b) (Passed b) (S b) (At b) (omega arith) (omega arith) (omega arith) (counts b) (l .inv .5) (omega (arith, stands b)))
 
 returns-5 : tie.Need-returns-5 Inv-loop μ-loop
 returns-5 c =
     let b = c .before .before in
     let l = b .before .before .before .loop in
-    sym (l .inv .5
-    ∙ read-whole (Low b) (Weight b) (Passed b) (S b) (At b) (omega arith) (b .before .if3 .left) (omega arith) (counts b) (l .inv .4) (omega arith) (c .before .if4 .taken) (omega (arith, weight-le b, room b)))
+    ap₂ Number (ap (λ (m : ℕ). Low b + Weight b * m) (stands b)) (omega arith)
+    ∙ sym (l .inv .6
+    ∙ read-whole (Low b) (Weight b) (Passed b) (S b) (At b) (omega arith) (omega arith) (omega arith) (counts b) (l .inv .5) (omega (arith, stands b)) (omega (arith, stands b)) (omega (arith, weight-le b, room b)))
 
 loop-again : tie.Need-loop-again Inv-loop μ-loop
 loop-again c =
     let b = c .before in
     let l = b .before .before .before .loop in
-    let less = group-less (Low b) (Weight b) (B b) (c .if4 .left) in (
+    let more : 128 ≤ B b = omega (arith, stands b) in
+    let less = ap (λ (m : ℕ). Low b + Weight b * m - Weight b * 128) (stands b) ∙ group-less (Low b) (Weight b) (B b) more in (
+      omega arith,
       omega arith,
       omega arith,
       omega arith,
       rw (counts b) (sym (pow-suc 128 (Passed b)) ∙ ap (λ (k : ℕ). 128 ^ k) (sym (add-one (Passed b)))),
       omega (arith, room-rest b),
-      l .inv .5
-          ∙ read-more (Low b) (Weight b) (Passed b) (S b) (At b) (omega arith) (b .before .if3 .left) (c .if4 .left)
+      l .inv .6
+          ∙ read-more (Low b) (Weight b) (Passed b) (S b) (At b) (omega arith) (omega arith) more
           ∙ ap (λ (m : ℕ). readBehind m (Weight b * 128) (Passed b + 1) (S b) (At b)) (sym less),
     )
 
@@ -122,7 +133,7 @@ read-fifth-requires : tie.Need-read-fifth-requires Inv-loop μ-loop
 read-fifth-requires c κs =
     let l = c .before .loop in
     let four : l .passed ≡ 4 = omega arith in
-    let counted : l .weight ≡ 128 ^ 4 = l .inv .3 ∙ ap (λ (k : ℕ). 128 ^ k) four in
+    let counted : l .weight ≡ 128 ^ 4 = l .inv .4 ∙ ap (λ (k : ℕ). 128 ^ k) four in
     (omega arith, omega arith)
 
 returns-6 : tie.Need-returns-6 Inv-loop μ-loop
@@ -130,14 +141,14 @@ returns-6 c =
     let l = c .before .before .loop in
     let a = c .before .before .before .before .before .before .before .args in
     let four : l .passed ≡ 4 = omega arith in
-    let counted : l .weight ≡ 128 ^ 4 = l .inv .3 ∙ ap (λ (k : ℕ). 128 ^ k) four in
-    c .read-fifth .ensures ∙ sym (l .inv .5 ∙ ap₂ (λ (w k : ℕ). readBehind (l .low) w k (a .s .now) (a .at)) counted four)
+    let counted : l .weight ≡ 128 ^ 4 = l .inv .4 ∙ ap (λ (k : ℕ). 128 ^ k) four in
+    c .read-fifth .ensures ∙ sym (l .inv .6 ∙ ap₂ (λ (w k : ℕ). readBehind (l .low) w k (a .s .now) (a .at)) counted four)
 
 pub read-number-spec : {M : Type 1} → statement M
 read-number-spec =
     tie.close
     (tie.spec Inv-loop μ-loop returns (λ c. omega arith) (λ c. omega (arith, c .shared-slice-known2 .given (c .before .before .before .args .at)))
-    (λ c. omega arith) returns-2 loop-holds (λ c. omega arith) returns-3 (λ c. omega arith) (λ c. omega arith) (λ c. omega (arith, byte c))
-    (λ c. omega (arith, weight-le c, room c)) (λ c. omega (arith, weight-le c, room c)) (λ c. omega arith)
-    returns-4 (λ c. omega arith) returns-5 (λ c. omega (arith, weight-le (c .before)))
-    (λ c. omega (arith, mul-le-mul-left {m = 128} {n = B (c .before)} (Weight (c .before)) (c .if4 .left))) (λ c. omega arith) loop-again read-fifth-requires returns-6)
+    (λ c. omega arith) returns-2 (λ c. omega arith) loop-holds returns-3 (λ c. omega arith) (λ c. omega (arith, byte c, stands c))
+    (λ c. rw (stands c) (omega (arith, weight-le c, room c))) (λ c. rw (stands c) (omega (arith, weight-le c, room c))) (λ c. omega arith)
+    (λ c. omega arith) returns-4 returns-5 (λ c. omega (arith, weight-le (c .before)))
+    (λ c. rw (stands (c .before)) (omega (arith, mul-le-mul-left {m = 128} {n = B (c .before)} (Weight (c .before)) (omega (arith, stands (c .before)))))) (λ c. omega arith) loop-again read-fifth-requires returns-6)

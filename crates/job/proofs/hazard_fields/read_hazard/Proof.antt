@@ -1,11 +1,15 @@
 -- `job::hazard_fields::read_hazard` meets its contract: behind each number that was read, what is left to read gives the answer.
 -- Assumes nothing.
-use Prim.Native.Nat.{ℕ, _-_}
+use Prim.Native.Nat.{ℕ, _-_, _≤_}
+use mathlib.Core.Path.{_≡_}
 use native.Mathlib.Omega.{arith}
 use mathlib.Core.List.{List, [], _∷_}
 use borrow.Author.Needs.{needs}
 use Rattle.refusal.specs.declared.Refusal.the-variants.{HazardRange}
 use Rattle.job.specs.declared.field.Reading.{Reading}
+use Rattle.job.specs.declared.field.Field.{Field}
+use Rattle.job.specs.declared.field.Field.the-variants as Field
+use Rattle.job.specs.Reply.{fieldAt, fieldAnswer}
 use Rattle.job.specs.Job.{_to_, hazardRanges}
 use Rattle.job.proofs.FieldLaws.{field-within}
 use Rattle.job.proofs.HazardLaws.{FieldsLeft, all-left, one-less, hazard-refused, hazard-read}
@@ -76,14 +80,38 @@ returns-2 c =
     let r = c .before .before .before in
     hazard-refused (left-one (r .before .before .before)) (r .read-field2 .ensures) (c .before .refusal2 .given .1)
 
+-- A number that was read is at most its range's end.
+most : (low high index : ℕ) (s : List ℕ) (at : ℕ) (f : Field) (n : Reading) → fieldAnswer f ≡ fieldAt (low to high) (HazardRange index) s at → f ≡ Field.Number n → n .value ≤ high
+most low high index s at f n read e = within-high (low to high) (n .value) (field-within (low to high) (HazardRange index) s at f n read e)
+
 -- The start lies before the road's end.
 add-read-field : tie.Need-add-read-field
 add-read-field c =
     let d = c .before .before in
+    let r = d .before .before .read-field2 in
     let a = at-one d .before .before .before .before .args in
-    let last = within-high ((a .header .begin) to (a .header .end - 1)) (two d .value)
-    (field-within ((a .header .begin) to (a .header .end - 1)) (HazardRange (a .index)) (a .s .now) (one (at-one d) .next) (d .before .before .read-field2 .result) (two d) (d .before .before .read-field2 .ensures) (d .reading2 .given .1)) in
+    let last = most (a .header .begin) (a .header .end - 1) (a .index) (a .s .now) (one (at-one d) .next) (r .result) (two d) (r .ensures) (d .reading2 .given .1) in
     omega arith
+
+-- A side is at most 1, a level at most 6.
+side-most : (c : tie.After-reading) → one c .value ≤ 1
+side-most c =
+    let r = c .before .before .read-field in
+    let a = c .before .before .before .before .args in
+    most 0 1 (a .index) (a .s .now) (a .first) (r .result) (one c) (r .ensures) (c .reading .given .1)
+
+level-most : (c : tie.After-reading6) → c .reading6 .given .0 .0 .value ≤ 6
+level-most c =
+    let r = c .before .before .read-field6 in
+    let g = c .before .before .before .before in
+    let a = at-one (at-two (at-three (at-four g))) .before .before .before .before .args in
+    most 1 6 (a .index) (a .s .now) (five g .next) (r .result) (c .reading6 .given .0 .0) (r .ensures) (c .reading6 .given .1)
+
+side-fits : tie.Need-cast-t37
+side-fits c = omega (arith, side-most (at-one (at-two (at-three (at-four (c .before .before .before .before .before .before))))))
+
+level-fits : tie.Need-cast-t38
+level-fits c = omega (arith, level-most (c .before .before .before))
 
 returns-3 : tie.Need-returns-3
 unfolding hazardRanges
@@ -112,8 +140,8 @@ returns-6 c =
 returns-7 : tie.Need-returns-7
 unfolding hazardRanges
 returns-7 c =
-    let r = c .before .before .before in
-    hazard-read (one-less (left-five (r .before .before)) (r .read-field6 .ensures) (c .before .reading6 .given .1))
+    let r = c .before .before .before .before .before in
+    hazard-read (one-less (left-five (r .before .before)) (r .read-field6 .ensures) (c .before .before .before .reading6 .given .1))
 
 pub read-hazard-spec : {M : Type 1} → statement M
 read-hazard-spec =
@@ -123,4 +151,4 @@ read-hazard-spec =
     add-read-field (λ c κs. search needs) (λ c. search needs) (λ c. search needs) returns-3
     (λ c κs. search needs) (λ c. search needs) (λ c. search needs) returns-4
     (λ c κs. search needs) (λ c. search needs) (λ c. search needs) returns-5
-    (λ c κs. search needs) (λ c. search needs) (λ c. search needs) returns-6 returns-7)
+    (λ c κs. search needs) (λ c. search needs) (λ c. search needs) returns-6 side-fits level-fits returns-7)

@@ -87,6 +87,7 @@ side-envelopes-spec =
     (λ c. search needs)
     (λ c. search needs)
     (λ c. search needs)
+    (λ c. search needs)
     loop-again
     (λ c. search needs)
     loop-again-2

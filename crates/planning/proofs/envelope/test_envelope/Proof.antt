@@ -20,9 +20,16 @@ returns-2 c =
 returns-3 : tie.Need-returns-3
 unfolding envelope
 returns-3 c =
-    let a = c .before .before .before .before .before .before .before .before .before .before .args in
-    rw (c .before .before .before .before .before .before .before .before .before .lengthened-by .ensures .0, c .before .before .before .before .before .before .before .before .lengthened-by2 .ensures .0)
-    (tested-passed (a .header) (a .index) (a .hazard) (omega arith) (omega arith) (omega arith) (omega arith) (omega arith))
+    let e = c .before .before .before in
+    let d = e .before .before .before in
+    let second = d .before .before .before in
+    let first = second .before in
+    let start = first .before in
+    let a = start .args in
+    let before = first .lengthened-by .ensures .0 in
+    let behind = second .lengthened-by2 .ensures .0 in
+    rw (before, behind)
+    (tested-passed (a .header) (a .index) (a .hazard) (start .pre .1 .0 .side) (start .pre .1 .1 .0) (start .pre .1 .1 .1) (omega (arith, d .if1 .left, before)) (omega (arith, e .if2 .left, behind)))
 
 pub test-envelope-spec : {M : Type 1} → statement M
 test-envelope-spec =
@@ -34,6 +41,7 @@ test-envelope-spec =
     returns
     (λ c. search needs)
     returns-2
+    (λ c. search needs)
     (λ c. search needs)
     (λ c. search needs)
     returns-3)

@@ -25,4 +25,4 @@ returns-4 c =
     c .overlap-sum .ensures ∙ sym (quantity-sum (a .schedule .now) (a .level) (a .p) (a .q) (bytes (c .before .before .before .before)) (omega arith, omega arith, omega arith))
 
 pub quantity-spec : {M : Type 1} → statement M
-quantity-spec = tie.close (tie.spec returns returns-2 returns-3 (λ c κs. search needs) returns-4)
+quantity-spec = tie.close (tie.spec returns returns-2 returns-3 (λ c. omega arith) (λ c κs. search needs) returns-4)

@@ -1,0 +1,78 @@
+/*
+ * How many bytes of stack each call takes: it runs on a stack of its own that
+ * was painted before, and the paint that is left shows how deep it went. A job
+ * comes from standard input; BARRIER_STACK_MAX bytes have to suffice for
+ * planning it and for the two queries of its schedule.
+ */
+#define _XOPEN_SOURCE 600
+#include <barrier.h>
+#include <stdio.h>
+#include <string.h>
+#include <ucontext.h>
+
+enum { PAINT = 0xA5 };
+
+static unsigned char stack[65536];
+static ucontext_t here, there;
+
+static unsigned char job[BARRIER_JOB_MAX];
+static size_t job_length;
+static unsigned char schedule[BARRIER_SCHEDULE_MAX];
+static barrier_reply planned, counted;
+static barrier_record found;
+
+static void nothing(void)
+{
+}
+
+static void plan(void)
+{
+    planned = barrier_plan(job, job_length, BARRIER_RIGHT, schedule, sizeof schedule);
+}
+
+static void quantity(void)
+{
+    counted = barrier_quantity(schedule, planned.value, BARRIER_NC_1, 0, BARRIER_STATION_MAX);
+}
+
+static void lookup(void)
+{
+    found = barrier_lookup(schedule, planned.value, NULL, 0, BARRIER_RIGHT, BARRIER_STATION_MAX);
+}
+
+static size_t depth(void (*call)(void))
+{
+    size_t left = 0;
+
+    memset(stack, PAINT, sizeof stack);
+    getcontext(&there);
+    there.uc_stack.ss_sp = stack;
+    there.uc_stack.ss_size = sizeof stack;
+    there.uc_link = &here;
+    makecontext(&there, call, 0);
+    swapcontext(&here, &there);
+    while (left < sizeof stack && stack[left] == PAINT)
+        left++;
+    return sizeof stack - left;
+}
+
+/* What the call takes beyond a function that does nothing; 0 where too much. */
+static int suffices(const char *name, void (*call)(void))
+{
+    size_t bytes = depth(call) - depth(nothing);
+
+    printf("stack: %s takes %zu bytes\n", name, bytes);
+    return bytes <= BARRIER_STACK_MAX;
+}
+
+int main(void)
+{
+    int well;
+
+    job_length = fread(job, 1, sizeof job, stdin);
+    plan(); /* so that the loader's own work is done before it counts */
+    well = suffices("plan", plan);
+    well &= suffices("quantity", quantity);
+    well &= suffices("lookup", lookup);
+    return well && planned.number == BARRIER_DONE && counted.number == BARRIER_DONE && found.number == BARRIER_DONE ? 0 : 1;
+}
