@@ -1,6 +1,6 @@
 # Two commands for a fresh machine with the Rattle toolchain, gcc and cargo: make run, make test.
 # Beside them: make fuzz SECONDS=n, make bench, make bench-instructions, and Makefile.vendor's make install and make examples.
-.PHONY: run test engine hand fuzz bench bench-instructions
+.PHONY: run test proved engine hand fuzz bench bench-instructions
 
 SECONDS ?= 60
 CARGO = cargo --quiet
@@ -18,9 +18,13 @@ test: hand vendor-test
 	rt ci
 
 # The program and the archive, proved.
-engine:
+engine: proved target/staticlib/libbarrier_engine.a
+
+proved:
 	rt check
-	rt staticlib barrier_engine
+
+# Makefile.vendor has the recipe. Whatever links the archive or installs it asks for this file, so the proofs and a fresh archive always come first.
+target/staticlib/libbarrier_engine.a: proved
 
 # The implementation by another hand: its own tests, the test of the test, and the engine held against it.
 hand: engine
@@ -38,6 +42,9 @@ bench: engine
 bench-instructions: engine
 	sh tests/instructions.sh
 
+# Here the program is always built, so its tests may not be left out.
+BARRIER = target/bin/barrier
+
 include Makefile.vendor
 
-vendor-test vendor-programs install: engine
+vendor-test: engine
