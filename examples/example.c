@@ -1,6 +1,8 @@
 /*
  * The first program: plans document 01's printed example, looks up the barrier
- * at some stations, prices it by lots and shows two refusals.
+ * at some stations, prices it by lots and shows two refusals.  It ends with 1
+ * where a call does not do what it should: a schedule that cannot be read must
+ * not be priced as one without barriers.
  *
  *     cc example.c $(pkg-config --cflags --libs barrier_engine) -o example
  */
@@ -12,11 +14,11 @@
 #include "number_form.h"
 
 /* The header, 14 numbers, and one hazard: a culvert headwall on the right. */
-enum { JOB_NUMBERS = 20, NEAR_OFFSET = 17 };
+enum { JOB_NUMBERS = 20, NEAR_OFFSET = 17, ROAD_END = 1000000 };
 
 static const uint64_t printed_job[JOB_NUMBERS] = {
     1,               /* kind */
-    0, 1000000,      /* road begin and end: one kilometre */
+    0, ROAD_END,     /* road begin and end: one kilometre */
     101000, 0,       /* runout lengths: forward; no opposite traffic */
     9000,            /* clear-zone width */
     0,               /* travelled-way edge to centreline */
@@ -104,8 +106,8 @@ static size_t plan(const uint8_t *job, size_t job_len, uint64_t side, uint8_t *o
     return (size_t)reply.value;
 }
 
-/* What stands on the right side at a station. */
-static void print_station(const uint8_t *right, size_t right_len, uint64_t station)
+/* What stands on the right side at a station; 0 if refused. */
+static int print_station(const uint8_t *right, size_t right_len, uint64_t station)
 {
     const barrier_record record =
         barrier_lookup(right, right_len, NULL, 0, BARRIER_RIGHT, station);
@@ -113,11 +115,11 @@ static void print_station(const uint8_t *right, size_t right_len, uint64_t stati
         /* Not the same as "no barrier": these bytes could not be read. */
         const barrier_reply refusal = {record.number, 0};
         print_refusal("lookup", refusal);
-        return;
+        return 0;
     }
     if (!record.found) {
         printf("  station %" PRIu64 ": no barrier\n", station);
-        return;
+        return 1;
     }
     size_t at = (size_t)record.start;
     const uint64_t distance = get_number(right, &at);
@@ -126,6 +128,17 @@ static void print_station(const uint8_t *right, size_t right_len, uint64_t stati
     printf("  station %" PRIu64 ": bytes [%" PRIu64 ", %" PRIu64 "): ", station, record.start,
            record.end);
     printf("%" PRIu64 " mm free, then %" PRIu64 " mm at NC-%" PRIu64 "\n", distance, length, level);
+    return 1;
+}
+
+static int print_stations(const uint8_t *right, size_t right_len)
+{
+    static const uint64_t stations[] = {155772, 155773, 209999, 210000};
+    printf("Records on the right side\n");
+    for (size_t i = 0; i < sizeof stations / sizeof stations[0]; i++)
+        if (!print_station(right, right_len, stations[i]))
+            return 0;
+    return 1;
 }
 
 static void print_price(const char *what, uint64_t millimetres)
@@ -135,8 +148,8 @@ static void print_price(const char *what, uint64_t millimetres)
            cents / 100, cents % 100);
 }
 
-/* One lot, [p, q).  Returns its millimetres of NC-3. */
-static uint64_t print_lot(const uint8_t *right, size_t right_len, uint64_t p, uint64_t q)
+/* One lot, [p, q): adds its millimetres of NC-3 to the sum; 0 if refused. */
+static int print_lot(const uint8_t *right, size_t right_len, uint64_t p, uint64_t q, uint64_t *sum)
 {
     const barrier_reply reply = barrier_quantity(right, right_len, BARRIER_NC_3, p, q);
     char name[64];
@@ -146,23 +159,48 @@ static uint64_t print_lot(const uint8_t *right, size_t right_len, uint64_t p, ui
         return 0;
     }
     print_price(name, reply.value);
-    return reply.value;
+    *sum += reply.value;
+    return 1;
 }
 
 /*
  * Two lots that share a boundary, their sum, and the road in one lot.  A range
- * does not have its end station, so nothing is counted in both lots.
+ * does not have its end station, so nothing is counted in both lots.  A lot
+ * that is refused has no millimetres to add, so there is no sum behind it.
  */
-static void print_lots(const uint8_t *right, size_t right_len, uint64_t boundary)
+static int print_lots(const uint8_t *right, size_t right_len, uint64_t boundary)
 {
-    uint64_t sum = print_lot(right, right_len, 0, boundary);
-    sum += print_lot(right, right_len, boundary, 1000000);
-    print_price("both lots", sum);
-    print_lot(right, right_len, 0, 1000000);
+    uint64_t lots = 0, road = 0;
+    if (!print_lot(right, right_len, 0, boundary, &lots))
+        return 0;
+    if (!print_lot(right, right_len, boundary, ROAD_END, &lots))
+        return 0;
+    print_price("both lots", lots);
+    return print_lot(right, right_len, 0, ROAD_END, &road);
+}
+
+static int print_prices(const uint8_t *right, size_t right_len)
+{
+    printf("NC-3 by lots, the boundary inside the run\n");
+    if (!print_lots(right, right_len, 180000))
+        return 0;
+    printf("NC-3 by lots, the boundary where the run begins\n");
+    return print_lots(right, right_len, 155773);
+}
+
+/* A call that has to be refused; 0 if it is done. */
+static int print_refused(const char *what, barrier_reply reply)
+{
+    if (reply.number == BARRIER_DONE) {
+        printf("  %s: done, but it should be refused\n", what);
+        return 0;
+    }
+    print_refusal(what, reply);
+    return 1;
 }
 
 /* The same job with the headwall one millimetre too near, and a short output. */
-static void print_refusals(const uint8_t *job, size_t job_len)
+static int print_refusals(const uint8_t *job, size_t job_len)
 {
     uint64_t numbers[JOB_NUMBERS];
     uint8_t near_job[JOB_NUMBERS * NUMBER_BYTES_MAX];
@@ -171,12 +209,15 @@ static void print_refusals(const uint8_t *job, size_t job_len)
         numbers[i] = printed_job[i];
     numbers[NEAR_OFFSET] = 3999;
     const size_t near_len = write_job(numbers, near_job);
-    print_refusal("near offset 3999",
-                  barrier_plan(near_job, near_len, BARRIER_RIGHT, out, sizeof out));
-    print_refusal("room for 7 bytes", barrier_plan(job, job_len, BARRIER_RIGHT, out, 7));
+    printf("Refusals\n");
+    if (!print_refused("near offset 3999",
+                       barrier_plan(near_job, near_len, BARRIER_RIGHT, out, sizeof out)))
+        return 0;
+    return print_refused("room for 7 bytes", barrier_plan(job, job_len, BARRIER_RIGHT, out, 7));
 }
 
-int main(void)
+/* Everything in turn; 0 where a call does not do what it should. */
+static int show(void)
 {
     uint8_t job[JOB_NUMBERS * NUMBER_BYTES_MAX];
     uint8_t right[BARRIER_SCHEDULE_MAX];
@@ -184,27 +225,26 @@ int main(void)
     const size_t job_len = write_job(printed_job, job);
 
     const size_t right_len = plan(job, job_len, BARRIER_RIGHT, right);
+    if (right_len == 0)
+        return 0;
     const size_t left_len = plan(job, job_len, BARRIER_LEFT, left);
-    if (right_len == 0 || left_len == 0)
-        return 1;
+    if (left_len == 0)
+        return 0;
 
     printf("The printed example\n");
     print_bytes("job", job, job_len);
     print_bytes("right schedule", right, right_len);
     print_bytes("left schedule", left, left_len);
+    return print_stations(right, right_len) && print_prices(right, right_len) &&
+           print_refusals(job, job_len);
+}
 
-    printf("Records on the right side\n");
-    print_station(right, right_len, 155772);
-    print_station(right, right_len, 155773);
-    print_station(right, right_len, 209999);
-    print_station(right, right_len, 210000);
-
-    printf("NC-3 by lots, the boundary inside the run\n");
-    print_lots(right, right_len, 180000);
-    printf("NC-3 by lots, the boundary where the run begins\n");
-    print_lots(right, right_len, 155773);
-
-    printf("Refusals\n");
-    print_refusals(job, job_len);
-    return 0;
+int main(void)
+{
+    const int shown = show();
+    if (fflush(stdout) != 0 || ferror(stdout)) {
+        fprintf(stderr, "example: standard output cannot be written\n");
+        return 1;
+    }
+    return shown ? 0 : 1;
 }

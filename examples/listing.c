@@ -3,7 +3,10 @@
  * `barrier` does: a line for each run, side, start, end and level, then the
  * covered millimetres of both sides.  Shows how a schedule is walked.
  *
- *     jobtext <jobs/two-sided.job | listing
+ *     jobtext <jobs/two-sided.job >job.bytes && listing <job.bytes
+ *
+ * Ends with 0, also where the job is refused, and with 1 where standard input
+ * cannot be read or standard output not be written.
  */
 #include <inttypes.h>
 #include <stdio.h>
@@ -30,11 +33,10 @@ static uint64_t print_runs(char side, const uint8_t *schedule)
     return covered;
 }
 
-int main(void)
+/* Prints both sides of an accepted job, or what refuses it. */
+static void print_listing(const uint8_t *job, size_t job_len)
 {
-    static uint8_t job[BARRIER_JOB_MAX];
     static uint8_t right[BARRIER_SCHEDULE_MAX], left[BARRIER_SCHEDULE_MAX];
-    const size_t job_len = fread(job, 1, sizeof job, stdin);
 
     /* Whatever is wrong with a job refuses both sides alike. */
     barrier_reply reply = barrier_plan(job, job_len, BARRIER_RIGHT, right, sizeof right);
@@ -42,10 +44,26 @@ int main(void)
         reply = barrier_plan(job, job_len, BARRIER_LEFT, left, sizeof left);
     if (reply.number != BARRIER_DONE) {
         printf("refused %" PRIu64 " %" PRIu64 "\n", reply.number, reply.value);
-        return 0;
+        return;
     }
     const uint64_t on_right = print_runs('R', right);
     const uint64_t on_left = print_runs('L', left);
     printf("total %" PRIu64 " %" PRIu64 "\n", on_right, on_left);
+}
+
+int main(void)
+{
+    static uint8_t job[BARRIER_JOB_MAX];
+    const size_t job_len = fread(job, 1, sizeof job, stdin);
+    /* Bytes that were cut off are not the job: no refusal of them is its own. */
+    if (ferror(stdin)) {
+        fprintf(stderr, "listing: standard input cannot be read\n");
+        return 1;
+    }
+    print_listing(job, job_len);
+    if (fflush(stdout) != 0 || ferror(stdout)) {
+        fprintf(stderr, "listing: standard output cannot be written\n");
+        return 1;
+    }
     return 0;
 }

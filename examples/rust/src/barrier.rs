@@ -1,5 +1,8 @@
 //! The engine's three calls, safe to use. include/barrier.h is their manual;
-//! copy this file to link the engine from Rust.
+//! copy this file to link the engine from Rust, edition 2021 or 2024.
+
+// A program need not use every name.
+#![allow(dead_code)]
 
 use std::ops::Range;
 
@@ -9,7 +12,28 @@ pub const SCHEDULE_MAX: usize = 5623;
 pub const RIGHT: u64 = 0;
 pub const LEFT: u64 = 1;
 
-mod c {
+pub const NC_1: u64 = 1;
+pub const NC_2: u64 = 2;
+pub const NC_3: u64 = 3;
+pub const NC_4: u64 = 4;
+pub const NC_5: u64 = 5;
+pub const NC_6: u64 = 6;
+
+/// The numbers of the refusal table, and 0.
+pub const DONE: u64 = 0;
+pub const JOB_ENDED: u64 = 1;
+pub const NUMBER_MALFORMED: u64 = 2;
+pub const HEADER_RANGE: u64 = 3;
+pub const HAZARD_RANGE: u64 = 4;
+pub const HAZARD_NEAR: u64 = 5;
+pub const ENVELOPE_OFF_ROAD: u64 = 6;
+pub const JOB_LEFT_OVER: u64 = 7;
+pub const ARGUMENT: u64 = 8;
+pub const OUTPUT_SHORT: u64 = 9;
+pub const NO_SCHEDULE: u64 = 10;
+
+/// The calls as C has them.
+pub mod c {
     #[repr(C)]
     pub struct Reply {
         pub number: u64,
@@ -24,7 +48,7 @@ mod c {
         pub end: u64,
     }
 
-    extern "C" {
+    unsafe extern "C" {
         pub fn barrier_plan(
             job: *const u8,
             job_len: usize,
@@ -62,7 +86,7 @@ pub struct Refusal {
 fn answer(reply: c::Reply) -> Result<u64, Refusal> {
     let c::Reply { number, value } = reply;
     match number {
-        0 => Ok(value),
+        DONE => Ok(value),
         _ => Err(Refusal { number, value }),
     }
 }
@@ -102,8 +126,8 @@ pub fn lookup(
         )
     };
     match (record.number, record.found) {
-        (0, 0) => Ok(None),
-        (0, _) => Ok(Some(record.start as usize..record.end as usize)),
+        (DONE, 0) => Ok(None),
+        (DONE, _) => Ok(Some(record.start as usize..record.end as usize)),
         (number, _) => Err(Refusal { number, value: 0 }),
     }
 }

@@ -1,18 +1,25 @@
 //! The first program: plans document 01's printed example, looks up the
-//! barrier at some stations, prices it by lots and shows two refusals. It
-//! prints the same text as examples/example.c.
+//! barrier at some stations, prices it by lots and shows two refusals. It ends
+//! with 1 where a call does not do what it should: a schedule that cannot be
+//! read must not be priced as one without barriers.
+//!
+//! It prints the same text as examples/example.c.
 
 mod barrier;
 
+use std::io::{self, Write};
 use std::ops::Range;
+use std::process::ExitCode;
 
-use barrier::{Refusal, LEFT, RIGHT, SCHEDULE_MAX};
+use barrier::{Refusal, LEFT, NC_3, RIGHT, SCHEDULE_MAX};
+
+const ROAD_END: u64 = 1_000_000;
 
 /// The header, 14 numbers, and one hazard: a culvert headwall on the right.
 #[rustfmt::skip]
 const PRINTED_JOB: [u64; 20] = [
     1,                  // kind
-    0, 1_000_000,       // road begin and end: one kilometre
+    0, ROAD_END,        // road begin and end: one kilometre
     101_000, 0,         // runout lengths: forward; no opposite traffic
     9_000,              // clear-zone width
     0,                  // travelled-way edge to centreline
@@ -25,10 +32,24 @@ const PRINTED_JOB: [u64; 20] = [
     RIGHT,              // hazard: side,
     200_000, 210_000,   // first and end station,
     5_000, 9_000,       // near and far offset,
-    3,                  // containment level
+    NC_3,               // containment level
 ];
 
 const NEAR_OFFSET: usize = 17;
+
+/// Why the program ends before everything is shown.
+enum Stop {
+    /// A call did not do what it should; it is printed.
+    Call,
+    /// Standard output cannot be written.
+    Output,
+}
+
+impl From<io::Error> for Stop {
+    fn from(_: io::Error) -> Stop {
+        Stop::Output
+    }
+}
 
 /// The price of one millimetre of barrier in cents: 120.00 a metre.
 const CENTS_A_MILLIMETRE: u64 = 12;
@@ -42,18 +63,20 @@ fn put_number(bytes: &mut Vec<u8>, mut value: u64) {
     bytes.push(value as u8);
 }
 
-/// The numbers of a record, which the engine gave.
-fn numbers(record: &[u8]) -> Vec<u64> {
-    let groups = |number: &[u8]| {
-        number
-            .iter()
-            .rev()
-            .fold(0, |v, b| v << 7 | u64::from(b & 0x7F))
-    };
-    record
-        .split_inclusive(|byte| byte & 0x80 == 0)
-        .map(groups)
-        .collect()
+/// Reads the number at `at` and moves `at` behind it. Only for a schedule that
+/// the engine wrote or did not refuse.
+fn get_number(bytes: &[u8], at: &mut usize) -> u64 {
+    let mut value = 0;
+    let mut shift = 0;
+    loop {
+        let group = bytes[*at];
+        *at += 1;
+        value |= u64::from(group & 0x7F) << shift;
+        shift += 7;
+        if group & 0x80 == 0 {
+            return value;
+        }
+    }
 }
 
 fn job_bytes(numbers: &[u64]) -> Vec<u8> {
@@ -64,127 +87,188 @@ fn job_bytes(numbers: &[u64]) -> Vec<u8> {
     job
 }
 
-fn print_bytes(name: &str, bytes: &[u8]) {
+fn print_bytes(out: &mut impl Write, name: &str, bytes: &[u8]) -> io::Result<()> {
     let hex: String = bytes.iter().map(|byte| format!(" {byte:02X}")).collect();
-    println!("  {name}:{hex}");
+    writeln!(out, "  {name}:{hex}")
 }
 
 /// A refusal's value means something else for each number.
-fn print_refusal(what: &str, refusal: Refusal) {
+fn print_refusal(out: &mut impl Write, what: &str, refusal: Refusal) -> io::Result<()> {
     let Refusal { number, value } = refusal;
-    let words = match number {
-        1 => format!("the job ends before or inside the number at byte {value}"),
-        2 => format!("no number in the right form begins at byte {value}"),
-        3 => format!("header number {value} is outside its range"),
-        4 => format!("a field of hazard {value} is outside its range"),
-        5 => format!("hazard {value} leaves the barrier no room to deflect"),
-        6 => format!("the envelope of hazard {value} leaves the road"),
-        7 => format!("bytes are left over from byte {value} on"),
-        8 => "no such side or level, or a range that ends before it begins".to_string(),
-        9 => format!("the schedule takes {value} bytes"),
-        10 => "these bytes are not a schedule".to_string(),
-        _ => "a number that barrier.h does not have".to_string(),
-    };
-    println!("  {what}: refused {number} with {value}, {words}");
+    write!(out, "  {what}: refused {number} with {value}, ")?;
+    match number {
+        barrier::JOB_ENDED => {
+            writeln!(
+                out,
+                "the job ends before or inside the number at byte {value}"
+            )
+        }
+        barrier::NUMBER_MALFORMED => {
+            writeln!(out, "no number in the right form begins at byte {value}")
+        }
+        barrier::HEADER_RANGE => writeln!(out, "header number {value} is outside its range"),
+        barrier::HAZARD_RANGE => writeln!(out, "a field of hazard {value} is outside its range"),
+        barrier::HAZARD_NEAR => {
+            writeln!(out, "hazard {value} leaves the barrier no room to deflect")
+        }
+        barrier::ENVELOPE_OFF_ROAD => {
+            writeln!(out, "the envelope of hazard {value} leaves the road")
+        }
+        barrier::JOB_LEFT_OVER => writeln!(out, "bytes are left over from byte {value} on"),
+        barrier::ARGUMENT => {
+            writeln!(
+                out,
+                "no such side or level, or a range that ends before it begins"
+            )
+        }
+        barrier::OUTPUT_SHORT => writeln!(out, "the schedule takes {value} bytes"),
+        barrier::NO_SCHEDULE => writeln!(out, "these bytes are not a schedule"),
+        _ => writeln!(out, "a number that barrier.h does not have"),
+    }
+}
+
+/// The answer of a call that must not be refused.
+fn done<T>(out: &mut impl Write, what: &str, answer: Result<T, Refusal>) -> Result<T, Stop> {
+    match answer {
+        Ok(answer) => Ok(answer),
+        Err(refusal) => {
+            print_refusal(out, what, refusal)?;
+            Err(Stop::Call)
+        }
+    }
+}
+
+/// Plans one side.
+fn plan(out: &mut impl Write, job: &[u8], side: u64) -> Result<Vec<u8>, Stop> {
+    let mut schedule = vec![0; SCHEDULE_MAX];
+    let answer = barrier::plan(job, side, &mut schedule);
+    let written = done(out, "plan", answer)?;
+    schedule.truncate(written);
+    Ok(schedule)
 }
 
 /// What stands on the right side at a station.
-fn print_station(right: &[u8], station: u64) {
-    match barrier::lookup(right, &[], RIGHT, station) {
-        Ok(Some(at)) => print_record(station, &right[at.clone()], at),
-        Ok(None) => println!("  station {station}: no barrier"),
-        // Not the same as "no barrier": these bytes could not be read.
-        Err(refusal) => print_refusal("lookup", refusal),
+fn print_station(out: &mut impl Write, right: &[u8], station: u64) -> Result<(), Stop> {
+    // A refusal is not the same as "no barrier": these bytes could not be read.
+    let answer = barrier::lookup(right, &[], RIGHT, station);
+    match done(out, "lookup", answer)? {
+        Some(record) => print_record(out, right, station, record)?,
+        None => writeln!(out, "  station {station}: no barrier")?,
     }
-}
-
-fn print_record(station: u64, record: &[u8], at: Range<usize>) {
-    if let [distance, length, level] = numbers(record)[..] {
-        print!("  station {station}: bytes [{}, {}): ", at.start, at.end);
-        println!("{distance} mm free, then {length} mm at NC-{level}");
-    }
-}
-
-fn print_price(what: &str, millimetres: u64) {
-    let cents = millimetres * CENTS_A_MILLIMETRE;
-    println!(
-        "  {what:<19} {millimetres:6} mm {:6}.{:02}",
-        cents / 100,
-        cents % 100
-    );
-}
-
-/// One lot, [p, q). Returns its millimetres of NC-3.
-fn print_lot(right: &[u8], p: u64, q: u64) -> u64 {
-    let name = format!("[{p}, {q})");
-    match barrier::quantity(right, 3, p, q) {
-        Ok(millimetres) => {
-            print_price(&name, millimetres);
-            millimetres
-        }
-        Err(refusal) => {
-            print_refusal(&name, refusal);
-            0
-        }
-    }
-}
-
-/// Two lots that share a boundary, their sum, and the road in one lot. A range
-/// does not have its end station, so nothing is counted in both lots.
-fn print_lots(right: &[u8], boundary: u64) {
-    let sum = print_lot(right, 0, boundary) + print_lot(right, boundary, 1_000_000);
-    print_price("both lots", sum);
-    print_lot(right, 0, 1_000_000);
-}
-
-/// The same job with the headwall one millimetre too near, and a short output.
-fn print_refusals(job: &[u8]) {
-    let mut near = PRINTED_JOB;
-    near[NEAR_OFFSET] = 3_999;
-    let mut out = [0; SCHEDULE_MAX];
-    if let Err(refusal) = barrier::plan(&job_bytes(&near), RIGHT, &mut out) {
-        print_refusal("near offset 3999", refusal);
-    }
-    if let Err(refusal) = barrier::plan(job, RIGHT, &mut out[..7]) {
-        print_refusal("room for 7 bytes", refusal);
-    }
-}
-
-fn schedule(job: &[u8], side: u64) -> Result<Vec<u8>, Refusal> {
-    let mut out = vec![0; SCHEDULE_MAX];
-    let written = barrier::plan(job, side, &mut out)?;
-    out.truncate(written);
-    Ok(out)
-}
-
-fn show() -> Result<(), Refusal> {
-    let job = job_bytes(&PRINTED_JOB);
-    let right = schedule(&job, RIGHT)?;
-    let left = schedule(&job, LEFT)?;
-
-    println!("The printed example");
-    print_bytes("job", &job);
-    print_bytes("right schedule", &right);
-    print_bytes("left schedule", &left);
-
-    println!("Records on the right side");
-    for station in [155_772, 155_773, 209_999, 210_000] {
-        print_station(&right, station);
-    }
-
-    println!("NC-3 by lots, the boundary inside the run");
-    print_lots(&right, 180_000);
-    println!("NC-3 by lots, the boundary where the run begins");
-    print_lots(&right, 155_773);
-
-    println!("Refusals");
-    print_refusals(&job);
     Ok(())
 }
 
-fn main() {
-    if let Err(refusal) = show() {
-        print_refusal("plan", refusal);
-        std::process::exit(1);
+fn print_record(
+    out: &mut impl Write,
+    right: &[u8],
+    station: u64,
+    record: Range<usize>,
+) -> io::Result<()> {
+    let Range { start, end } = record;
+    let mut at = start;
+    let distance = get_number(right, &mut at);
+    let length = get_number(right, &mut at);
+    let level = get_number(right, &mut at);
+    write!(out, "  station {station}: bytes [{start}, {end}): ")?;
+    writeln!(out, "{distance} mm free, then {length} mm at NC-{level}")
+}
+
+fn print_stations(out: &mut impl Write, right: &[u8]) -> Result<(), Stop> {
+    writeln!(out, "Records on the right side")?;
+    for station in [155_772, 155_773, 209_999, 210_000] {
+        print_station(out, right, station)?;
+    }
+    Ok(())
+}
+
+fn print_price(out: &mut impl Write, what: &str, millimetres: u64) -> io::Result<()> {
+    let cents = millimetres * CENTS_A_MILLIMETRE;
+    let (whole, rest) = (cents / 100, cents % 100);
+    writeln!(out, "  {what:<19} {millimetres:6} mm {whole:6}.{rest:02}")
+}
+
+/// One lot, [p, q). Returns its millimetres of NC-3.
+fn print_lot(out: &mut impl Write, right: &[u8], p: u64, q: u64) -> Result<u64, Stop> {
+    let name = format!("[{p}, {q})");
+    let answer = barrier::quantity(right, NC_3, p, q);
+    let millimetres = done(out, &name, answer)?;
+    print_price(out, &name, millimetres)?;
+    Ok(millimetres)
+}
+
+/// Two lots that share a boundary, their sum, and the road in one lot. A range
+/// does not have its end station, so nothing is counted in both lots. A lot
+/// that is refused has no millimetres to add, so there is no sum behind it.
+fn print_lots(out: &mut impl Write, right: &[u8], boundary: u64) -> Result<(), Stop> {
+    let first = print_lot(out, right, 0, boundary)?;
+    let second = print_lot(out, right, boundary, ROAD_END)?;
+    print_price(out, "both lots", first + second)?;
+    print_lot(out, right, 0, ROAD_END)?;
+    Ok(())
+}
+
+fn print_prices(out: &mut impl Write, right: &[u8]) -> Result<(), Stop> {
+    writeln!(out, "NC-3 by lots, the boundary inside the run")?;
+    print_lots(out, right, 180_000)?;
+    writeln!(out, "NC-3 by lots, the boundary where the run begins")?;
+    print_lots(out, right, 155_773)
+}
+
+/// A call that has to be refused.
+fn print_refused<T>(
+    out: &mut impl Write,
+    what: &str,
+    answer: Result<T, Refusal>,
+) -> Result<(), Stop> {
+    match answer {
+        Ok(_) => {
+            writeln!(out, "  {what}: done, but it should be refused")?;
+            Err(Stop::Call)
+        }
+        Err(refusal) => Ok(print_refusal(out, what, refusal)?),
+    }
+}
+
+/// The same job with the headwall one millimetre too near, and a short output.
+fn print_refusals(out: &mut impl Write, job: &[u8]) -> Result<(), Stop> {
+    let mut numbers = PRINTED_JOB;
+    numbers[NEAR_OFFSET] = 3_999;
+    let near_job = job_bytes(&numbers);
+    let mut room = [0; SCHEDULE_MAX];
+    writeln!(out, "Refusals")?;
+    let answer = barrier::plan(&near_job, RIGHT, &mut room);
+    print_refused(out, "near offset 3999", answer)?;
+    let answer = barrier::plan(job, RIGHT, &mut room[..7]);
+    print_refused(out, "room for 7 bytes", answer)
+}
+
+/// Everything in turn.
+fn show(out: &mut impl Write) -> Result<(), Stop> {
+    let job = job_bytes(&PRINTED_JOB);
+    let right = plan(out, &job, RIGHT)?;
+    let left = plan(out, &job, LEFT)?;
+
+    writeln!(out, "The printed example")?;
+    print_bytes(out, "job", &job)?;
+    print_bytes(out, "right schedule", &right)?;
+    print_bytes(out, "left schedule", &left)?;
+    print_stations(out, &right)?;
+    print_prices(out, &right)?;
+    print_refusals(out, &job)
+}
+
+/// println! would panic where standard output is full or closed.
+fn main() -> ExitCode {
+    let mut out = io::stdout().lock();
+    let shown = show(&mut out);
+    let flushed = out.flush().map_err(Stop::from);
+    match shown.and(flushed) {
+        Ok(()) => ExitCode::SUCCESS,
+        Err(Stop::Call) => ExitCode::FAILURE,
+        Err(Stop::Output) => {
+            // Where this cannot be written either, the status says it.
+            let _ = writeln!(io::stderr(), "example: standard output cannot be written");
+            ExitCode::FAILURE
+        }
     }
 }
