@@ -13,8 +13,19 @@ install_to() {
 # Staged, as packagers do: the files lie below DESTDIR and name PREFIX.
 install_to PREFIX=/opt/barrier DESTDIR="$tmp/stage"
 printf '%s\n' include/barrier.h lib/libbarrier_engine.a lib/pkgconfig/barrier_engine.pc >"$tmp/wanted"
-(cd "$tmp/stage/opt/barrier" && find . -type f | sed 's|^\./||' | LC_ALL=C sort) | diff "$tmp/wanted" -
+(cd "$tmp/stage/opt/barrier" && find . -type f) >"$tmp/files"
+sed 's|^\./||' "$tmp/files" | LC_ALL=C sort >"$tmp/installed"
+diff "$tmp/wanted" "$tmp/installed"
 grep -qx 'prefix=/opt/barrier' "$tmp/stage/opt/barrier/lib/pkgconfig/barrier_engine.pc"
+
+# A prefix that pkg-config's flags could not name.
+for prefix in relative "$tmp/a b" "$tmp/a&b"; do
+    if install_to PREFIX="$prefix" 2>"$tmp/said"; then
+        echo "install: it takes the prefix '$prefix'" >&2
+        exit 1
+    fi
+    grep -q "^PREFIX .* not '$prefix'$" "$tmp/said"
+done
 
 # In place.
 install_to PREFIX="$tmp/prefix"
@@ -29,7 +40,8 @@ warnings="-Wall -Wextra -Werror -pedantic"
 $CC -std=c99 $warnings -g examples/example.c $flags -o "$tmp/example_c"
 $CXX -std=c++11 $warnings -g -x c++ examples/example.c -x none $flags -o "$tmp/example_cxx"
 for program in "$tmp/example_c" "$tmp/example_cxx"; do
-    "$program" | diff examples/example.out -
+    "$program" >"$tmp/printed"
+    diff examples/example.out "$tmp/printed"
 done
 echo "install: $version, example.c builds with pkg-config's flags as C99 and C++11 and prints as stored"
 

@@ -2,7 +2,10 @@
  * How many bytes of stack each call takes: it runs on a stack of its own that
  * was painted before, and the paint that is left shows how deep it went. A job
  * comes from standard input; BARRIER_STACK_MAX bytes have to suffice for
- * planning it and for the two queries of its schedule.
+ * planning it, into a large output and into one of exactly its schedule's
+ * length, where the bytes needed are counted first, and for the two queries.
+ *
+ * Ends with 1 where a call takes more, with 2 where one is refused.
  */
 #define _XOPEN_SOURCE 600
 #include <barrier.h>
@@ -18,7 +21,7 @@ static ucontext_t here, there;
 static unsigned char job[BARRIER_JOB_MAX];
 static size_t job_length;
 static unsigned char schedule[BARRIER_SCHEDULE_MAX];
-static barrier_reply planned, counted;
+static barrier_reply planned, exact, counted;
 static barrier_record found;
 
 static void nothing(void)
@@ -28,6 +31,11 @@ static void nothing(void)
 static void plan(void)
 {
     planned = barrier_plan(job, job_length, BARRIER_RIGHT, schedule, sizeof schedule);
+}
+
+static void plan_exactly(void)
+{
+    exact = barrier_plan(job, job_length, BARRIER_RIGHT, schedule, (size_t)planned.value);
 }
 
 static void quantity(void)
@@ -65,14 +73,31 @@ static int suffices(const char *name, void (*call)(void))
     return bytes <= BARRIER_STACK_MAX;
 }
 
+/* A call that is refused early takes little stack: its figure means nothing. */
+static int done(const char *name, uint64_t number)
+{
+    if (number == BARRIER_DONE)
+        return 1;
+    printf("stack: %s is refused %llu\n", name, (unsigned long long)number);
+    return 0;
+}
+
 int main(void)
 {
-    int well;
+    int well, all_done;
 
     job_length = fread(job, 1, sizeof job, stdin);
     plan(); /* so that the loader's own work is done before it counts */
+    if (!done("plan", planned.number))
+        return 2;
     well = suffices("plan", plan);
+    well &= suffices("plan with an output of exactly its length", plan_exactly);
     well &= suffices("quantity", quantity);
     well &= suffices("lookup", lookup);
-    return well && planned.number == BARRIER_DONE && counted.number == BARRIER_DONE && found.number == BARRIER_DONE ? 0 : 1;
+    all_done = done("plan with an output of exactly its length", exact.number);
+    all_done &= done("quantity", counted.number);
+    all_done &= done("lookup", found.number);
+    if (!all_done)
+        return 2;
+    return well ? 0 : 1;
 }

@@ -1,0 +1,73 @@
+/*
+ * The header lets a pointer be NULL where its length is 0. Each such pointer of
+ * each call, and the reply that document 01's table has for it. Ends with 1
+ * where a reply is another.
+ */
+#include <barrier.h>
+#include <stdio.h>
+
+/* The printed example's schedules; the left side has no runs. */
+static const uint8_t right[8] = {0x01, 0xFD, 0xC0, 0x09, 0xD3, 0xA7, 0x03, 0x03};
+static const uint8_t left[1] = {0x00};
+
+/* The printed example without its hazard: either schedule is one byte. */
+static const uint8_t job[22] = {0x01, 0x00, 0xC0, 0x84, 0x3D, 0x88, 0x95, 0x06, 0x00, 0xA8, 0x46,
+                                0x00, 0xB8, 0x17, 0xE8, 0x07, 0x0F, 0x01, 0x9C, 0x68, 0x00, 0x00};
+
+static int wrong = 0;
+
+static void expect(const char *what, int as_stated)
+{
+    if (!as_stated) {
+        printf("empty: %s\n", what);
+        wrong = 1;
+    }
+}
+
+static void reply_is(const char *what, barrier_reply reply, uint64_t number, uint64_t value)
+{
+    expect(what, reply.number == number && reply.value == value);
+}
+
+static void record_is(const char *what, barrier_record record, uint64_t number)
+{
+    expect(what, record.number == number && record.found == 0 && record.start == 0 && record.end == 0);
+}
+
+static void plans(void)
+{
+    uint8_t out[4] = {0xA5, 0xA5, 0xA5, 0xA5};
+    reply_is("plan, no job", barrier_plan(NULL, 0, BARRIER_RIGHT, out, sizeof out), BARRIER_JOB_ENDED, 0);
+    expect("plan, no job: the output is changed", out[0] == 0xA5 && out[3] == 0xA5);
+    reply_is("plan, no output", barrier_plan(job, sizeof job, BARRIER_RIGHT, NULL, 0), BARRIER_OUTPUT_SHORT, 1);
+    reply_is("plan, neither", barrier_plan(NULL, 0, BARRIER_LEFT, NULL, 0), BARRIER_JOB_ENDED, 0);
+    reply_is("plan, neither, no such side", barrier_plan(NULL, 0, 2, NULL, 0), BARRIER_ARGUMENT, 0);
+}
+
+static void quantities(void)
+{
+    reply_is("quantity, no schedule", barrier_quantity(NULL, 0, BARRIER_NC_1, 0, 5), BARRIER_NO_SCHEDULE, 0);
+    reply_is("quantity, no schedule, no such level", barrier_quantity(NULL, 0, 7, 0, 5), BARRIER_ARGUMENT, 0);
+}
+
+static void lookups(void)
+{
+    const barrier_record found =
+        barrier_lookup(right, sizeof right, NULL, 0, BARRIER_RIGHT, 155773);
+    expect("lookup right, no left schedule",
+           found.number == BARRIER_DONE && found.found == 1 && found.start == 1 && found.end == 8);
+    record_is("lookup left, no right schedule", barrier_lookup(NULL, 0, left, sizeof left, BARRIER_LEFT, 5), BARRIER_DONE);
+    record_is("lookup right, no right schedule", barrier_lookup(NULL, 0, left, sizeof left, BARRIER_RIGHT, 5), BARRIER_NO_SCHEDULE);
+    record_is("lookup left, no left schedule", barrier_lookup(right, sizeof right, NULL, 0, BARRIER_LEFT, 5), BARRIER_NO_SCHEDULE);
+    record_is("lookup right, neither", barrier_lookup(NULL, 0, NULL, 0, BARRIER_RIGHT, 5), BARRIER_NO_SCHEDULE);
+    record_is("lookup left, neither", barrier_lookup(NULL, 0, NULL, 0, BARRIER_LEFT, 5), BARRIER_NO_SCHEDULE);
+    record_is("lookup, neither, no such side", barrier_lookup(NULL, 0, NULL, 0, 2, 5), BARRIER_ARGUMENT);
+}
+
+int main(void)
+{
+    plans();
+    quantities();
+    lookups();
+    return wrong;
+}

@@ -1,0 +1,50 @@
+/*
+ * Not the engine: an archive of the same three calls in which one kind of call
+ * is always refused, to see what the examples do then.  REFUSED names the call;
+ * with `nothing` no call is refused, not even those that should be.
+ */
+#include <barrier.h>
+#include <string.h>
+
+enum { nothing, plan, lookup, quantity };
+
+barrier_reply barrier_plan(const uint8_t *job, size_t job_len, uint64_t side, uint8_t *out,
+                           size_t out_len)
+{
+    static const uint8_t schedule[8] = {0x01, 0xFD, 0xC0, 0x09, 0xD3, 0xA7, 0x03, 0x03};
+    const barrier_reply done = {BARRIER_DONE, sizeof schedule};
+    const barrier_reply refused = {BARRIER_JOB_ENDED, job_len};
+    (void)job;
+    (void)side;
+    if (REFUSED == plan)
+        return refused;
+    if (out_len >= sizeof schedule)
+        memcpy(out, schedule, sizeof schedule);
+    return done;
+}
+
+barrier_reply barrier_quantity(const uint8_t *schedule, size_t schedule_len, uint64_t level,
+                               uint64_t p, uint64_t q)
+{
+    const barrier_reply done = {BARRIER_DONE, q - p};
+    const barrier_reply refused = {BARRIER_NO_SCHEDULE, 0};
+    (void)schedule;
+    (void)schedule_len;
+    (void)level;
+    /* The first lot is done, the second refused. */
+    return REFUSED == quantity && p > 0 ? refused : done;
+}
+
+barrier_record barrier_lookup(const uint8_t *right, size_t right_len, const uint8_t *left,
+                              size_t left_len, uint64_t side, uint64_t station)
+{
+    const barrier_record none = {BARRIER_DONE, 0, 0, 0};
+    const barrier_record refused = {BARRIER_NO_SCHEDULE, 0, 0, 0};
+    (void)right;
+    (void)right_len;
+    (void)left;
+    (void)left_len;
+    (void)side;
+    (void)station;
+    return REFUSED == lookup ? refused : none;
+}
