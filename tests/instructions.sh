@@ -2,19 +2,32 @@
 # Instructions for one call, engine beside reference, on fixed jobs: the difference between eleven calls and one, counted by callgrind.
 set -eu
 cd "$(dirname "$0")"
+command -v valgrind >/dev/null || { echo "instructions: valgrind is wanted, and is not on this machine" >&2; exit 1; }
 cargo build --quiet --release --locked -p bench
 
+tmp=$(mktemp -d)
+trap 'rm -rf "$tmp"' EXIT
+
+# A run that fails or prints no count ends the script: a blank would look like a figure.
 counted() { # CASE TIMES WHO
     valgrind --tool=callgrind --callgrind-out-file=/dev/null \
-        target/release/bench --case "$1" --times "$2" --who "$3" 2>&1 | sed -n 's/.*Collected : \([0-9]*\).*/\1/p'
+        target/release/bench --case "$1" --times "$2" --who "$3" >"$tmp/said" 2>&1 || { cat "$tmp/said" >&2; exit 1; }
+    count=$(sed -n 's/.*Collected : \([0-9][0-9]*\).*/\1/p' "$tmp/said")
+    [ -n "$count" ] || { echo "instructions: callgrind gives no count for $1" >&2; exit 1; }
 }
 
 one_call() { # CASE WHO
-    echo $((($(counted "$1" 11 "$2") - $(counted "$1" 1 "$2")) / 10))
+    counted "$1" 11 "$2"
+    eleven=$count
+    counted "$1" 1 "$2"
+    one_call=$(((eleven - count) / 10))
 }
 
 echo "| case | engine | reference |"
 echo "|---|---:|---:|"
 for case in sparse-shuffled dense-shuffled runs511-shuffled runs511-ordered quantity-511 lookup-511-middle; do
-    echo "| $case | $(one_call "$case" engine) | $(one_call "$case" reference) |"
+    one_call "$case" engine
+    engine=$one_call
+    one_call "$case" reference
+    echo "| $case | $engine | $one_call |"
 done

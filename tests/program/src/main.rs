@@ -1,13 +1,17 @@
 //! The program `barrier`, run on inputs, held against the reference's text.
 //! Its one argument is the path of the program. Ends with 0 if all agree.
 
+use std::fs::File;
 use std::io::Write;
-use std::process::{Child, Command, ExitCode, Stdio};
+use std::process::{Child, Command, ExitCode, Output, Stdio};
 use std::thread::sleep;
-use std::time::Duration;
+use std::time::{Duration, Instant};
 
 use cases::draft::{A, Draft, LEVEL, LO, M, PRINTED, PRINTED_HAZARD, S, SIDE};
 use cases::{Random, jobs};
+
+/// No input takes the program longer than this.
+const PATIENCE: Duration = Duration::from_secs(20);
 
 struct Input {
     name: &'static str,
@@ -23,29 +27,94 @@ fn main() -> ExitCode {
     };
     let inputs = inputs();
     for input in &inputs {
-        let expected = reference::program::text(&input.bytes);
-        let printed = run(&program, input);
-        if printed != expected.as_bytes() {
-            eprintln!("{}: the program printed", input.name);
-            eprintln!("{}but should print", String::from_utf8_lossy(&printed));
-            eprintln!("{expected}");
+        let output = run(Command::new(&program).stdout(Stdio::piped()), input);
+        if !prints(input.name, &output, &input.bytes) {
             return ExitCode::FAILURE;
         }
     }
     println!("program: {} inputs print as they should", inputs.len());
+    for (name, mut command) in unreadable(&program) {
+        let child = command.stdout(Stdio::piped()).spawn();
+        let output = end(name, child.expect("the program can be started"));
+        if !prints(name, &output, &[]) {
+            return ExitCode::FAILURE;
+        }
+    }
+    println!("program: an input that cannot be read is an empty one");
+    for (name, mut command) in unwritable(&program) {
+        run(&mut command, &input(name, printed().bytes()));
+    }
+    println!("program: it ends where the output cannot be written");
     ExitCode::SUCCESS
 }
 
-fn run(program: &str, input: &Input) -> Vec<u8> {
-    let mut child = Command::new(program)
-        .stdin(Stdio::piped())
-        .stdout(Stdio::piped())
-        .spawn()
-        .expect("the program can be started");
+/// Whether the program printed what the reference has for these bytes.
+fn prints(name: &str, output: &Output, bytes: &[u8]) -> bool {
+    let expected = reference::program::text(bytes);
+    let as_expected = output.stdout == expected.as_bytes();
+    if !as_expected {
+        eprintln!("{name}: the program printed");
+        eprintln!(
+            "{}but should print",
+            String::from_utf8_lossy(&output.stdout)
+        );
+        eprintln!("{expected}");
+    }
+    as_expected
+}
+
+fn run(command: &mut Command, input: &Input) -> Output {
+    let child = command.stdin(Stdio::piped()).spawn();
+    let mut child = child.expect("the program can be started");
     feed(&mut child, input);
-    let output = child.wait_with_output().expect("the program ends");
-    assert!(output.status.success(), "{}: {}", input.name, output.status);
-    output.stdout
+    end(input.name, child)
+}
+
+/// Waits for the program's end. Its status is 0, whatever it was given. A text
+/// that fills the pipe would have to be read first; no schedule is that long.
+fn end(name: &str, mut child: Child) -> Output {
+    let begin = Instant::now();
+    while child
+        .try_wait()
+        .expect("the program can be asked")
+        .is_none()
+    {
+        if begin.elapsed() > PATIENCE {
+            let _ = child.kill();
+            panic!("{name}: the program does not end");
+        }
+        sleep(Duration::from_millis(1));
+    }
+    let output = child.wait_with_output().expect("the program has ended");
+    assert!(output.status.success(), "{name}: {}", output.status);
+    output
+}
+
+/// Standard input is there but gives no bytes, or is not there.
+fn unreadable(program: &str) -> Vec<(&'static str, Command)> {
+    let mut folder = Command::new(program);
+    folder.stdin(File::open("/").expect("a folder can be opened"));
+    vec![
+        ("a folder", folder),
+        ("a closed input", through_shell("exec \"$0\" <&-", program)),
+    ]
+}
+
+fn unwritable(program: &str) -> Vec<(&'static str, Command)> {
+    let mut full = Command::new(program);
+    let device = File::options().write(true).open("/dev/full");
+    full.stdout(device.expect("there is a full output"));
+    vec![
+        ("a full output", full),
+        ("a closed output", through_shell("exec \"$0\" >&-", program)),
+    ]
+}
+
+/// The shell can close what a program gets; a command here cannot.
+fn through_shell(line: &str, program: &str) -> Command {
+    let mut command = Command::new("sh");
+    command.args(["-c", line, program]);
+    command
 }
 
 /// The program may stop reading at its limit, so a failed write is no fault.
@@ -87,8 +156,11 @@ fn inputs() -> Vec<Input> {
     malformed.splice(0..1, [0x81, 0x00]);
     let mut newline = whole.clone();
     newline.push(0x0A);
-    let mut long = whole.clone();
-    long.resize(9_000, 0);
+    let of_length = |length| {
+        let mut bytes = whole.clone();
+        bytes.resize(length, 0);
+        bytes
+    };
     let mut left = PRINTED_HAZARD;
     left[SIDE] = 1;
     left[LEVEL] = 5;
@@ -113,7 +185,10 @@ fn inputs() -> Vec<Input> {
         input("an offset too great (5)", printed().with(M, 4_001).bytes()),
         input("an approach before the road (6)", hazard_with(S, 44_226)),
         input("a newline behind the job (7)", newline),
-        input("more than 8,192 bytes (7)", long),
+        input("one byte (1)", of_length(1)),
+        input("8,192 bytes (7)", of_length(8_192)),
+        input("8,193 bytes (7)", of_length(8_193)),
+        input("far more than 8,192 bytes (7)", of_length(100_000)),
         input("two sides", two_sided.bytes()),
         input("no hazards", PRINTED.bytes()),
         input("511 runs", many.clone()),
