@@ -29,7 +29,6 @@ target/staticlib/libbarrier_engine.a: proved
 # The implementation by another hand: its own tests, the test of the test, and the engine held against it.
 hand: engine
 	$(CARGO) test --locked --manifest-path tests/Cargo.toml
-	$(HAND) -p cases
 	$(HAND) -p differential
 	$(HAND) -p program -- target/bin/barrier
 

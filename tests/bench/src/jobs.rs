@@ -108,10 +108,7 @@ fn islands(random: &mut Random, hazards: u64) -> Vec<[u64; 6]> {
 
 /// The planned schedule of the right side.
 pub fn schedule(job: &[u8]) -> Vec<u8> {
-    let mut out = vec![0; 8_192];
-    let written = reference::plan(job, 0, &mut out).expect("the job is accepted");
-    out.truncate(written as usize);
-    out
+    reference::planned(job, 0).expect("the job is accepted")
 }
 
 pub fn runs(schedule: &[u8]) -> Vec<reference::level::Run> {

@@ -257,19 +257,6 @@ impl Checker {
         }
     }
 
-    /// The lots of a list, added up, have to give the reference's count. The
-    /// case named is the first lot; the whole list is in the words.
-    pub fn sum_differs(
-        &self,
-        case: Case,
-        list: &[u64],
-        expected: u64,
-        got: u64,
-    ) -> Box<Difference> {
-        let what = vec![format!("sum over the lots of {list:?}")];
-        self.difference(case, what, expected.to_string(), got.to_string())
-    }
-
     fn difference(
         &self,
         case: Case,

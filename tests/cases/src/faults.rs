@@ -1,7 +1,7 @@
 //! Jobs with faults: one for each row of the refusal table, alone or together.
 
+use crate::Random;
 use crate::draft::{A, B, Draft, E, FIELDS, HEADER, N, S, number_bytes, range};
-use crate::random::Random;
 
 /// One way to break a job.
 #[derive(Clone, Copy, Debug)]

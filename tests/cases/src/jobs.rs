@@ -3,8 +3,8 @@
 use reference::envelope::{self, Envelope};
 use reference::{Stretch, job, level};
 
+use crate::Random;
 use crate::draft::{A, B, C, D, Draft, E, FIELDS, G, LF, LO, M, N, S, SIDE, T, W};
-use crate::random::Random;
 
 /// How great the numbers of a random job are.
 struct World {

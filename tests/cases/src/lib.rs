@@ -4,18 +4,17 @@
 
 pub mod calls;
 pub mod compare;
-pub mod draft;
 pub mod families;
 pub mod faults;
 pub mod hex;
 pub mod jobs;
-pub mod random;
 pub mod tally;
 pub mod wrong;
 
 pub use calls::{Calls, Record, Reply};
 pub use compare::{Case, Checker, Difference};
-pub use random::Random;
+pub use reference::draft;
+pub use reference::random::Random;
 pub use tally::Tally;
 
 /// Rounds of one default run.

@@ -284,15 +284,10 @@ fn filled_between(envelopes: &[Envelope], limit: u64, choose: fn(u64, u64) -> u6
     filled
 }
 
+/// Two runs that touch have no gap to fill: its stretch is empty.
 fn join(runs: &mut Vec<Run>, next: Run) {
-    if next.stretch.length() == 0 {
-        return;
-    }
-    match runs.last_mut() {
-        Some(last) if last.level == next.level && last.stretch.end == next.stretch.start => {
-            last.stretch.end = next.stretch.end;
-        }
-        _ => runs.push(next),
+    if next.stretch.length() > 0 {
+        level::lengthen_or_push(runs, next);
     }
 }
 

@@ -5,7 +5,7 @@ use cases::{Random, jobs};
 use reference::calls::required;
 use reference::envelope::{self, Envelope};
 use reference::level::{self, Required, Run};
-use reference::{Outcome, Stretch, job, lookup, plan, schedule};
+use reference::{Outcome, Stretch, job, lookup, schedule};
 
 const JOBS: u64 = 1_500;
 
@@ -36,10 +36,7 @@ fn envelopes(draft: &Draft, side: u64) -> Vec<Envelope> {
 }
 
 fn planned(draft: &Draft, side: u64) -> Vec<u8> {
-    let mut out = vec![0; 8_192];
-    let written = plan(&draft.bytes(), side, &mut out).expect("the job is accepted");
-    out.truncate(written as usize);
-    out
+    reference::planned(&draft.bytes(), side).expect("the job is accepted")
 }
 
 fn runs(schedule: &[u8]) -> Vec<Run> {

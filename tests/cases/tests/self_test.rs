@@ -1,8 +1,10 @@
-//! The test is itself tested: one round lets the reference pass and finds
-//! every wrong engine.
+//! The test is itself tested: one round reaches every row of the refusal table,
+//! finds every wrong engine, and finds nothing where nothing is wrong.
 
-use cases::{Checker, SEED, calls, jobs, random::Random, round, wrong};
+use cases::{Checker, Random, SEED, calls, jobs, round, wrong};
+use reference::planned;
 
+/// The comparison may not find a difference where both are the same.
 #[test]
 fn the_reference_passes_and_every_row_is_seen() {
     let mut checker = Checker::new(calls::right());
@@ -19,6 +21,8 @@ fn the_reference_passes_and_every_row_is_seen() {
 /// Each is found, and the case found shows the difference when tried alone.
 #[test]
 fn every_wrong_engine_is_found() {
+    // As many as README.md says.
+    assert_eq!(wrong::all().len(), 78);
     for (name, calls) in wrong::all() {
         let mut checker = Checker::new(calls);
         let Err(found) = round(&mut checker, SEED) else {
@@ -43,10 +47,9 @@ fn the_same_seed_gives_the_same_difference() {
 #[test]
 fn most_random_jobs_are_accepted() {
     let mut random = Random::new(SEED, "accepted");
-    let mut out = [0; 8_192];
     for make in [jobs::small, jobs::wide] {
         let accepted = (0..2_000)
-            .filter(|_| reference::plan(&make(&mut random).bytes(), 0, &mut out).is_ok())
+            .filter(|_| planned(&make(&mut random).bytes(), 0).is_ok())
             .count();
         assert!(accepted > 1_000, "{accepted} of 2,000");
     }
@@ -55,7 +58,7 @@ fn most_random_jobs_are_accepted() {
         let sparse = jobs::sparse(&mut random, 256).bytes();
         let islands = jobs::islands(&mut random, 0, 255).bytes();
         for job in [dense, sparse, islands] {
-            assert!(reference::plan(&job, 0, &mut out).is_ok());
+            assert!(planned(&job, 0).is_ok());
         }
     }
 }

@@ -37,7 +37,18 @@ fn many_cases(checker: &mut Checker, options: &Options) -> ExitCode {
     };
     print!("{}", checker.tally);
     println!("{:.1} s", begin.elapsed().as_secs_f64());
-    conclude(outcome)
+    conclude(outcome.and_then(|()| shipped_calls(options.seed)))
+}
+
+/// One round through the calls that are shipped for Rust.
+fn shipped_calls(seed: u64) -> Result<(), Box<Difference>> {
+    let mut checker = Checker::new(engine::shipped_calls());
+    cases::round(&mut checker, seed)?;
+    println!(
+        "{} cases through the shipped calls for Rust",
+        checker.tally.cases()
+    );
+    Ok(())
 }
 
 /// One round after the other, each with a fresh seed, until the time is over.

@@ -1,51 +1,15 @@
-//! The engine's C interface, behind safe calls.
+//! The engine's calls for the tests: through the pointers of the C interface,
+//! and through the file that is shipped for Rust.
 
 use std::ops::Range;
 
 use cases::{Calls, Record, Reply};
 
-mod c {
-    #[repr(C)]
-    pub struct Reply {
-        pub number: u64,
-        pub value: u64,
-    }
+/// The shipped file itself, so that it is tested too.
+#[path = "../../../examples/rust/src/barrier.rs"]
+pub mod barrier;
 
-    #[repr(C)]
-    pub struct Record {
-        pub number: u64,
-        pub found: u64,
-        pub start: u64,
-        pub end: u64,
-    }
-
-    unsafe extern "C" {
-        pub fn barrier_plan(
-            job: *const u8,
-            job_len: usize,
-            side: u64,
-            out: *mut u8,
-            out_len: usize,
-        ) -> Reply;
-
-        pub fn barrier_quantity(
-            schedule: *const u8,
-            schedule_len: usize,
-            level: u64,
-            p: u64,
-            q: u64,
-        ) -> Reply;
-
-        pub fn barrier_lookup(
-            right: *const u8,
-            right_len: usize,
-            left: *const u8,
-            left_len: usize,
-            side: u64,
-            station: u64,
-        ) -> Record;
-    }
-}
+use barrier::{Refusal, c};
 
 impl From<c::Reply> for Reply {
     fn from(reply: c::Reply) -> Reply {
@@ -118,5 +82,40 @@ fn plan_in_room(job: &mut [u8], side: u64, room: &mut [u8], lent: Range<usize>) 
     unsafe {
         let out = room.as_mut_ptr().add(lent.start);
         c::barrier_plan(job.as_mut_ptr(), job_len, side, out, lent.len()).into()
+    }
+}
+
+/// The shipped calls for Rust, to be compared.
+pub fn shipped_calls() -> Calls {
+    Calls {
+        plan: Box::new(|job, side, room, lent| {
+            let written = barrier::plan(job, side, &mut room[lent]);
+            reply(written.map(|written| written as u64))
+        }),
+        quantity: Box::new(|schedule, level, p, q| reply(barrier::quantity(schedule, level, p, q))),
+        lookup: Box::new(|right, left, side, station| {
+            record(barrier::lookup(right, left, side, station))
+        }),
+    }
+}
+
+fn reply(answer: Result<u64, Refusal>) -> Reply {
+    match answer {
+        Ok(value) => Reply { number: 0, value },
+        Err(Refusal { number, value }) => Reply { number, value },
+    }
+}
+
+fn record(answer: Result<Option<Range<usize>>, Refusal>) -> Record {
+    let (number, found, bytes) = match answer {
+        Ok(Some(bytes)) => (0, 1, bytes),
+        Ok(None) => (0, 0, 0..0),
+        Err(refusal) => (refusal.number, 0, 0..0),
+    };
+    Record {
+        number,
+        found,
+        start: bytes.start as u64,
+        end: bytes.end as u64,
     }
 }

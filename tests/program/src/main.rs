@@ -7,7 +7,7 @@ use std::process::{Child, Command, ExitCode, Output, Stdio};
 use std::thread::sleep;
 use std::time::{Duration, Instant};
 
-use cases::draft::{A, Draft, LEVEL, LO, M, PRINTED, PRINTED_HAZARD, S, SIDE};
+use cases::draft::{A, LEVEL, LO, M, PRINTED, PRINTED_HAZARD, S, SIDE, printed};
 use cases::{Random, jobs};
 
 /// No input takes the program longer than this.
@@ -139,15 +139,9 @@ fn input(name: &'static str, bytes: Vec<u8>) -> Input {
     }
 }
 
-/// The job on paper with one hazard changed.
-fn hazard_with(place: usize, value: u64) -> Vec<u8> {
-    let mut hazard = PRINTED_HAZARD;
-    hazard[place] = value;
-    PRINTED.with_hazards(&[hazard]).bytes()
-}
-
-fn printed() -> Draft {
-    PRINTED.with_hazards(&[PRINTED_HAZARD])
+/// The job on paper with a field of its hazard changed.
+fn hazard_with(field: usize, value: u64) -> Vec<u8> {
+    printed().with_hazard(field, value).bytes()
 }
 
 fn inputs() -> Vec<Input> {

@@ -43,6 +43,7 @@ pub fn whole(length: u128) -> u64 {
 #[cfg(test)]
 mod tests {
     use super::*;
+    use crate::random::Random;
 
     fn flare(along: u64, across: u64, straight: u64) -> Flare {
         Flare {
@@ -85,18 +86,13 @@ mod tests {
     #[test]
     fn between_its_two_lengths() {
         // The length is the least whole one at or above the fraction.
-        let mut state = 7u64;
+        let mut random = Random::new(7, "lengths");
         for _ in 0..20_000 {
-            let mut next = |most: u64| {
-                state = state
-                    .wrapping_mul(6_364_136_223_846_793_005)
-                    .wrapping_add(1);
-                (state >> 33) % most
-            };
-            let runout = 1 + next(200_000);
-            let offset = next(40_000);
-            let reach = offset + 1 + next(30_000);
-            let shape = flare(1 + next(100), next(11), next(100_001));
+            let runout = random.between(1, 200_000);
+            let offset = random.below(40_000);
+            let reach = offset + random.between(1, 30_000);
+            let along = random.between(1, 100);
+            let shape = flare(along, random.below(11), random.below(100_001));
             let x = u128::from(length(runout, reach, offset, shape));
             let (numerator, divisor) = fraction(runout, reach, offset, shape);
             assert!(x * divisor >= numerator);

@@ -20,6 +20,17 @@ pub fn plan(job: &[u8], side: u64, out: &mut [u8]) -> Result<u64, Refusal> {
     Ok(needed as u64)
 }
 
+/// An output long enough for every schedule.
+const LONG_ENOUGH: usize = 8_192;
+
+/// The planned schedule: the bytes that plan writes into an output long enough.
+pub fn planned(job: &[u8], side: u64) -> Result<Vec<u8>, Refusal> {
+    let mut out = vec![0; LONG_ENOUGH];
+    let written = plan(job, side, &mut out)?;
+    out.truncate(written as usize);
+    Ok(out)
+}
+
 /// The runs of one side: refusal 8, then those of the job.
 pub fn runs(job: &[u8], side: u64) -> Result<Vec<Run>, Refusal> {
     Ok(required(job, side)?.runs())

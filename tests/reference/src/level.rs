@@ -71,7 +71,9 @@ impl Required {
     }
 }
 
-fn lengthen_or_push(runs: &mut Vec<Run>, next: Run) {
+/// Adds a run behind the others; one that goes on at the last one's level
+/// makes that one longer.
+pub fn lengthen_or_push(runs: &mut Vec<Run>, next: Run) {
     match runs.last_mut() {
         Some(last) if last.level == next.level && last.stretch.end == next.stretch.start => {
             last.stretch.end = next.stretch.end;
@@ -125,6 +127,7 @@ pub fn has(set: &[Stretch], station: u64) -> bool {
 #[cfg(test)]
 mod tests {
     use super::*;
+    use crate::random::Random;
 
     const ROAD: usize = 70;
 
@@ -184,16 +187,16 @@ mod tests {
         runs
     }
 
-    fn random_envelopes(next: &mut impl FnMut(u64) -> u64) -> Vec<Envelope> {
-        let count = next(9);
+    fn random_envelopes(random: &mut Random) -> Vec<Envelope> {
+        let count = random.below(9);
         let mut list = Vec::new();
         for _ in 0..count {
-            let start = next(ROAD as u64 - 1);
-            let end = (start + 1 + next(12)).min(ROAD as u64);
+            let start = random.below(ROAD as u64 - 1);
+            let end = (start + 1 + random.below(12)).min(ROAD as u64);
             list.push(Envelope {
                 side: 0,
                 stretch: Stretch::new(start, end),
-                level: 1 + next(HIGHEST),
+                level: random.between(1, HIGHEST),
             });
         }
         list
@@ -201,16 +204,10 @@ mod tests {
 
     #[test]
     fn as_millimetre_by_millimetre() {
-        let mut state = 11u64;
-        let mut next = |most: u64| {
-            state = state
-                .wrapping_mul(6_364_136_223_846_793_005)
-                .wrapping_add(1);
-            (state >> 33) % most
-        };
+        let mut random = Random::new(11, "levels");
         for _ in 0..3_000 {
-            let envelopes = random_envelopes(&mut next);
-            let continuity = next(20);
+            let envelopes = random_envelopes(&mut random);
+            let continuity = random.below(20);
             let levels = level_of_each_millimetre(&envelopes, continuity);
             let required = Required::new(&envelopes, continuity);
             for (t, level) in levels.iter().enumerate() {

@@ -2,19 +2,22 @@
 //!
 //! Every part follows the paper's own words and is written for reading. The
 //! parts are public, so that a test can exchange one of them and see whether
-//! it finds the slip.
+//! it finds the slip. Two modules are helpers for tests, said once for all of
+//! them: `draft` and `random`.
 
 pub mod approach;
 pub mod calls;
+pub mod draft;
 pub mod envelope;
 pub mod job;
 pub mod level;
 pub mod number;
 pub mod program;
+pub mod random;
 pub mod refusal;
 pub mod schedule;
 pub mod stretch;
 
-pub use calls::{Lookup, Outcome, lookup, plan, quantity};
+pub use calls::{Lookup, Outcome, lookup, plan, planned, quantity};
 pub use refusal::Refusal;
 pub use stretch::Stretch;

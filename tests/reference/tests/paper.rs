@@ -3,7 +3,7 @@
 mod common;
 
 use common::*;
-use reference::{Outcome, lookup, plan, program, quantity};
+use reference::{Outcome, lookup, plan, planned, program, quantity};
 
 #[test]
 fn the_printed_program_output() {
@@ -27,8 +27,8 @@ fn k1_as_printed() {
     assert_eq!(printed().right(), [(200_000 - 44_227, 210_000, 3)]);
 }
 
-fn k2() -> Numbers {
-    printed().header(FLARE_B, 0)
+fn k2() -> Draft {
+    printed().with(FLARE_B, 0)
 }
 
 #[test]
@@ -38,12 +38,12 @@ fn k2_no_flare() {
 
 #[test]
 fn k3_reach_cut_at_the_clear_zone() {
-    let job = k2().header(LF, 88_000).header(C, 8_500).header(M, 2_000);
+    let job = k2().with(LF, 88_000).with(C, 8_500).with(M, 2_000);
     assert_eq!(job.right(), [(200_000 - 67_295, 210_000, 3)]);
 }
 
-fn k4() -> Numbers {
-    k2().header(LO, 101_000).header(W, 3_500)
+fn k4() -> Draft {
+    k2().with(LO, 101_000).with(W, 3_500)
 }
 
 #[test]
@@ -54,7 +54,7 @@ fn k4_far_traffic() {
 #[test]
 fn k4_on_the_left() {
     // On the left the opposite traffic is adjacent and the forward one far.
-    let job = k4().hazard(SIDE, 1);
+    let job = k4().with_hazard(SIDE, 1);
     let run = (200_000 - 28_056, 210_000 + 67_334, 3);
     assert_eq!(job.runs(1).unwrap(), [run]);
     assert_eq!(job.right(), []);
@@ -63,48 +63,48 @@ fn k4_on_the_left() {
 #[test]
 fn one_way_on_the_left() {
     // With LO = 0 forward traffic is adjacent to the left side too.
-    let job = k2().hazard(SIDE, 1);
+    let job = k2().with_hazard(SIDE, 1);
     assert_eq!(job.runs(1).unwrap(), [(132_666, 210_000, 3)]);
 }
 
 #[test]
 fn k5_far_traffic_reaches_no_more() {
-    assert_eq!(k4().hazard(N, 5_499).right(), [(132_666, 238_056, 3)]);
-    assert_eq!(k4().hazard(N, 5_500).right(), [(132_666, 210_000, 3)]);
+    assert_eq!(k4().with_hazard(N, 5_499).right(), [(132_666, 238_056, 3)]);
+    assert_eq!(k4().with_hazard(N, 5_500).right(), [(132_666, 210_000, 3)]);
 }
 
 #[test]
 fn k6_the_clear_zone() {
-    let covered = printed().hazard(N, 8_999);
+    let covered = printed().with_hazard(N, 8_999);
     assert_eq!(covered.right(), [(155_773, 210_000, 3)]);
-    assert_eq!(printed().hazard(N, 9_000).right(), []);
+    assert_eq!(printed().with_hazard(N, 9_000).right(), []);
 }
 
 #[test]
 fn k7_deflection() {
-    let planned = printed().hazard(N, 4_000);
+    let planned = printed().with_hazard(N, 4_000);
     assert_eq!(planned.right(), [(155_773, 210_000, 3)]);
-    assert_eq!(printed().hazard(N, 3_999).refused(), (5, 0));
+    assert_eq!(printed().with_hazard(N, 3_999).refused(), (5, 0));
 }
 
 #[test]
 fn k8_the_road_begin() {
-    let begins_at_0 = k2().hazard(S, 67_334);
+    let begins_at_0 = k2().with_hazard(S, 67_334);
     assert_eq!(begins_at_0.right(), [(0, 210_000, 3)]);
-    assert_eq!(k2().hazard(S, 67_333).refused(), (6, 0));
+    assert_eq!(k2().with_hazard(S, 67_333).refused(), (6, 0));
 }
 
 #[test]
 fn the_road_end() {
-    let ends_at_b = k4().header(B, 238_056);
+    let ends_at_b = k4().with(B, 238_056);
     assert_eq!(ends_at_b.right(), [(132_666, 238_056, 3)]);
-    assert_eq!(k4().header(B, 238_055).refused(), (6, 0));
+    assert_eq!(k4().with(B, 238_055).refused(), (6, 0));
 }
 
 /// Two envelopes of level 2, `apart` from each other, at G = 50,000.
-fn k9(apart: u64) -> Numbers {
+fn k9(apart: u64) -> Draft {
     let second = 210_000 + apart + 44_227;
-    printed().header(G, 50_000).hazards(&[
+    printed().with(G, 50_000).with_hazards(&[
         [0, 200_000, 210_000, 5_000, 9_000, 2],
         [0, second, second + 1_000, 5_000, 9_000, 2],
     ])
@@ -120,12 +120,12 @@ fn k9_the_continuity_limit() {
 
 /// A runout length of 1 without a flare makes every approach length 1, so the
 /// envelopes can be given as they are.
-fn with_envelopes(continuity: u64, envelopes: &[(u64, u64, u64)]) -> Numbers {
+fn with_envelopes(continuity: u64, envelopes: &[(u64, u64, u64)]) -> Draft {
     let hazards: Vec<[u64; 6]> = envelopes
         .iter()
         .map(|&(start, end, level)| [0, start + 1, end, 5_000, 9_000, level])
         .collect();
-    k2().header(LF, 1).header(G, continuity).hazards(&hazards)
+    k2().with(LF, 1).with(G, continuity).with_hazards(&hazards)
 }
 
 #[test]
@@ -146,19 +146,19 @@ fn touching_envelopes_of_one_level_are_one_run() {
 
 #[test]
 fn both_sides_in_the_listing() {
-    let job = k4().hazards(&[
+    let job = k4().with_hazards(&[
         [1, 200_000, 210_000, 5_000, 9_000, 3],
         [0, 200_000, 210_000, 5_000, 9_000, 6],
     ]);
     let expected = "R 132666 238056 6\nL 171944 277334 3\ntotal 105390 105390\n";
     assert_eq!(program::text(&job.bytes()), expected);
-    assert_eq!(program::text(&job.hazards(&[]).bytes()), "total 0 0\n");
+    assert_eq!(program::text(&job.with_hazards(&[]).bytes()), "total 0 0\n");
 }
 
 #[test]
 fn the_program_refuses() {
     assert_eq!(program::text(&[]), "refused 1 0\n");
-    let near = printed().hazard(N, 3_999);
+    let near = printed().with_hazard(N, 3_999);
     assert_eq!(program::text(&near.bytes()), "refused 5 0\n");
     let mut long = printed().bytes();
     let length = long.len();
@@ -169,7 +169,7 @@ fn the_program_refuses() {
 #[test]
 fn no_accepted_job_is_8192_bytes_long() {
     // The longest numbers that any field admits.
-    let header = vec![
+    let header = [
         1,
         1_000_000_000,
         2_000_000_000,
@@ -185,15 +185,13 @@ fn no_accepted_job_is_8192_bytes_long() {
         200_000,
     ];
     let hazards = vec![[1, 1_500_000_000, 1_600_000_000, 60_000, 60_000, 6]; 256];
-    let job = Numbers { header, hazards };
+    let job = Draft { header, hazards };
     assert!(job.bytes().len() < program::PASSED_ON);
     assert_eq!(program::text(&job.bytes()), "total 0 0\n");
 }
 
-fn schedule_of(job: &Numbers) -> Vec<u8> {
-    let mut out = [0; 6_000];
-    let written = plan(&job.bytes(), 0, &mut out).unwrap();
-    out[..written as usize].to_vec()
+fn schedule_of(job: &Draft) -> Vec<u8> {
+    planned(&job.bytes(), 0).unwrap()
 }
 
 #[test]

@@ -17,11 +17,11 @@ fn refused(job: &[u8]) -> (u64, u64) {
 
 /// The printed job with the bytes of one number, counted from 0, exchanged.
 fn with_number_bytes(index: usize, replaced: &[u8]) -> (Vec<u8>, usize) {
-    let list = printed().list();
-    let mut job = bytes(&list[..index]);
+    let list = printed().numbers();
+    let mut job = number_bytes(&list[..index]);
     let begin = job.len();
     job.extend(replaced);
-    job.extend(bytes(&list[index + 1..]));
+    job.extend(number_bytes(&list[index + 1..]));
     (job, begin)
 }
 
@@ -29,8 +29,8 @@ fn with_number_bytes(index: usize, replaced: &[u8]) -> (Vec<u8>, usize) {
 fn row_1_bytes_end() {
     let job = printed().bytes();
     let mut begin = 0;
-    for value in printed().list() {
-        let size = bytes(&[value]).len();
+    for value in printed().numbers() {
+        let size = number_bytes(&[value]).len();
         for end in begin..begin + size {
             assert_eq!(refused(&job[..end]), (1, begin as u64));
         }
@@ -48,7 +48,7 @@ fn row_2_number_form() {
         &[0x80, 0x80, 0x80, 0x80, 0x80],
         &[0x80, 0x80, 0x80, 0x80, 0x80, 0x00],
     ];
-    for index in 0..printed().list().len() {
+    for index in 0..printed().numbers().len() {
         for replaced in wrong {
             let (job, begin) = with_number_bytes(index, replaced);
             assert_eq!(refused(&job), (2, begin as u64));
@@ -83,9 +83,9 @@ const HEADER_RANGES: [(u64, u64); 14] = [
 ];
 
 fn header_refusal(no: usize, value: u64) -> Option<u64> {
-    let mut list = printed().hazards(&[]).list();
+    let mut list = printed().with_hazards(&[]).numbers();
     list[no - 1] = value;
-    let refusal = plan(&bytes(&list), 0, &mut [0; 8]).err()?;
+    let refusal = plan(&number_bytes(&list), 0, &mut [0; 8]).err()?;
     (refusal.number == 3).then_some(refusal.value)
 }
 
@@ -106,7 +106,7 @@ fn row_3_header_ranges() {
 
 #[test]
 fn row_3_road_end_after_begin() {
-    let road = |a, b| printed().hazards(&[]).header(A, a).header(B, b);
+    let road = |a, b| printed().with_hazards(&[]).with(A, a).with(B, b);
     assert_eq!(road(1_999_999_999, 2_000_000_000).right(), []);
     assert_eq!(road(2_000_000_000, 2_000_000_000).refused(), (3, 2));
     assert_eq!(road(500, 500).refused(), (3, 3));
@@ -115,12 +115,12 @@ fn row_3_road_end_after_begin() {
 
 #[test]
 fn row_4_hazard_ranges() {
-    let road = printed().header(A, 100).header(B, 300_000);
+    let road = printed().with(A, 100).with(B, 300_000);
     let refusal = |field, value| {
         let first = [0, 200_000, 210_000, 5_000, 9_000, 3];
         let mut second = first;
         second[field] = value;
-        let job = road.clone().hazards(&[first, second]);
+        let job = road.clone().with_hazards(&[first, second]);
         job.runs(0).err().map(|r| (r.number, r.value))
     };
     assert_eq!(refusal(SIDE, 1), None);
@@ -151,7 +151,7 @@ const NEAR_AND_OFF: [u64; 6] = [0, 1_000, 210_000, 3_999, 9_000, 3];
 
 #[test]
 fn rows_5_and_6() {
-    let with = |list: &[[u64; 6]]| printed().hazards(list).refused();
+    let with = |list: &[[u64; 6]]| printed().with_hazards(list).refused();
     assert_eq!(with(&[GOOD, NEAR]), (5, 1));
     assert_eq!(with(&[GOOD, OFF]), (6, 1));
     assert_eq!(with(&[GOOD, NEAR_AND_OFF]), (5, 1));
@@ -163,13 +163,13 @@ fn rows_5_and_6() {
 #[test]
 fn nobody_reaches_nothing_is_refused() {
     // Neither too near nor off the road, for it has no envelope.
-    let job = printed().header(C, 3_000).hazards(&[NEAR_AND_OFF]);
+    let job = printed().with(C, 3_000).with_hazards(&[NEAR_AND_OFF]);
     assert_eq!(job.right(), []);
 }
 
 #[test]
 fn row_7_before_5_and_6() {
-    let mut job = printed().hazards(&[NEAR, OFF]).bytes();
+    let mut job = printed().with_hazards(&[NEAR, OFF]).bytes();
     let length = job.len() as u64;
     job.push(0x80);
     assert_eq!(refused(&job), (7, length));
@@ -207,7 +207,7 @@ fn row_9_output_short() {
 
 #[test]
 fn row_9_comes_last() {
-    let job = printed().hazards(&[NEAR]).bytes();
+    let job = printed().with_hazards(&[NEAR]).bytes();
     let refusal = plan(&job, 0, &mut []).unwrap_err();
     assert_eq!((refusal.number, refusal.value), (5, 0));
 }

@@ -1,6 +1,7 @@
-//! Jobs as lists of numbers, before they are bytes.
+//! Jobs as lists of numbers, before they are bytes: a helper for tests. The
+//! reading of document 01 does not use it.
 
-use reference::number;
+use crate::number;
 
 /// Places in the header, from 0 (the paper counts from 1).
 pub const KIND: usize = 0;
@@ -31,7 +32,7 @@ pub const LEVEL: usize = 5;
 /// Numbers of a hazard.
 pub const FIELDS: usize = 6;
 
-/// The job on paper.
+/// The job on paper without its hazard.
 pub const PRINTED: Draft = Draft {
     header: [
         1, 0, 1_000_000, 101_000, 0, 9_000, 0, 3_000, 1_000, 15, 1, 13_340, 0,
@@ -41,6 +42,11 @@ pub const PRINTED: Draft = Draft {
 
 /// The hazard of the job on paper.
 pub const PRINTED_HAZARD: [u64; FIELDS] = [0, 200_000, 210_000, 5_000, 9_000, 3];
+
+/// The job on paper with its hazard.
+pub fn printed() -> Draft {
+    PRINTED.with_hazards(&[PRINTED_HAZARD])
+}
 
 /// The numbers of a job; the hazard count is that of the list.
 #[derive(Clone, Debug)]
@@ -52,6 +58,12 @@ pub struct Draft {
 impl Draft {
     pub fn with(mut self, place: usize, value: u64) -> Draft {
         self.header[place] = value;
+        self
+    }
+
+    /// Changes a field of the first hazard.
+    pub fn with_hazard(mut self, field: usize, value: u64) -> Draft {
+        self.hazards[0][field] = value;
         self
     }
 

@@ -1,5 +1,5 @@
-//! A small generator of random numbers (splitmix64); the same seed gives the
-//! same cases.
+//! A small generator of random numbers (splitmix64), a helper for tests: the
+//! same seed gives the same cases.
 
 pub struct Random {
     state: u64,
