@@ -1,5 +1,5 @@
-# Two commands for a fresh machine with the Rattle toolchain, gcc and cargo: make run, make test.
-# Beside them: make fuzz SECONDS=n, make bench, make bench-instructions, and Makefile.vendor's make install and make examples.
+# Two commands for a fresh machine with the Rattle toolchain, gcc and cargo: make run, make test. The second also needs g++ and pkg-config.
+# Beside them: make fuzz SECONDS=n, make bench, make bench-instructions (with valgrind), and Makefile.vendor's make install and make examples.
 .PHONY: run test proved engine hand fuzz bench bench-instructions
 
 SECONDS ?= 60

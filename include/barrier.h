@@ -182,7 +182,8 @@
  * and sets no errno.  Every call returns, whatever bytes it is given.  Any
  * call may run on any thread at any time, several at once too, as long as no
  * thread changes a buffer that another call is using.  One call of
- * barrier_plan takes some 23 KiB of stack, of the others less than 1 KiB.
+ * barrier_plan takes less than 23 KiB of stack, each of the others less than
+ * 1 KiB.
  *
  * ---------------------------------------------------------------------------
  * LINKING
@@ -191,7 +192,7 @@
  * header's folder and the archive libbarrier_engine.a.  The archive is for
  * x86-64, position independent, so that it links into programs and shared
  * libraries alike, exports the three calls alone, and asks the C library for
- * nothing but block copies (memcpy and its kin).
+ * nothing but block copies and fills (memcpy, memset and their kin).
  */
 #ifndef BARRIER_H
 #define BARRIER_H

@@ -1,7 +1,7 @@
 #!/bin/sh
 # The archive exports the header's three calls and nothing else, asks for
-# nothing but the C library's block copies (so it cannot allocate, print or
-# lock), and links into a shared library.
+# nothing but the C library's block copies and fills (so it cannot allocate,
+# print or lock), and links into a shared library.
 set -eu
 archive=$LIBDIR/libbarrier_engine.a
 tmp=$(mktemp -d)
@@ -18,4 +18,4 @@ if grep -vxE 'barrier_[a-z]+|mem(cpy|move|set|cmp)|bcmp' "$tmp/asked"; then
 fi
 
 $CC -shared -o "$tmp/barrier.so" -Wl,--whole-archive "$archive" -Wl,--no-whole-archive
-echo "archive: exports the three calls, asks for nothing but block copies, links shared"
+echo "archive: exports the three calls, asks for nothing but block copies and fills, links shared"
