@@ -13,13 +13,14 @@ fail() {
 }
 
 # The first program writes the same job from its numbers.
-bytes=$("$jobtext" <"$printed" | od -An -v -tx1 | tr -d ' \n' | tr a-f A-F)
+"$jobtext" <"$printed" >"$tmp/printed"
+bytes=$(od -An -v -tx1 "$tmp/printed" | tr -d ' \n' | tr a-f A-F)
 stored=$(sed -n 's/^  job://p' examples/example.out | tr -d ' ')
 [ "$bytes" = "$stored" ] || fail "the printed job is $bytes"
 
 # A text that came through a system with other line ends is the same.
 awk '{ printf "%s\r\n", $0 }' "$printed" | "$jobtext" >"$tmp/other"
-"$jobtext" <"$printed" | cmp - "$tmp/other"
+cmp "$tmp/printed" "$tmp/other"
 
 # Wrong numbers are encoded; the engine judges. Arguments: a sed command for
 # the printed job, a line behind it, and what the engine says.

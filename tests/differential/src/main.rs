@@ -23,9 +23,12 @@ fn main() -> ExitCode {
     }
 }
 
+/// Through the pointers, then through the shipped calls: either may differ.
 fn one_case(checker: &mut Checker, case: &Case) -> ExitCode {
+    let mut shipped = Checker::new(engine::shipped_calls());
     checker.begin_family("one case alone");
-    conclude(checker.case(case))
+    shipped.begin_family("one case alone, calls shipped for Rust");
+    conclude(checker.case(case).and_then(|()| shipped.case(case)))
 }
 
 fn many_cases(checker: &mut Checker, options: &Options) -> ExitCode {
@@ -43,12 +46,10 @@ fn many_cases(checker: &mut Checker, options: &Options) -> ExitCode {
 /// One round through the calls that are shipped for Rust.
 fn shipped_calls(seed: u64) -> Result<(), Box<Difference>> {
     let mut checker = Checker::new(engine::shipped_calls());
-    cases::round(&mut checker, seed)?;
-    println!(
-        "{} cases through the shipped calls for Rust",
-        checker.tally.cases()
-    );
-    Ok(())
+    let outcome = cases::round(&mut checker, seed);
+    let cases = checker.tally.cases();
+    println!("{cases} cases through the calls shipped for Rust");
+    outcome
 }
 
 /// One round after the other, each with a fresh seed, until the time is over.
