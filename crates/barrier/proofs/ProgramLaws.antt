@@ -1,30 +1,123 @@
--- What the program prints for the job on paper goes by approach's promise: its run begins one approach length before the hazard.
+-- What the program prints goes by approach's promise: upstream of each hazard, every millimetre that is nearer to it than the formula's
+-- length lies in a run that is printed.
 -- Assumes nothing.
-use Prim.Native.Nat.{ℕ, _+_, _-_, _*_, _≤_}
+use Prim.Native.Nat.{ℕ, zero, suc, _≤_, _<_}
 use native.Mathlib.Omega.{arith}
-use mathlib.Core.Path.{_≡_, refl, _∙_}
-use mathlib.Core.Logic.{_↔_}
-use mathlib.Core.List.{List, [], _∷_, _++_}
-use Rattle.approach.specs.Approach.{ceilDiv, approachLength}
-use Rattle.approach.proofs.ApproachLaws.{approach-exactly}
-use Rattle.job.specs.Writing.{writeNumbers}
-use Rattle.report.specs.Text.{digitsIn, decimal, fields, line, rightWord, runLine, totalLine, reported}
-use Rattle.report.specs.Printed.{printedJob, printedText}
-use Rattle.report.proofs.ReportLaws.{printed-report}
+use native.Mathlib.Decide.{decLt}
+use mathlib.Core.Path.{_≡_, sym, ap, _∙_}
+use mathlib.Core.Bool.{true}
+use mathlib.Core.List.{List, _∷_, _++_, append-assoc, List·Memᴰ}
+use lib.Dec.{eqb}
+use Rattle.refusal.specs.Choice.{if_then_else_}
+use Rattle.refusal.specs.Answer.{accepted}
+use Rattle.job.specs.declared.Hazard.{Hazard}
+use Rattle.job.specs.Job.{Job}
+use Rattle.runs.specs.declared.Stretch.{Stretch}
+use Rattle.runs.specs.Level.{Has}
+use Rattle.runs.proofs.RunLaws.{ShownRun, shown-run}
+use Rattle.approach.specs.Approach.{approachLength}
+use Rattle.approach.proofs.ApproachLaws.{approach-exactly, divisor-some}
+use Rattle.planning.specs.Envelope.{Traffic, runout, reaches, reachOf, offsetOf, Upstream, BelowFormula, acceptJob}
+use Rattle.planning.specs.Required.{jobRuns}
+use Rattle.planning.proofs.EnvelopeLaws.{accepted-fits, domain-of}
+use Rattle.planning.proofs.FormulaLaws.{formula-level}
+use Rattle.planning.proofs.JobRunLaws.{job-runs}
+use Rattle.report.specs.Text.{rightWord, leftWord, runLine, runLines, totalLine, covered, runsReport, reported}
+use Rattle.report.proofs.LineLaws.{lines-append}
 
--- The job on paper: a = 15, b = 1, T 13,340, L 101,000, R 9,000, m 3,000.
-abbrev pub paperLength : ℕ
-paperLength = approachLength 15 1 13340 101000 9000 3000
+-- The word that a side's lines begin with.
+abbrev pub sideWord : (side : ℕ) → List ℕ
+sideWord side = if eqb side 0 then rightWord else leftWord
 
-text-by-length : printedText ≡ runLine rightWord (200000 - paperLength) 210000 3 ++ totalLine (210000 - (200000 - paperLength)) 0
-unfolding printedText ceilDiv approachLength digitsIn decimal fields line
-text-by-length = refl
+-- A run of level v or higher that has t, and its line in the text printed for s.
+pub record PrintedRun (s word : List ℕ) (v t : ℕ) : Type 0 where
+  pub run : Stretch
+  pub has : Has run t
+  pub level : v ≤ run .level
+  pub before : List ℕ
+  pub after : List ℕ
+  pub text : reported s ≡ before ++ (runLine word (run .start) (run .end) (run .level) ++ after)
 
--- Both printed lines, by the length that crate approach promises.
-pub printed-by-length :
-    reported (writeNumbers printedJob) ≡ runLine rightWord (200000 - paperLength) 210000 3 ++ totalLine (210000 - (200000 - paperLength)) 0
-printed-by-length = printed-report ∙ text-by-length
+not-le : {m n : ℕ} → (n ≤ m → ⊥) → m < n
+not-le {m} {n} h = go (decLt m n)
+  where
+    go : Dec (m < n) → m < n
+    go (yes l) = l
+    go (no l) = absurd (h (omega arith))
 
--- And that length is the least whole number not below the formula.
-pub printed-length-exactly : (n : ℕ) → (paperLength ≤ n) ↔ (101000 * (15 * 9000 + 1 * 13340 - 15 * 3000) ≤ n * (1 * 101000 + 15 * 9000))
-printed-length-exactly n = approach-exactly 15 1 13340 101000 9000 3000 (omega arith) n
+-- The lines of runs among which one stands.
+lines-split : (word : List ℕ) (rs before : List Stretch) (r : Stretch) (after : List Stretch) → rs ≡ before ++ r ∷ after
+    → runLines word rs ≡ runLines word before ++ (runLine word (r .start) (r .end) (r .level) ++ runLines word after)
+unfolding runLines
+lines-split word rs before r after e = ap (runLines word) e ∙ lines-append word before (r ∷ after)
+
+-- A run that a side's runs show at t is printed.
+module _ (s : List ℕ) (j : Job) (a : acceptJob s ≡ accepted j) (v t : ℕ) where
+  right-printed : (w : ShownRun (jobRuns j 0) t) → v ≤ w .run .level → PrintedRun s rightWord v t
+  unfolding runsReport reported
+  right-printed w h =
+      let A = runLines rightWord (w .before) in
+      let B = runLines rightWord (w .after) in
+      let line = runLine rightWord (w .run .start) (w .run .end) (w .run .level) in
+      let left = runLines leftWord (jobRuns j 1) in
+      let total = totalLine (covered (jobRuns j 0)) (covered (jobRuns j 1)) in
+      record {
+        run = w .run;
+        has = w .has;
+        level = h;
+        before = A;
+        after = B ++ (left ++ total);
+        text = rw (a, lines-split rightWord (jobRuns j 0) (w .before) (w .run) (w .after) (w .split)) (
+            ap (λ (l : List ℕ). l ++ total) (append-assoc A (line ++ B) left ∙ ap (λ (l : List ℕ). A ++ l) (append-assoc line B left))
+            ∙ append-assoc A (line ++ (B ++ left)) total
+            ∙ ap (λ (l : List ℕ). A ++ l) (append-assoc line (B ++ left) total ∙ ap (λ (l : List ℕ). line ++ l) (append-assoc B left total)));
+      }
+
+  left-printed : (w : ShownRun (jobRuns j 1) t) → v ≤ w .run .level → PrintedRun s leftWord v t
+  unfolding runsReport reported
+  left-printed w h =
+      let A = runLines leftWord (w .before) in
+      let B = runLines leftWord (w .after) in
+      let line = runLine leftWord (w .run .start) (w .run .end) (w .run .level) in
+      let right = runLines rightWord (jobRuns j 0) in
+      let total = totalLine (covered (jobRuns j 0)) (covered (jobRuns j 1)) in
+      record {
+        run = w .run;
+        has = w .has;
+        level = h;
+        before = right ++ A;
+        after = B ++ total;
+        text = rw (a, lines-split leftWord (jobRuns j 1) (w .before) (w .run) (w .after) (w .split)) (
+            ap (λ (l : List ℕ). l ++ total) (sym (append-assoc right A (line ++ B)))
+            ∙ append-assoc (right ++ A) (line ++ B) total
+            ∙ ap (λ (l : List ℕ). (right ++ A) ++ l) (append-assoc line B total));
+      }
+
+  printed : (side : ℕ) → side ≤ 1 → (w : ShownRun (jobRuns j side) t) → v ≤ w .run .level → PrintedRun s (sideWord side) v t
+  printed zero l w h = right-printed w h
+  printed (suc zero) l w h = left-printed w h
+  printed (suc (suc n)) l w h = absurd (omega arith)
+
+-- For every accepted job: upstream of a hazard, a millimetre whose end towards it is nearer than the formula's length lies in a printed run
+-- of the hazard's level or a higher one.
+pub printed-formula : (s : List ℕ) (j : Job) → acceptJob s ≡ accepted j → (z : Hazard) → List·Memᴰ z (j .hazards) → (traffic : Traffic) → reaches (j .header) z traffic ≡ true
+    → (d t : ℕ) → Upstream traffic z d t → BelowFormula (j .header) z traffic d → PrintedRun s (sideWord (z .side)) (z .level) t
+printed-formula s j a z m traffic r d t u l =
+    let fits = accepted-fits s j a in
+    let own = fits .fits .hazards .each z m in
+    let shows = job-runs j (z .side) fits .shows t in
+    let level = formula-level j fits z m traffic r d t u l in
+    let w = shown-run (jobRuns j (z .side)) t (omega (arith, own .level-low)) in
+    printed s j a (z .level) t (z .side) (own .side) w (omega (arith, w .level))
+
+-- The same by the length that crate approach promises: a whole number of millimetres below it is below the formula.
+pub printed-length : (s : List ℕ) (j : Job) → acceptJob s ≡ accepted j → (z : Hazard) → List·Memᴰ z (j .hazards) → (traffic : Traffic) → reaches (j .header) z traffic ≡ true
+    → (d t : ℕ) → Upstream traffic z d t
+    → let h = j .header in d < approachLength (h .along) (h .across) (h .straight) (runout h traffic) (reachOf h z traffic) (offsetOf h z traffic)
+    → PrintedRun s (sideWord (z .side)) (z .level) t
+printed-length s j a z m traffic r d t u l =
+    let h = j .header in
+    let domain = domain-of j (accepted-fits s j a) z m traffic r in
+    let some = divisor-some (h .along) (h .across) (h .straight) (runout h traffic) (reachOf h z traffic) (offsetOf h z traffic) domain in
+    let exact = approach-exactly (h .along) (h .across) (h .straight) (runout h traffic) (reachOf h z traffic) (offsetOf h z traffic) some d in
+    printed-formula s j a z m traffic r d t u (not-le (λ f. omega (arith, exact .1 f)))

@@ -37,5 +37,10 @@ fn main() {
     let mut text = text_room();
     let read = io::read_full(libc::STDIN_FILENO, &mut job);
     let count = fill(&job[..read], &mut text);
-    io::write_all(libc::STDOUT_FILENO, &text[..count]);
+    if !io::write_all(libc::STDOUT_FILENO, &text[..count]) {
+        io::write_all(
+            libc::STDERR_FILENO,
+            b"barrier: the report could not be written\n",
+        );
+    }
 }

@@ -20,7 +20,7 @@ use Rattle.job.specs.declared.Header.{Header}
 use Rattle.job.specs.declared.Hazard.{Hazard}
 use Rattle.refusal.specs.declared.Outcome.the-variants.{Done, Refused}
 use Rattle.job.specs.declared.read.JobRead.{JobRead}
-use Rattle.job.specs.Job.{Job, jobOf, Range, within, _to_, headerRanges, hazardRanges, nextInHeader, nextInHazard, Fields, readFields, readHeader, headerOf, hazardOf, Hazards, readHazards, readJob}
+use Rattle.job.specs.Job.{Job, jobOf, Range, within, _to_, headerRanges, hazardRanges, nextInHeader, nextInHazard, Fields, readFields, readHeader, headerOf, hazardOf, Hazards, readHazards, readJob, readRest}
 use Rattle.job.specs.Reply.{HeaderReading, headerReading, headerAt, jobAnswer}
 
 -- The numbers read after `got`: each in its range.
@@ -156,7 +156,7 @@ pub record JobFits (j : Job) : Type 0 where
   pub hazards : HazardsFit (j .header) (j .header .count) (j .hazards)
 
 pub job-fits : (s : List ℕ) (j : Job) → readJob s ≡ accepted j → JobFits j
-unfolding readJob readHeader
+unfolding readJob readRest readHeader
 job-fits s j e =
     let b1 = bound (readHeader s) _ j e in
     let b2 = bound (readHazards (headerOf (b1 .first .numbers)) (headerOf (b1 .first .numbers) .count) [] s (b1 .first .next)) _ j (b1 .rest) in

@@ -18,7 +18,7 @@ use Rattle.number.proofs.NumberLaws.{length-below, read-number, after-number, n
 pub use Rattle.number.proofs.NumberLaws.{Bytes}
 use Rattle.job.specs.declared.Header.{Header}
 use Rattle.job.specs.declared.Hazard.{Hazard}
-use Rattle.job.specs.Job.{Job, Range, within, _to_, headerRanges, hazardRanges, nextInHeader, nextInHazard, Fields, readFields, readHeader, headerOf, hazardOf, Hazards, readHazards, readJob}
+use Rattle.job.specs.Job.{Job, Range, within, _to_, headerRanges, hazardRanges, nextInHeader, nextInHazard, Fields, readFields, readHeader, headerOf, hazardOf, Hazards, readHazards, readJob, readRest}
 use Rattle.job.specs.Writing.{headerNumbers, hazardNumbers, hazardsNumbers, numbersOf, writeNumbers, writeJob}
 use Rattle.job.proofs.JobLaws.{FieldsIn, fields-in, HeaderFits, HazardFits, JobFits, job-fits}
 
@@ -165,7 +165,7 @@ hazards-written h (z ∷ zs) got s at rest road fits e =
     (later ∙ rw (append-assoc got (z ∷ []) zs, both, length-append one others, (let w : at + (length one + length others) ≡ at + length one + length others = omega arith in w)))
 
 pub job-written : (j : Job) → JobFits j → readJob (writeJob j) ≡ accepted j
-unfolding readJob readHeader writeJob numbersOf
+unfolding readJob readRest readHeader writeJob numbersOf
 job-written j fits =
     rw (sym both, header, hazards, le-leb (length (one ++ others)) (length one + length others) (omega (arith, length-append one others)))
   where
@@ -214,7 +214,7 @@ hazards-stand h (suc k) got s at r b e =
     }
 
 pub job-is-written : (s : List ℕ) (j : Job) → Bytes s → readJob s ≡ accepted j → s ≡ writeJob j
-unfolding readJob readHeader writeJob numbersOf
+unfolding readJob readRest readHeader writeJob numbersOf
 job-is-written s j b e =
     let b1 = bound (readHeader s) _ j e in
     let h = headerOf (b1 .first .numbers) in

@@ -127,10 +127,13 @@ readHazards h (suc k) got s at =
     readFields (nextInHazard h) 4 (λ _. length got) 6 [] s at >>= λ z.
     readHazards h k (got ++ hazardOf (z .numbers) ∷ []) s (z .next)
 
--- "No field may be missing. Nothing follows": refusal 7 returns the index of the first byte left over.
-unfoldable pub readJob : (s : List ℕ) → Answer Job
-readJob s =
-    readHeader s >>= λ f.
-    readHazards (headerOf (f .numbers)) (headerOf (f .numbers) .count) [] s (f .next) >>= λ r.
+-- What follows the header: k more hazards after those in `got`. "No field may be missing. Nothing follows": refusal 7 returns the index
+-- of the first byte left over.
+unfoldable pub readRest : Header → (k : ℕ) (got : List Hazard) (s : List ℕ) (at : ℕ) → Answer Job
+readRest h k got s at =
+    readHazards h k got s at >>= λ r.
     unless-refuse (leb (length s) (r .next)) 7 (r .next) >>= λ _.
-    accepted (record { header = headerOf (f .numbers); hazards = r .list })
+    accepted (record { header = h; hazards = r .list })
+
+unfoldable pub readJob : (s : List ℕ) → Answer Job
+readJob s = readHeader s >>= λ f. let h = headerOf (f .numbers) in readRest h (h .count) [] s (f .next)

@@ -2,8 +2,6 @@
 -- Assumes nothing.
 use Prim.Native.Nat.{ℕ}
 use mathlib.Core.List.{List, []}
-use lib.ListN.{length}
-use lib.Dec.{leb}
 use Rattle.refusal.specs.Answer.{Answer, accepted, _>>=_, unless-refuse}
 use Rattle.refusal.specs.Refusal.{numberOf, valueOf, refusal, outcome}
 use Rattle.refusal.specs.declared.Refusal.{Refusal}
@@ -17,7 +15,7 @@ use Rattle.job.specs.declared.header_fields.HeaderRead.the-variants as H
 use Rattle.job.specs.declared.hazard_fields.HazardRead.{HazardRead}
 use Rattle.job.specs.declared.hazard_fields.HazardRead.the-variants as HazardRead
 use Rattle.job.specs.declared.read.JobRead.{JobRead}
-use Rattle.job.specs.Job.{Job, jobOf, Range, within, Fields, nextInHazard, readFields, readHeader, headerOf, hazardOf, readHazards}
+use Rattle.job.specs.Job.{Job, jobOf, Range, within, Fields, nextInHazard, readFields, readHeader, headerOf, hazardOf}
 
 -- One number, for 1, 2 and its range; out of range is the refusal `outside`.
 unfoldable pub fieldAt : Range → (outside : Refusal) (s : List ℕ) (at : ℕ) → Answer Reading
@@ -61,13 +59,6 @@ hazardAt h index s at = readFields (nextInHazard h) 4 (λ _. index) 6 [] s at >>
 abbrev pub hazardAnswer : HazardRead → Answer HazardReading
 hazardAnswer (HazardRead.Hazard z n) = accepted (record { hazard = z; next = n })
 hazardAnswer (HazardRead.Refused r) = refusal r
-
--- What follows the header: k more hazards after those in `got`, and nothing more.
-unfoldable pub restAt : Header → (k : ℕ) (got : List Hazard) (s : List ℕ) (at : ℕ) → Answer Job
-restAt h k got s at =
-    readHazards h k got s at >>= λ r.
-    unless-refuse (leb (length s) (r .next)) 7 (r .next) >>= λ _.
-    accepted (record { header = h; hazards = r .list })
 
 -- The job that was read, or the refusal.
 abbrev pub jobAnswer : JobRead → Answer Job

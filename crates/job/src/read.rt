@@ -13,8 +13,8 @@ ghost use mathlib.Core.Path.{_≡_};
 ghost use mathlib.Core.List.{[]};
 ghost use Prim.Native.Nat.{_<_, _≤_};
 ghost use lib.ListN.{length};
-ghost use Rattle.job.specs.Job.{readJob};
-ghost use Rattle.job.specs.Reply.{restAt, jobAnswer};
+ghost use Rattle.job.specs.Job.{readRest, readJob};
+ghost use Rattle.job.specs.Reply.{jobAnswer};
 
 // The outcome, and beside it the job where it is Done.
 pub struct JobRead {
@@ -42,7 +42,7 @@ fn unfilled(header: Header) -> StoredJob
 fn read_rest(s: &[u8], first: usize, header: Header) -> JobRead
     requires { ⌜ 0 < header .end ⌝ }
     requires { ⌜ header .count ≤ 256 ⌝ }
-    ensures { λ r. ⌜ jobAnswer r ≡ restAt header (header .count) [] (now (s .entry)) first ⌝ }
+    ensures { λ r. ⌜ jobAnswer r ≡ readRest header (header .count) [] (now (s .entry)) first ⌝ }
 {
     let mut job = unfilled(header);
     let count = header.count as usize;

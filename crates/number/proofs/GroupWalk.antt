@@ -5,7 +5,7 @@ use native.Mathlib.Nat.{mul-add, mul-assoc, add-assoc, mul-le-mul-left, pow-le-p
 use native.Mathlib.Numerals.{add-one}
 use native.Mathlib.Omega.{arith}
 use native.Mathlib.Decide.{decLt}
-use mathlib.Core.Path.{_≡_, refl, sym, ap, ap₂, _∙_}
+use mathlib.Core.Path.{_≡_, refl, ap, ap₂, _∙_}
 use mathlib.Core.List.{List, _∷_}
 use lib.ListN.{length, getD, drop, drop-of-length-le}
 use lib.Seq.{drop-cons}
@@ -13,7 +13,7 @@ use borrow.Author.Tests.{le-leb, lt-leb, eq-eqb, ne-eqb}
 use Rattle.number.specs.declared.Read.the-variants.{Number, Ended, Malformed}
 use Rattle.number.specs.Number.{writeIn, writeNumber, greatest, Scan, cut, overlong, whole, prefixed, scan, judged, readNumber}
 use Rattle.number.specs.Groups.{behind, readBehind}
-use Rattle.number.proofs.NumberLaws.{scan-last, scan-more, length-below, length-above}
+use Rattle.number.proofs.NumberLaws.{scan-last, scan-more, small-length, length-below, length-above}
 
 pub behind-first : (group : ℕ) (rest : Scan) → prefixed group rest ≡ behind group 128 1 rest
 behind-first group cut = refl
@@ -70,6 +70,15 @@ module _ (at low weight passed : ℕ) (some : 0 < passed) (most : passed < 5) (c
       simp (le-leb (low + weight * b) greatest fits, eq-eqb (passed + 1) (length (writeIn 5 (low + weight * b))) (omega arith))
 
 -- A number read group by group
+
+pub read-none : (s : List ℕ) (at : ℕ) → length s ≤ at → readNumber s at ≡ Ended
+unfolding readNumber
+read-none s at h = rw (scan-ended 5 at s (omega arith) h)
+
+-- The first group is the last.
+pub read-one : (s : List ℕ) (at : ℕ) → at < length s → getD s at 0 < 128 → readNumber s at ≡ Number (getD s at 0) (at + 1)
+unfolding readNumber
+read-one s at there h = rw (scan-last-at 5 at s (omega arith) there h, le-leb (getD s at 0) greatest (omega arith), small-length (getD s at 0) h)
 
 -- The first group has others behind it.
 pub read-first : (s : List ℕ) (at : ℕ) → at < length s → 128 ≤ getD s at 0 → readNumber s at ≡ readBehind (getD s at 0 - 128) 128 1 s at

@@ -6,14 +6,14 @@ use lib.Pow.{pow-add, pow-mono}
 use lib.Count.{leading-of-zero, leading-top}
 use native.Mathlib.Omega.{arith}
 use native.Mathlib.Decide.{decLt}
-use mathlib.Core.Path.{_≡_, refl, sym, subst, ap, ap₂, _∙_}
+use mathlib.Core.Path.{_≡_, refl, sym, subst, ap, _∙_}
 use mathlib.Core.Logic.{_⊎_, inl, inr}
 use mathlib.Core.Bool.{Bool, true, false, _&&_}
 use mathlib.Core.List.{List, [], _∷_, _++_, append-assoc, List·Memᴰ, List·Memᴰ·head, List·Memᴰ·tail, List·Memᴰ·cases-cons, List·Memᴰ·not-nil}
 use lib.ListN.{length, take, drop, getD, set, length-append, length-drop, take-append-drop}
 use lib.Seq.{drop-drop, drop-append-seam, drop-at, length-take-le, sets, sets-eq, length-sets}
 use lib.Dec.{ltb, leb, eqb}
-use borrow.Author.Tests.{leb-true, leb-false, lt-ltb, le-ltb, lt-leb, le-leb, eqb-true, eq-eqb}
+use borrow.Author.Tests.{leb-true, lt-ltb, le-ltb, lt-leb, le-leb, eqb-true, eq-eqb}
 use Rattle.refusal.specs.Choice.{if_then_else_}
 use Rattle.refusal.specs.Answer.{accepted}
 use Rattle.refusal.proofs.TestLaws.{and-left, and-right}
@@ -150,11 +150,6 @@ after-number s at n rest e = sym (drop-drop (length (writeNumber n)) at s) ∙ r
 -- No writing is the beginning of another.
 pub write-prefix-free : (m n : ℕ) (a b : List ℕ) → m ≤ greatest → n ≤ greatest → writeNumber m ++ a ≡ writeNumber n ++ b → m ≡ n
 write-prefix-free m n a b hm hn e = cc (read-writing (writeNumber m ++ a) 0 m a hm refl, read-writing (writeNumber m ++ a) 0 n b hn e)
-
-pub write-rest : (m n : ℕ) (a b : List ℕ) → m ≤ greatest → n ≤ greatest → writeNumber m ++ a ≡ writeNumber n ++ b → a ≡ b
-write-rest m n a b hm hn e =
-    let same = write-prefix-free m n a b hm hn e in
-    sym (drop-append-seam (writeNumber m) a) ∙ ap₂ (λ (k : ℕ) (l : List ℕ). drop (length (writeNumber k)) l) same e ∙ drop-append-seam (writeNumber n) b
 
 -- What a read number tells
 
@@ -347,27 +342,6 @@ pub placed-next-full : (s : List ℕ) (at : ℕ) (w : List ℕ) → length s < a
 unfolding placedNext
 placed-next-full s at w h = rw (lt-leb (at + length w) (length s) h)
 
--- What the reply of a writing tells.
-pub record Room (s : List ℕ) (at : ℕ) (w : List ℕ) (next : ℕ) : Type 0 where
-  pub index : next ≡ at + length w
-  pub there : next ≤ length s
-
-pub next-room : (s : List ℕ) (at : ℕ) (w : List ℕ) (next : ℕ) → placedNext s at w ≡ Next next → Room s at w next
-unfolding placedNext
-next-room s at w next e = go (leb (at + length w) (length s)) refl e
-  where
-    go : (t : Bool) → leb (at + length w) (length s) ≡ t → (if t then Next (at + length w) else Full) ≡ Next next → Room s at w next
-    go true p q = let same : at + length w ≡ next = cc in record { index = sym same; there = omega (arith, leb-true (at + length w) (length s) p) }
-    go false p q = let z : _≡_ {A = ℕ} 0 1 = cc in absurd (omega arith)
-
-pub full-room : (s : List ℕ) (at : ℕ) (w : List ℕ) → placedNext s at w ≡ Full → length s < at + length w
-unfolding placedNext
-full-room s at w e = go (leb (at + length w) (length s)) refl e
-  where
-    go : (t : Bool) → leb (at + length w) (length s) ≡ t → (if t then Next (at + length w) else Full) ≡ Full → length s < at + length w
-    go true p q = let z : _≡_ {A = ℕ} 0 1 = cc in absurd (omega arith)
-    go false p q = leb-false _ _ p
-
 -- Placed bytes are a run of stores.
 pub placed-sets : (s : List ℕ) (at : ℕ) (w : List ℕ) → at + length w ≤ length s → placed s at w ≡ sets s at w
 placed-sets s at w h = placed-fits s at w h ∙ sym (append-assoc (take at s) w _) ∙ sym (sets-eq w s at h)
@@ -410,16 +384,3 @@ placed-drop s at w h = rw (placed-fits s at w h) (drop-at (take at s) (w ++ drop
 -- A number that was written reads back.
 pub read-written : (s : List ℕ) (at n : ℕ) → n ≤ greatest → at + length (writeNumber n) ≤ length s → readNumber (placed s at (writeNumber n)) at ≡ Number n (at + length (writeNumber n))
 read-written s at n fit h = read-writing (placed s at (writeNumber n)) at n (drop (at + length (writeNumber n)) s) fit (placed-drop s at (writeNumber n) h)
-
--- Some numbers
-
-pub some-writings : (writeNumber 0 ≡ 0 ∷ []) × (writeNumber 127 ≡ 127 ∷ []) × (writeNumber 300 ≡ 172 ∷ 2 ∷ []) × (writeNumber greatest ≡ 255 ∷ 255 ∷ 255 ∷ 255 ∷ 15 ∷ [])
-unfolding writeNumber writeIn
-some-writings = (refl, refl, refl, refl)
-
--- Read; needless; too great; overlong; ended inside; ended before.
-pub some-readings :
-    (readNumber (7 ∷ 172 ∷ 2 ∷ []) 1 ≡ Number 300 3) × (readNumber (128 ∷ 0 ∷ []) 0 ≡ Malformed) × (readNumber (255 ∷ 255 ∷ 255 ∷ 255 ∷ 16 ∷ []) 0 ≡ Malformed)
-    × (readNumber (255 ∷ 255 ∷ 255 ∷ 255 ∷ 143 ∷ 0 ∷ []) 0 ≡ Malformed) × (readNumber (128 ∷ []) 0 ≡ Ended) × (readNumber [] 0 ≡ Ended)
-unfolding readNumber scan writeNumber writeIn
-some-readings = (refl, refl, refl, refl, refl, refl)

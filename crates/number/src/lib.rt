@@ -2,7 +2,7 @@
 ghost use mathlib.Core.Path.{_≡_};
 ghost use Prim.Native.Nat.{_+_, _^_, _≤_, _<_};
 ghost use lib.ListN.{length};
-ghost use Rattle.number.specs.Number.{groupCount, writeNumber, readNumber, placed, placedNext};
+ghost use Rattle.number.specs.Number.{groupCount, writeNumber, readNumber, readingOf, numberAt, placed, placedNext};
 ghost use Rattle.number.specs.Groups.{readBehind};
 
 // What reading at an index finds.
@@ -23,7 +23,7 @@ pub enum Write {
     Full,
 }
 
-// How many bytes the number takes: one for each seven of its bits, and one for 0.
+// How many bytes the number takes: one for each begun seven of its bits, and one for 0. For up to 32 bits 9/64 is near enough to a seventh.
 pub fn group_count(x: u32) -> usize
     ensures { λ r. ⌜ r ≡ groupCount x ⌝ }
 {
@@ -53,9 +53,10 @@ fn read_fifth(s: &[u8], at: usize, low: u32) -> Read
     }
 }
 
-// The groups before the fifth stay far below 32 bits.
+// The number that begins at an index, if one does. Its groups before the fifth stay below 32 bits.
 pub fn read_number(s: &[u8], at: usize) -> Read
     ensures { λ r. ⌜ r ≡ readNumber (now (s .entry)) at ⌝ }
+    ensures { λ r. ⌜ readingOf at r ≡ numberAt (now (s .entry)) at ⌝ }
 {
     if s.len() <= at {
         return Read::Ended;

@@ -1,12 +1,11 @@
 -- The runs that an accepted job requires on a side: the one run list that shows the required level everywhere.
 -- Assumes nothing.
 use Prim.Native.Nat.{ℕ}
-use native.Mathlib.Omega.{arith}
 use mathlib.Core.Path.{_≡_, subst}
 use mathlib.Core.Bool.{true}
 use mathlib.Core.List.{List}
-use Rattle.refusal.specs.Answer.{accepted, _>>=_}
-use Rattle.refusal.proofs.AnswerLaws.{Bound, bound}
+use Rattle.refusal.specs.Answer.{accepted}
+use Rattle.refusal.proofs.AnswerLaws.{bound}
 use Rattle.job.specs.Job.{Job}
 use Rattle.runs.specs.declared.Stretch.{Stretch}
 use Rattle.runs.specs.RunList.{isRunList}

@@ -1,16 +1,14 @@
 -- The runs of a side, step by step: reading, then the tests and envelopes, then the runs.
 -- Assumes nothing.
 use Prim.Native.Nat.{ℕ, _≤_}
-use mathlib.Core.Path.{_≡_, refl, sym, ap, subst, _∙_}
+use mathlib.Core.Path.{_≡_, refl, sym, _∙_}
 use mathlib.Core.List.{List}
-use lib.ListN.{length}
 use Rattle.refusal.specs.Answer.{Answer, accepted, refused, _>>=_}
 use Rattle.refusal.specs.Refusal.{refusal}
 use Rattle.refusal.specs.declared.Refusal.{Refusal}
 use Rattle.refusal.specs.declared.Outcome.the-variants.{Done, Refused}
 use Rattle.job.specs.Job.{Job, readJob}
 use Rattle.job.proofs.JobLaws.{JobFits}
-use Rattle.runs.specs.declared.Stretch.{Stretch}
 use Rattle.runs.specs.RunList.{envelopesOf}
 use Rattle.runs.specs.Stored.{StoredEnvelopes}
 use Rattle.runs.specs.Required.{requiredRuns}
@@ -18,7 +16,7 @@ use Rattle.planning.specs.Envelope.{sideEnvelopes, testHazards, acceptJo
 use Rattle.planning.specs.Required.{jobRuns}
 use Rattle.planning.specs.Reply.{testedEnvelopes, testedRuns, acceptedRuns, sideAnswer}
 use Rattle.planning.specs.declared.accept.SideEnvelopes.{SideEnvelopes}
-use Rattle.planning.proofs.EnvelopeLaws.{EnvelopesFit, tested-fit}
+use Rattle.planning.proofs.EnvelopeLaws.{tested-fit}
 
 -- The runs of a tested job are those of its envelopes.
 runs-tested : (j : Job) (side : ℕ) → testedRuns j side ≡ (testedEnvelopes j side >>= λ es. accepted (requiredRuns es (j .header .continuity)))

@@ -1,7 +1,8 @@
 -- Which traffic reaches a hazard, its envelope, and refusals 5 and 6.
 -- Assumes nothing.
-use Prim.Native.Nat.{ℕ, _+_, _-_, min}
-use mathlib.Core.Bool.{Bool, true, false, _&&_, _||_, not}
+use Prim.Native.Nat.{ℕ, _+_, _-_, min, _*_, _<_}
+use mathlib.Core.Path.{_≡_}
+use mathlib.Core.Bool.{Bool, true, _&&_, _||_, not}
 use mathlib.Core.List.{List, [], _∷_}
 use lib.Dec.{ltb, eqb}
 use Rattle.refusal.specs.Choice.{if_then_else_}
@@ -64,6 +65,19 @@ lengthening h z t =
 -- "Forward traffic approaches from lower stations, opposite from higher." The subtraction is exact where refusal 6 does not hold.
 unfoldable pub envelope : Header → Hazard → Stretch
 envelope h z = record { start = z .start - lengthening h z forward; end = z .end + lengthening h z opposite; level = z .level }
+
+-- A traffic's station upstream of a hazard, d whole millimetres before its end on that side.
+abbrev pub Upstream : Traffic → Hazard → (d t : ℕ) → Type 0
+Upstream forward z d t = t + d + 1 ≡ z .start
+Upstream opposite z d t = t ≡ z .end + d
+
+-- A distance below the published formula's length, multiplied out: no rounding and no division.
+abbrev pub BelowFormula : Header → Hazard → Traffic → (d : ℕ) → Type 0
+BelowFormula h z traffic d =
+    let L = runout h traffic in
+    let R = reachOf h z traffic in
+    let m = offsetOf h z traffic in
+    d * (h .across * L + h .along * R) < L * (h .along * R + h .across * h .straight - h .along * m)
 
 -- The envelopes of a side. "A hazard that nobody reaches has none."
 unfoldable pub envelopes : Header → (side : ℕ) → List Hazard → List Stretch

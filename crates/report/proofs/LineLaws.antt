@@ -16,7 +16,7 @@ use Rattle.runs.proofs.StoredLaws.{run, firstRuns, runs-more, behind}
 abbrev pub lineOf : List ℕ → Stretch → List ℕ
 lineOf word r = runLine word (r .start) (r .end) (r .level)
 
-lines-append : (word : List ℕ) (rs ss : List Stretch) → runLines word (rs ++ ss) ≡ runLines word rs ++ runLines word ss
+pub lines-append : (word : List ℕ) (rs ss : List Stretch) → runLines word (rs ++ ss) ≡ runLines word rs ++ runLines word ss
 unfolding runLines
 lines-append word [] ss = refl
 lines-append word (r ∷ rs) ss = rw (lines-append word rs ss) (sym (append-assoc (lineOf word r) (runLines word rs) (runLines word ss)))

@@ -1,6 +1,6 @@
 -- The report fits into 32,768 bytes, and what it is for the printed job.
 -- Assumes nothing.
-use Prim.Native.Nat.{ℕ, _+_, _-_, _*_, _≤_}
+use Prim.Native.Nat.{ℕ, _+_, _*_, _≤_}
 use native.Mathlib.Omega.{arith}
 use mathlib.Core.Path.{_≡_, refl}
 use mathlib.Core.Bool.{true}
@@ -11,7 +11,7 @@ use Rattle.refusal.specs.Answer.{Answer, accepted, refused}
 use Rattle.number.specs.Number.{writeIn, writeNumber, scan, readNumber, numberAt}
 use Rattle.approach.specs.Approach.{ceilDiv, approachLength}
 use Rattle.job.specs.Writing.{writeNumbers}
-use Rattle.job.specs.Job.{Job, headerRanges, hazardRanges, readFields, readHeader, readHazards, readJob}
+use Rattle.job.specs.Job.{Job, headerRanges, hazardRanges, readFields, readHeader, readHazards, readJob, readRest}
 use Rattle.runs.specs.declared.Stretch.{Stretch}
 use Rattle.runs.specs.Level.{filled, highest, requiredLevel}
 use Rattle.runs.specs.Required.{insertStation, endPoints, put, runsBetween, requiredRuns}
@@ -105,10 +105,5 @@ report-fits s = go (acceptJob s) refl
 -- The job on paper
 
 pub printed-report : reported (writeNumbers printedJob) ≡ printedText
-unfolding writeNumbers printedJob printedText someOf keep writeIn writeNumber scan readNumber numberAt ceilDiv approachLength headerRanges hazardRanges readFields readHeader readHazards readJob farther reachOf offsetOf reaches reached lengthening envelope envelopes testHazard testHazards acceptJob filled highest requiredLevel insertStation endPoints put runsBetween requiredRuns jobRuns digitsIn decimal fields line runLines covered runsReport reported
+unfolding writeNumbers printedJob printedText someOf keep writeIn writeNumber scan readNumber numberAt ceilDiv approachLength headerRanges hazardRanges readFields readHeader readHazards readRest readJob farther reachOf offsetOf reaches reached lengthening envelope envelopes testHazard testHazards acceptJob filled highest requiredLevel insertStation endPoints put runsBetween requiredRuns jobRuns digitsIn decimal fields line runLines covered runsReport reported
 printed-report = refl
-
--- No bytes at all.
-pub empty-report : reported [] ≡ refusedLine 1 0
-unfolding readNumber scan numberAt readFields readHeader readJob acceptJob reported
-empty-report = refl

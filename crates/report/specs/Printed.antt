@@ -1,7 +1,7 @@
 -- Document 01's job on paper: its numbers, and what they print.
 -- Assumes nothing.
 use Prim.Native.Nat.{ℕ}
-use mathlib.Core.List.{List, [], _∷_, _++_}
+use mathlib.Core.List.{List, [], _∷_}
 
 unfoldable pub printedJob : List ℕ
 printedJob =

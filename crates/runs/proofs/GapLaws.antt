@@ -2,18 +2,18 @@
 -- Assumes nothing.
 use Prim.Native.Nat.{ℕ, zero, suc, _+_, _-_, _≤_, _<_}
 use native.Mathlib.Omega.{arith}
-use mathlib.Core.Path.{_≡_, refl, sym, subst, _∙_}
-use mathlib.Core.Logic.{_⊎_, inl, inr, _↔_}
-use mathlib.Core.Bool.{Bool, true, false, _&&_, _||_, not, false≢true}
-use mathlib.Core.List.{List, [], _∷_, List·Memᴰ}
-use lib.Dec.{ltb, leb, eqb}
+use mathlib.Core.Path.{_≡_, subst}
+use mathlib.Core.Logic.{_⊎_, inl, inr}
+use mathlib.Core.Bool.{true, false}
+use mathlib.Core.List.{List, List·Memᴰ}
+use lib.Dec.{leb}
 use native.Mathlib.Decide.{decLe, decLt}
-use borrow.Author.Tests.{ltb-true, ltb-false, leb-true, leb-false, lt-ltb, le-leb}
-use Rattle.refusal.specs.Choice.{if_then_else_, someOf, keep}
+use borrow.Author.Tests.{ltb-true, leb-true, lt-ltb, le-leb}
+use Rattle.refusal.specs.Choice.{someOf}
 use Rattle.runs.specs.declared.Stretch.{Stretch}
-use Rattle.runs.specs.Level.{Covers, NoShortGap, Has, InSet, Gap, InGap, Filled, Highest, has, between, atLeast, filled, highest, requiredLevel}
-use Rattle.refusal.proofs.TestLaws.{and-left, and-right, and-intro, decided, not-both, Passing, any-elim, any-intro, keep-elim, keep-intro}
-use Rattle.runs.proofs.LevelLaws.{Joined, covered, bridged, Proper, Levelled, filled→joined, joined→filled, joined-lower, joined-more, level-top, level→joined, joined→level}
+use Rattle.runs.specs.Level.{Covers, NoShortGap, InSet, Gap, Filled, Highest, has, atLeast, requiredLevel}
+use Rattle.refusal.proofs.TestLaws.{and-left, and-right, and-intro, decided, not-both, any-elim, any-intro, keep-elim, keep-intro}
+use Rattle.runs.proofs.LevelLaws.{Joined, covered, bridged, Proper, Levelled, joined-more, level-top, level→joined, joined→level}
 
 -- A set of which it is decided what it has.
 module _ (S : ℕ → Type 0) (dec : (t : ℕ) → Dec (S t)) where

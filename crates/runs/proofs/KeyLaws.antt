@@ -1,13 +1,12 @@
 -- Keys of stored envelopes: what stands in the arrays, and that sorting the keys keeps the required runs.
 -- Assumes nothing.
-use Prim.Native.Nat.{ℕ, zero, suc, _+_, _-_, _/_, _%_, _≤_, _<_}
+use Prim.Native.Nat.{ℕ, zero, suc, _+_, _/_, _%_, _≤_, _<_}
 use native.Mathlib.Omega.{arith}
-use native.Mathlib.Nat.{le-of-suc-le-suc}
 use native.Mathlib.Decide.{decLt}
-use mathlib.Core.Path.{_≡_, refl, sym, ap, _∙_}
+use mathlib.Core.Path.{_≡_, sym, ap, _∙_}
 use mathlib.Core.Logic.{_⊎_, inl, inr}
-use mathlib.Core.List.{List, [], _∷_, List·Memᴰ, List·Memᴰ·head, List·Memᴰ·tail, List·Memᴰ·cases-cons, List·Memᴰ·not-nil, Memᴰ·cast}
-use lib.ListN.{length, getD, set, take}
+use mathlib.Core.List.{List, List·Memᴰ, List·Memᴰ·head, List·Memᴰ·tail, List·Memᴰ·cases-cons, List·Memᴰ·not-nil, Memᴰ·cast}
+use lib.ListN.{length, getD, set}
 use lib.Seq.{getD-set-same, getD-set-other, length-take-le}
 use Rattle.runs.specs.declared.Stretch.{Stretch}
 use Rattle.runs.specs.declared.Envelopes.{Envelopes}
@@ -22,30 +21,9 @@ use Rattle.runs.specs.Steps.{keyOf, envelopeOf, envelopesTo, Sweepable}
 use Rattle.runs.proofs.GapLaws.{required-more}
 use Rattle.runs.proofs.RunLaws.{stretch-path}
 use Rattle.runs.proofs.RequiredLaws.{RunsOf, required-runs, runs-of-unique}
-use Rattle.runs.proofs.PlaceLaws.{runs-length}
+use Rattle.runs.proofs.StoredLaws.{runs-length}
+use Rattle.runs.proofs.SortLaws.{placed, among}
 use Rattle.runs.proofs.SweptLaws.{few-runs}
-
--- Where a member of the first n entries stands.
-module _ {A : Type 0} where
-  record Placed (x : A) (n : ℕ) (l : List A) (d : A) : Type 0 where
-    at : ℕ
-    below : at < n
-    inside : at < length l
-    is : x ≡ getD l at d
-
-  placed : {x : A} (n : ℕ) (l : List A) (d : A) → List·Memᴰ x (take n l) → Placed x n l d
-  placed zero l d m = absurd (List·Memᴰ·not-nil m)
-  placed (suc n) [] d m = absurd (List·Memᴰ·not-nil m)
-  placed (suc n) (x ∷ xs) d (List·Memᴰ·head e) = record { at = 0; below = omega arith; inside = omega arith; is = e }
-  placed (suc n) (x ∷ xs) d (List·Memᴰ·tail m) =
-      let p = placed n xs d m in
-      record { at = suc (p .at); below = omega (arith, p .below); inside = omega (arith, p .inside); is = p .is }
-
-  among : (l : List A) (n i : ℕ) (d : A) → i < n → i < length l → List·Memᴰ (getD l i d) (take n l)
-  among l zero i d h k = absurd (omega arith)
-  among [] (suc n) i d h k = absurd (omega arith)
-  among (x ∷ xs) (suc n) zero d h k = List·Memᴰ·head refl
-  among (x ∷ xs) (suc n) (suc i) d h k = List·Memᴰ·tail (among xs n i d (le-of-suc-le-suc h) (le-of-suc-le-suc k))
 
 -- Lists with the same members have the same required runs.
 pub same-runs : (es fs : List Stretch) (G : ℕ) → AllSound es → AllSound fs → ((e : Stretch) → List·Memᴰ e es → List·Memᴰ e fs) → ((e : Stretch) → List·Memᴰ e fs → List·Memᴰ e es) → requiredRuns es G ≡ requiredRuns fs G

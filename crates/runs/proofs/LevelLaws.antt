@@ -1,16 +1,16 @@
 -- Laws of the required level: what is filled, the literal gaps, coverage, no short gap, leastness, growth with the hazards.
 -- Assumes nothing.
-use Prim.Native.Nat.{ℕ, zero, suc, _+_, _-_, _≤_, _<_}
+use Prim.Native.Nat.{ℕ, zero, suc, _+_, _≤_, _<_}
 use native.Mathlib.Omega.{arith}
-use mathlib.Core.Path.{_≡_, refl, sym, subst, _∙_}
-use mathlib.Core.Logic.{_⊎_, inl, inr, _↔_}
-use mathlib.Core.Bool.{Bool, true, false, _&&_, _||_, not, false≢true}
-use mathlib.Core.List.{List, [], _∷_, List·Memᴰ, List·Memᴰ·head, List·Memᴰ·tail, List·Memᴰ·cases-cons, List·Memᴰ·not-nil}
-use lib.Dec.{ltb, leb, eqb}
-use borrow.Author.Tests.{ltb-true, ltb-false, leb-true, leb-false, lt-ltb, le-leb}
-use Rattle.refusal.specs.Choice.{if_then_else_, someOf, keep}
+use mathlib.Core.Path.{_≡_, refl}
+use mathlib.Core.Logic.{_⊎_, inl, inr}
+use mathlib.Core.Bool.{Bool, true, false, _&&_}
+use mathlib.Core.List.{List, List·Memᴰ}
+use lib.Dec.{ltb, leb}
+use borrow.Author.Tests.{ltb-true, leb-true, leb-false, lt-ltb, le-leb}
+use Rattle.refusal.specs.Choice.{if_then_else_, someOf}
 use Rattle.runs.specs.declared.Stretch.{Stretch}
-use Rattle.runs.specs.Level.{Has, InSet, Gap, InGap, Filled, Highest, has, between, atLeast, filled, highest, requiredLevel}
+use Rattle.runs.specs.Level.{Has, has, between, atLeast, filled, highest, requiredLevel}
 use Rattle.refusal.proofs.TestLaws.{and-left, and-right, and-intro, or-cases, or-left, or-right, decided, not-both, Passing, any-elim, any-intro, keep-elim, keep-intro}
 
 -- t is in an envelope of level v or higher, or between two that are less than G apart.

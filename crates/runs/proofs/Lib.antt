@@ -1,6 +1,7 @@
 pub mod LevelLaws
 pub mod GapLaws
 pub mod RunLaws
+pub mod CountLaws
 pub mod RequiredLaws
 pub mod BreakLaws
 pub mod RoomLaws

@@ -17,6 +17,7 @@ use Rattle.runs.specs.declared.Stretch.{Stretch}
 use Rattle.runs.specs.RunList.{runsTo}
 use Rattle.runs.specs.Stand.{bit, raisedTop, Raised}
 use Rattle.runs.specs.Breaks.{Break, levelOf, breaksTo, cut, setFrom, runsBelow}
+use Rattle.runs.proofs.StoredLaws.{run, runs-length}
 
 module _ (starts levels : List ℕ) where
   pub breaks-last : (k : ℕ) → 0 < k → breaksTo starts levels k ≡ record { start = getD starts (k - 1) 0; level = getD levels (k - 1) 0 } ∷ breaksTo starts levels (k - 1)
@@ -82,22 +83,13 @@ module _ (starts levels : List ℕ) where
   set-push t v k count e n h l = rw (← e, ne-eqb _ _ n) (breaks-push k t v h l)
 
 -- The runs in arrays, while they are made from break points in arrays.
-pub runs-length : (starts ends levels : List ℕ) (k : ℕ) → length (runsTo starts ends levels k) ≡ k
-unfolding runsTo
-runs-length starts ends levels zero = refl
-runs-length starts ends levels (suc k) =
-    let r : Stretch = record { start = getD starts k 0; end = getD ends k 0; level = getD levels k 0 } in
-    let a = length-append (runsTo starts ends levels k) (r ∷ []) in
-    let b = runs-length starts ends levels k in
-    omega arith
-
 runs-set : (starts ends levels : List ℕ) (k s e v n : ℕ) → n ≤ k → runsTo (set starts k s) (set ends k e) (set levels k v) n ≡ runsTo starts ends levels n
 unfolding runsTo
 runs-set starts ends levels k s e v zero h = refl
 runs-set starts ends levels k s e v (suc n) h =
     let ne : n ≢ k = λ z. omega arith in
     rw (getD-set-other starts k n s 0 ne, getD-set-other ends k n e 0 ne, getD-set-other levels k n v 0 ne)
-    (ap (λ (r : List Stretch). r ++ record { start = getD starts n 0; end = getD ends n 0; level = getD levels n 0 } ∷ []) (runs-set starts ends levels k s e v n (omega arith)))
+    (ap (λ (r : List Stretch). r ++ run starts ends levels n ∷ []) (runs-set starts ends levels k s e v n (omega arith)))
 
 runs-push : (starts ends levels : List ℕ) (k s e v : ℕ) → k < length starts → k < length ends → k < length levels
     → runsTo (set starts k s) (set ends k e) (set levels k v) (k + 1) ≡ runsTo starts ends levels k ++ record { start = s; end = e; level = v } ∷ []

@@ -1,22 +1,22 @@
 -- The required runs: a run list that shows the required level at every millimetre, the only one; its runs are the longest stretches of one level.
 -- Assumes nothing.
-use Prim.Native.Nat.{ℕ, zero, suc, _+_, _-_, _*_, _≤_, _<_}
+use Prim.Native.Nat.{ℕ, suc, _+_, _-_, _≤_, _<_}
 use native.Mathlib.Omega.{arith}
-use native.Mathlib.Decide.{decLe, decLt, ℕ-discrete}
-use mathlib.Core.Path.{_≡_, refl, sym, subst, ap, _∙_}
-use mathlib.Core.Logic.{_⊎_, inl, inr, _↔_, _≢_}
-use mathlib.Core.Bool.{Bool, true, false, _&&_, _||_, not, false≢true}
+use native.Mathlib.Decide.{decLe, decLt}
+use mathlib.Core.Path.{_≡_, refl, sym, subst, _∙_}
+use mathlib.Core.Logic.{_⊎_, inl, inr, _≢_}
+use mathlib.Core.Bool.{Bool, true, false, _&&_}
 use mathlib.Core.List.{List, [], _∷_, List·Memᴰ, List·Memᴰ·head, List·Memᴰ·tail, List·Memᴰ·cases-cons, List·Memᴰ·not-nil}
 use lib.ListN.{length}
-use lib.Dec.{ltb, leb, eqb}
-use borrow.Author.Tests.{ltb-true, ltb-false, leb-true, leb-false, lt-ltb, le-ltb, lt-leb, le-leb, eqb-true, eqb-false, eq-eqb, ne-eqb, not-true}
+use lib.Dec.{ltb, leb}
+use borrow.Author.Tests.{ltb-true, ltb-false, leb-true, leb-false, le-leb}
 use Rattle.refusal.specs.Choice.{if_then_else_}
 use Rattle.runs.specs.declared.Stretch.{Stretch}
-use Rattle.runs.specs.Level.{Has, Gap, requiredLevel}
+use Rattle.runs.specs.Level.{Has, requiredLevel}
 use Rattle.runs.specs.RunList.{IsRun}
-use Rattle.runs.specs.Required.{insertStation, endPoints, put, runsBetween, requiredRuns}
-use Rattle.runs.specs.RunList.{lastStation, mostRuns, risingRuns, isRunList, shownLevel}
-use Rattle.refusal.proofs.TestLaws.{and-left, and-right, and-intro, decided, not-both}
+use Rattle.runs.specs.Required.{insertStation, endPoints, runsBetween, requiredRuns}
+use Rattle.runs.specs.RunList.{lastStation, mostRuns, isRunList, shownLevel}
+use Rattle.refusal.proofs.TestLaws.{and-intro}
 use Rattle.runs.proofs.LevelLaws.{Joined, covered, bridged, Proper, EndsBy, level-top, level→joined, joined→level}
 use Rattle.runs.proofs.RunLaws.{Next, Rising, rising, rising-test, rising-from, not-shown, stretch-path, Steps, runs-rising, runs-show, runs-count, runs-unique, shown-in, shown-before, shown-after, shown-zero, shown-nothing}
 
@@ -224,6 +224,14 @@ pub record RunsOf (f : ℕ → ℕ) (rs : List Stretch) : Type 0 where
   pub rising : Rising 0 0 rs
   pub shows : (t : ℕ) → shownLevel rs t ≡ f t
 
+-- The level's steps between the points, from the first on.
+point-steps : (es : List Stretch) (G p : ℕ) (ps : List ℕ) → endPoints es ≡ p ∷ ps → ((x : ℕ) → List·Memᴰ x (p ∷ ps) → x ≤ lastStation) → Sorted (p ∷ ps) → Steps (requiredLevel es G) (p ∷ ps)
+point-steps es G p ps e b s = steps es G (λ x m. b x (rw e at m)) p ps s (λ x m. b x (List·Memᴰ·tail m)) (λ x m. pick x (List·Memᴰ·cases-cons (rw e at m)))
+  where
+    pick : (x : ℕ) → (x ≡ p) ⊎ List·Memᴰ x ps → (x ≤ p) ⊎ List·Memᴰ x ps
+    pick x (inl q) = inl (omega arith)
+    pick x (inr k) = inr k
+
 runs-of-points : (es : List Stretch) (G : ℕ) (ps : List ℕ) → endPoints es ≡ ps → ((x : ℕ) → List·Memᴰ x ps → x ≤ lastStation) → Sorted ps → RunsOf (requiredLevel es G) (runsBetween (requiredLevel es G) ps)
 unfolding runsBetween
 runs-of-points es G [] e b s = record {
@@ -232,15 +240,8 @@ runs-of-points es G [] e b s = record {
 }
 runs-of-points es G (p ∷ ps) e b s = record { rising = fst; shows = snd }
   where
-    c : (x : ℕ) → List·Memᴰ x (endPoints es) → (x ≤ p) ⊎ List·Memᴰ x ps
-    c x m = pick (List·Memᴰ·cases-cons (rw e at m))
-      where
-        pick : (x ≡ p) ⊎ List·Memᴰ x ps → (x ≤ p) ⊎ List·Memᴰ x ps
-        pick (inl q) = inl (omega arith)
-        pick (inr k) = inr k
-
     st : Steps (requiredLevel es G) (p ∷ ps)
-    st = steps es G (λ x m. b x (rw e at m)) p ps s (λ x m. b x (List·Memᴰ·tail m)) c
+    st = point-steps es G p ps e b s
 
     up : Rising p 0 (runsBetween (requiredLevel es G) (p ∷ ps))
     up = runs-rising (requiredLevel es G) (level-top es G) p ps st
@@ -262,14 +263,7 @@ runs-of-points es G (p ∷ ps) e b s = record { rising = fst; shows = snd }
 count-points : (es : List Stretch) (G : ℕ) (ps : List ℕ) → endPoints es ≡ ps → ((x : ℕ) → List·Memᴰ x ps → x ≤ lastStation) → Sorted ps → length (runsBetween (requiredLevel es G) ps) ≤ length ps - 1
 unfolding runsBetween
 count-points es G [] e b s = omega arith
-count-points es G (p ∷ ps) e b s = omega (arith, runs-count (requiredLevel es G) (level-top es G) p ps (steps es G (λ x m. b x (rw e at m)) p ps s (λ x m. b x (List·Memᴰ·tail m)) c))
-  where
-    c : (x : ℕ) → List·Memᴰ x (endPoints es) → (x ≤ p) ⊎ List·Memᴰ x ps
-    c x m = pick (List·Memᴰ·cases-cons (rw e at m))
-      where
-        pick : (x ≡ p) ⊎ List·Memᴰ x ps → (x ≤ p) ⊎ List·Memᴰ x ps
-        pick (inl q) = inl (omega arith)
-        pick (inr k) = inr k
+count-points es G (p ∷ ps) e b s = omega (arith, runs-count (requiredLevel es G) (level-top es G) p ps (point-steps es G p ps e b s))
 
 module _ (es : List Stretch) (G : ℕ) (proper : Proper es) (by : EndsBy lastStation es) where
   -- The required runs show the required level at every millimetre.

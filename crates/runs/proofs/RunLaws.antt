@@ -1,22 +1,21 @@
 -- Laws of run lists: rising runs as facts, two rising lists that show one level everywhere are equal, the required runs show the required level.
 -- Assumes nothing.
-use Prim.Native.Nat.{ℕ, zero, suc, _+_, _-_, _*_, _≤_, _<_}
+use Prim.Native.Nat.{ℕ, suc, _≤_, _<_}
 use native.Mathlib.Omega.{arith}
-use native.Mathlib.Decide.{decLe, decLt, ℕ-discrete}
+use native.Mathlib.Decide.{decLe, decLt}
 use mathlib.Core.Path.{_≡_, refl, sym, subst, ap, _∙_}
-use mathlib.Core.Logic.{_⊎_, inl, inr, _↔_, _≢_}
-use mathlib.Core.Bool.{Bool, true, false, _&&_, _||_, not, false≢true}
-use mathlib.Core.List.{List, [], _∷_, List·Memᴰ, List·Memᴰ·head, List·Memᴰ·tail, List·Memᴰ·cases-cons, List·Memᴰ·not-nil}
+use mathlib.Core.Logic.{_⊎_, inl, inr, _≢_}
+use mathlib.Core.Bool.{Bool, true, false, _&&_, not}
+use mathlib.Core.List.{List, [], _∷_, _++_}
 use lib.ListN.{length}
 use lib.Dec.{ltb, leb, eqb}
-use borrow.Author.Tests.{ltb-true, ltb-false, leb-true, leb-false, lt-ltb, le-ltb, lt-leb, le-leb, eqb-true, eqb-false, eq-eqb, ne-eqb, not-true}
+use borrow.Author.Tests.{ltb-true, leb-true, lt-ltb, le-ltb, lt-leb, le-leb, eqb-true, eq-eqb, not-true}
 use Rattle.refusal.specs.Choice.{if_then_else_}
 use Rattle.runs.specs.declared.Stretch.{Stretch}
-use Rattle.runs.specs.Level.{Has, Gap, requiredLevel}
+use Rattle.runs.specs.Level.{Has}
 use Rattle.runs.specs.Required.{put, runsBetween}
-use Rattle.runs.specs.RunList.{lastStation, mostRuns, mayFollow, risingRuns, isRunList, shownLevel}
+use Rattle.runs.specs.RunList.{lastStation, mayFollow, risingRuns, shownLevel}
 use Rattle.refusal.proofs.TestLaws.{and-left, and-right, and-intro, decided, not-both}
-use Rattle.runs.proofs.LevelLaws.{Joined, covered, bridged, Proper, level-top, level→joined, joined→level}
 
 -- A run that may follow one that ended at e with level v.
 pub record Next (e v : ℕ) (r : Stretch) : Type 0 where
@@ -100,6 +99,32 @@ shown-zero e v [] h t l = refl
 shown-zero e v (r ∷ rs) h t l =
     let n = h .0 in
     shown-before r rs t (omega arith) ∙ shown-zero (r .end) (r .level) rs (h .1) t (omega arith)
+
+-- A level above 0 is shown by a run that has the millimetre.
+pub record ShownRun (rs : List Stretch) (t : ℕ) : Type 0 where
+  pub run : Stretch
+  pub before : List Stretch
+  pub after : List Stretch
+  pub split : rs ≡ before ++ run ∷ after
+  pub has : Has run t
+  pub level : shownLevel rs t ≡ run .level
+
+pub shown-run : (rs : List Stretch) (t : ℕ) → 0 < shownLevel rs t → ShownRun rs t
+shown-run [] t h = absurd (omega (arith, shown-nothing t))
+shown-run (r ∷ rs) t h = go (decLt t (r .start)) (decLt t (r .end)) (shown-run rs t)
+  where
+    Rec : Type 0
+    Rec = 0 < shownLevel rs t → ShownRun rs t
+
+    later : shownLevel (r ∷ rs) t ≡ shownLevel rs t → Rec → ShownRun (r ∷ rs) t
+    later e rec =
+        let w = rec (omega arith) in
+        record { run = w .run; before = r ∷ w .before; after = w .after; split = ap (λ (l : List Stretch). r ∷ l) (w .split); has = w .has; level = e ∙ w .level }
+
+    go : Dec (t < r .start) → Dec (t < r .end) → Rec → ShownRun (r ∷ rs) t
+    go (yes a) b rec = later (shown-before r rs t a) rec
+    go (no a) (yes b) rec = record { run = r; before = []; after = rs; split = refl; has = (omega arith, b); level = shown-in r rs t (omega arith) b }
+    go (no a) (no b) rec = later (shown-after r rs t (omega arith)) rec
 
 -- Just after a run its level is not shown.
 pub not-shown : (e v : ℕ) (rs : List Stretch) → Rising e v rs → 1 ≤ v → shownLevel rs e ≢ v

@@ -1,11 +1,10 @@
 -- The required level of a list of envelopes under a continuity limit.
 -- Assumes nothing.
 use Prim.Native.Nat.{ℕ, zero, suc, _+_, _-_, _≤_, _<_}
-use mathlib.Core.Path.{_≡_}
 use mathlib.Core.Logic.{_⊎_}
-use mathlib.Core.Bool.{Bool, true, false, _&&_, _||_}
-use mathlib.Core.List.{List, [], _∷_, List·Memᴰ}
-use lib.Dec.{ltb, leb, eqb}
+use mathlib.Core.Bool.{Bool, _&&_, _||_}
+use mathlib.Core.List.{List, List·Memᴰ}
+use lib.Dec.{ltb, leb}
 use Rattle.refusal.specs.Choice.{if_then_else_, someOf, keep}
 use Rattle.runs.specs.declared.Stretch.{Stretch}
 

@@ -1,6 +1,7 @@
 -- The paper's definitions.
 pub mod Level
 pub mod RunList
+pub mod Count
 pub mod Required
 -- What the builder is given and gives.
 pub mod Stored

@@ -11,7 +11,7 @@ use Rattle.refusal.specs.Choice.{if_then_else_}
 use Rattle.runs.specs.declared.Stretch.{Stretch}
 use Rattle.runs.specs.declared.RunList.{RunList}
 use Rattle.runs.specs.declared.Envelopes.{Envelopes}
-use Rattle.runs.specs.Level.{Has}
+use Rattle.runs.specs.Level.{Has, has}
 
 -- "A run is a longest stretch of one required level above 0."
 pub record IsRun (f : ℕ → ℕ) (r : Stretch) : Type 0 where
@@ -46,7 +46,7 @@ isRunList rs = leb (length rs) mostRuns && risingRuns 0 0 rs
 -- "At t a schedule shows the level of the run that has t, in the run list whose writing it is, else 0."
 unfoldable pub shownLevel : List Stretch → (t : ℕ) → ℕ
 shownLevel [] t = 0
-shownLevel (r ∷ rs) t = if leb (r .start) t && ltb t (r .end) then r .level else shownLevel rs t
+shownLevel (r ∷ rs) t = if has r t then r .level else shownLevel rs t
 
 -- Where the last of the runs ends; e where there is none.
 abbrev pub lastEnd : (e : ℕ) → List Stretch → ℕ

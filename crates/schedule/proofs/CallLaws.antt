@@ -1,33 +1,30 @@
 -- Laws of the calls: the output memory, the record that lookup gives, a quantity as the sum of the runs' overlaps.
 -- Assumes nothing.
-use Prim.Native.Nat.{ℕ, zero, suc, _+_, _-_, _*_, _≤_, _<_, min, max}
+use Prim.Native.Nat.{ℕ, _+_, _-_, _≤_, _<_}
 use native.Mathlib.Omega.{arith}
 use native.Mathlib.Nat.{zero-add}
-use native.Mathlib.Decide.{decLe, decLt}
-use mathlib.Core.Path.{_≡_, refl, sym, subst, ap, _∙_, fun-ext}
-use mathlib.Core.Logic.{_⊎_, inl, inr, _≢_}
-use mathlib.Core.Bool.{Bool, true, false, _&&_, _||_, not, false≢true}
-use mathlib.Core.List.{List, [], _∷_, _++_, append-assoc, List·Memᴰ, List·Memᴰ·head, List·Memᴰ·tail}
+use mathlib.Core.Path.{_≡_, refl, sym, subst, ap, _∙_}
+use mathlib.Core.Bool.{Bool, true, false, _&&_}
+use mathlib.Core.List.{List, [], _∷_, _++_, append-assoc, List·Memᴰ·head, List·Memᴰ·tail}
 use lib.ListN.{length, take, drop, length-append, length-drop}
 use lib.Seq.{drop-drop, drop-append-seam, take-append-seam}
 use lib.Dec.{ltb, leb, eqb}
-use borrow.Author.Tests.{ltb-true, ltb-false, leb-true, leb-false, lt-ltb, le-ltb, lt-leb, le-leb, eqb-true, eqb-false, eq-eqb, ne-eqb}
+use borrow.Author.Tests.{ltb-true, ltb-false, leb-true, leb-false, lt-leb, le-leb, ne-eqb}
 use Rattle.refusal.specs.Choice.{if_then_else_}
-use Rattle.refusal.specs.Answer.{Answer, accepted, refused, _>>=_, unless-refuse}
-use Rattle.job.specs.Job.{Job}
+use Rattle.refusal.specs.Answer.{Answer, accepted, refused, unless-refuse}
 use Rattle.number.specs.Number.{placed}
 use Rattle.number.proofs.NumberLaws.{placed-fits}
 use Rattle.runs.specs.declared.Stretch.{Stretch}
 use Rattle.planning.specs.Envelope.{acceptJob}
-use Rattle.runs.specs.Level.{Has}
-use Rattle.runs.specs.RunList.{shownLevel, isRunList}
-use Rattle.schedule.specs.Schedule.{writeRecord, writeRecords, writeSchedule, readSchedule}
-use Rattle.schedule.specs.Walk.{overlap, overlaps}
+use Rattle.runs.specs.RunList.{shownLevel}
+use Rattle.runs.specs.Count.{countFrom}
+use Rattle.schedule.specs.Schedule.{writeRecord, writeRecords, writeSchedule}
+use Rattle.schedule.specs.Walk.{overlap, overlapAt, overlaps}
 use Rattle.planning.specs.Required.{jobRuns}
-use Rattle.schedule.specs.Calls.{fitted, plan, outputAfter, countFrom, millimetres, quantity, Part, Found, found, nowhere, findRecord, partBytes, FoundRun}
-use Rattle.runs.proofs.RunLaws.{Next, Rising, shown-in, shown-before, shown-after, shown-zero, shown-nothing}
-use Rattle.refusal.proofs.TestLaws.{and-left, and-right, and-intro, decided, not-both}
-use Rattle.refusal.proofs.AnswerLaws.{Bound, bound, tested}
+use Rattle.schedule.specs.Calls.{fitted, plan, outputAfter, millimetres, Part, found, nowhere, findRecord, FoundRun}
+use Rattle.runs.proofs.RunLaws.{Rising, shown-in, shown-before, shown-after, shown-nothing}
+use Rattle.runs.proofs.CountLaws.{count-none, count-run}
+use Rattle.refusal.proofs.AnswerLaws.{bound, tested}
 
 -- What fits is written, and what does not is refused with the bytes needed.
 pub fitted-fits : (w : List ℕ) (room : ℕ) → length w ≤ room → fitted w room ≡ accepted w
@@ -120,84 +117,13 @@ find-nowhere e i (r ∷ rs) t q = go (leb (r .start) t && ltb t (r .end)) q (fin
     go true c rec = let z : _≡_ {A = ℕ} 0 1 = cc in absurd (omega arith)
     go false c rec = rec c
 
-count-none : (f : ℕ → Bool) → ((t : ℕ) → f t ≡ false) → (p n : ℕ) → countFrom f p n ≡ 0
-unfolding countFrom
-count-none f h p zero = refl
-count-none f h p (suc n) = rw (h p) (count-none f h (suc p) n)
-
--- Two tests that are never both true: their counts add up.
-count-or : (f g k : ℕ → Bool) → ((t : ℕ) → k t ≡ (f t || g t)) → ((t : ℕ) → f t ≡ true → g t ≡ false) → (p n : ℕ) → countFrom k p n ≡ countFrom f p n + countFrom g p n
-unfolding countFrom
-count-or f g k h d p zero = omega arith
-count-or f g k h d p (suc n) = rw (h p) (go (f p) refl (g p) refl (count-or f g k h d (suc p) n))
-  where
-    go : (a : Bool) → f p ≡ a → (b : Bool) → g p ≡ b → countFrom k (suc p) n ≡ countFrom f (suc p) n + countFrom g (suc p) n
-        → (if a || b then suc (countFrom k (suc p) n) else countFrom k (suc p) n) ≡ (if a then suc (countFrom f (suc p) n) else countFrom f (suc p) n) + (if b then suc (countFrom g (suc p) n) else countFrom g (suc p) n)
-    go true x true y r = absurd (not-both y (d p x))
-    go true x false y r = omega arith
-    go false x true y r = omega arith
-    go false x false y r = r
-
--- The millimetres of one stretch.
-count-stretch : (r : Stretch) → r .start ≤ r .end → (p n : ℕ) → countFrom (λ (t : ℕ). leb (r .start) t && ltb t (r .end)) p n ≡ overlap r p (p + n)
-unfolding countFrom overlap
-count-stretch r h p zero = omega arith
-count-stretch r h p (suc n) = go (leb (r .start) p) refl (ltb p (r .end)) refl (count-stretch r h (suc p) n)
-  where
-    go : (a : Bool) → leb (r .start) p ≡ a → (b : Bool) → ltb p (r .end) ≡ b → countFrom (λ (t : ℕ). leb (r .start) t && ltb t (r .end)) (suc p) n ≡ min (suc p + n) (r .end) - max (suc p) (r .start)
-        → (if a && b then suc (countFrom (λ (t : ℕ). leb (r .start) t && ltb t (r .end)) (suc p) n) else countFrom (λ (t : ℕ). leb (r .start) t && ltb t (r .end)) (suc p) n) ≡ min (p + suc n) (r .end) - max p (r .start)
-    go true x true y i = omega (arith, leb-true (r .start) p x, ltb-true p (r .end) y)
-    go true x false y i = omega (arith, leb-true (r .start) p x, ltb-false p (r .end) y)
-    go false x b y i = omega (arith, leb-false (r .start) p x)
-
 -- A quantity is the sum of the overlaps of the runs of that level.
 pub quantity-overlaps : (e u : ℕ) (rs : List Stretch) → Rising e u rs → (v : ℕ) → 1 ≤ v → (p n : ℕ) → countFrom (λ (t : ℕ). eqb (shownLevel rs t) v) p n ≡ overlaps rs v p (p + n)
-unfolding overlaps
+unfolding overlap overlaps
 quantity-overlaps e u [] up v h p n = count-none (λ (t : ℕ). eqb (shownLevel [] t) v) (λ t. ne-eqb (shownLevel [] t) v (λ q. absurd (omega (arith, shown-nothing t)))) p n
-quantity-overlaps e u (r ∷ rs) up v h p n = go (eqb (r .level) v) refl (quantity-overlaps (r .end) (r .level) rs (up .1) v h p n)
-  where
-    has : ℕ → Bool
-    has t = leb (r .start) t && ltb t (r .end)
-
-    here : ℕ → Bool
-    here t = eqb (shownLevel (r ∷ rs) t) v
-
-    rest : ℕ → Bool
-    rest t = eqb (shownLevel rs t) v
-
-    -- in the first run the others show nothing
-    alone : (t : ℕ) → has t ≡ true → rest t ≡ false
-    alone t q = ne-eqb (shownLevel rs t) v (λ z. absurd (omega (arith, shown-zero (r .end) (r .level) rs (up .1) t (ltb-true t (r .end) (and-right (leb (r .start) t) _ q)))))
-
-    inside : (t : ℕ) → has t ≡ true → shownLevel (r ∷ rs) t ≡ r .level
-    inside t q = shown-in r rs t (leb-true (r .start) t (and-left _ (ltb t (r .end)) q)) (ltb-true t (r .end) (and-right (leb (r .start) t) _ q))
-
-    outside : (t : ℕ) → has t ≡ false → shownLevel (r ∷ rs) t ≡ shownLevel rs t
-    outside t q = pick (decided (leb (r .start) t)) (decided (ltb t (r .end)))
-      where
-        pick : (leb (r .start) t ≡ true) ⊎ (leb (r .start) t ≡ false) → (ltb t (r .end) ≡ true) ⊎ (ltb t (r .end) ≡ false) → shownLevel (r ∷ rs) t ≡ shownLevel rs t
-        pick (inl a) (inl b) = absurd (not-both (and-intro a b) q)
-        pick (inl a) (inr b) = shown-after r rs t (ltb-false _ _ b)
-        pick (inr a) b = shown-before r rs t (leb-false _ _ a)
-
-    go : (b : Bool) → eqb (r .level) v ≡ b → countFrom rest p n ≡ overlaps rs v p (p + n) → countFrom here p n ≡ (if b then overlap r p (p + n) + overlaps rs v p (p + n) else overlaps rs v p (p + n))
-    go true q i =
-        count-or has rest here split alone p n ∙ (let a = count-stretch r (omega (arith, up .0 .long)) p n in omega arith)
-      where
-        split : (t : ℕ) → here t ≡ (has t || rest t)
-        split t = pick (has t) refl
-          where
-            pick : (b : Bool) → has t ≡ b → here t ≡ (b || rest t)
-            pick true a = rw (inside t a) q
-            pick false a = rw (outside t a) refl
-    go false q i = ap (λ (f : ℕ → Bool). countFrom f p n) (fun-ext same) ∙ i
-      where
-        same : (t : ℕ) → here t ≡ rest t
-        same t = pick (has t) refl
-          where
-            pick : (b : Bool) → has t ≡ b → here t ≡ rest t
-            pick true a = rw (inside t a) (q ∙ sym (alone t a))
-            pick false a = rw (outside t a) refl
+quantity-overlaps e u (r ∷ rs) up v h p n =
+    count-run e u r rs up (λ x. eqb x v) (ne-eqb 0 v (λ q. omega arith)) p n
+    ∙ ap (λ (m : ℕ). overlapAt r v p (p + n) + m) (quantity-overlaps (r .end) (r .level) rs (up .1) v h p n)
 
 pub millimetres-overlaps : (rs : List Stretch) → Rising 0 0 rs → (v p q : ℕ) → 1 ≤ v → p ≤ q → millimetres (shownLevel rs) v p q ≡ overlaps rs v p q
 unfolding millimetres

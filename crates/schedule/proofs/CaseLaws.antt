@@ -6,7 +6,7 @@ use Rattle.refusal.specs.Choice.{someOf, keep}
 use Rattle.number.specs.Number.{writeIn, writeNumber, scan, readNumber, numberAt}
 use Rattle.approach.specs.Approach.{ceilDiv, approachLength}
 use Rattle.job.specs.Writing.{writeNumbers}
-use Rattle.job.specs.Job.{headerRanges, hazardRanges, readFields, readHeader, readHazards, readJob}
+use Rattle.job.specs.Job.{headerRanges, hazardRanges, readFields, readHeader, readHazards, readJob, readRest}
 use Rattle.planning.specs.Envelope.{farther, reachOf, offsetOf, reaches, reached, lengthening, envelope, envelopes, testHazard, testHazards, acceptJob}
 use Rattle.runs.specs.Level.{filled, highest, requiredLevel}
 use Rattle.runs.specs.Required.{insertStation, endPoints, put, runsBetween, requiredRuns}
@@ -17,7 +17,7 @@ use Rattle.schedule.specs.Cases.{header, hazard, run, cases, planned, wr
 
 -- One theorem over the list.
 pub cases-hold : map planned cases ≡ map written cases
-unfolding header hazard cases writeNumbers planned written someOf keep writeIn writeNumber scan readNumber numberAt ceilDiv approachLength headerRanges hazardRanges readFields readHeader readHazards readJob farther reachOf offsetOf reaches reached lengthening envelope envelopes testHazard testHazards acceptJob filled highest requiredLevel insertStation endPoints put runsBetween requiredRuns writeRecord writeRecords writeSchedule jobRuns fitted plan
+unfolding header hazard cases writeNumbers planned written someOf keep writeIn writeNumber scan readNumber numberAt ceilDiv approachLength headerRanges hazardRanges readFields readHeader readHazards readRest readJob farther reachOf offsetOf reaches reached lengthening envelope envelopes testHazard testHazards acceptJob filled highest requiredLevel insertStation endPoints put runsBetween requiredRuns writeRecord writeRecords writeSchedule jobRuns fitted plan
 cases-hold = refl
 
 -- The printed schedule of K1.

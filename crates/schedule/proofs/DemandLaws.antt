@@ -1,39 +1,37 @@
 -- The three demands, proved of the definitions.
 -- Assumes nothing.
-use Prim.Native.Nat.{ℕ, zero, suc, _+_, _-_, _≤_, _<_}
+use Prim.Native.Nat.{ℕ, _+_, _-_, _≤_}
 use native.Mathlib.Omega.{arith}
 use mathlib.Core.Path.{_≡_, refl, sym, subst, ap, _∙_, fun-ext}
-use mathlib.Core.Logic.{_⊎_, inl, inr, _↔_, _≢_}
-use mathlib.Core.Bool.{Bool, true, false}
+use mathlib.Core.Bool.{Bool, true}
 use mathlib.Core.List.{List, [], _∷_, _++_, append-nil, List·Memᴰ}
-use lib.ListN.{length, take, drop}
+use lib.ListN.{length, drop}
 use lib.Seq.{take-append-seam, drop-append-seam}
-use lib.Dec.{ltb, leb, eqb}
+use lib.Dec.{leb, eqb}
 use borrow.Author.Tests.{le-leb, leb-true}
-use Rattle.refusal.specs.Choice.{if_then_else_}
-use Rattle.refusal.specs.Answer.{Answer, accepted, refused, _>>=_, unless-refuse}
+use Rattle.refusal.specs.Answer.{accepted, refused, unless-refuse}
 use Rattle.job.specs.declared.Header.{Header}
 use Rattle.job.specs.declared.Hazard.{Hazard}
 use Rattle.job.specs.Job.{Job}
 use Rattle.runs.specs.declared.Stretch.{Stretch}
-use Rattle.planning.specs.Envelope.{farther, reachOf, offsetOf, reaches, lengthening, acceptJob, reached, envelope, envelopes, sideEnvelopes}
-use Rattle.runs.specs.Level.{Covers, NoShortGap, Has, Gap, requiredLevel}
-use Rattle.runs.specs.Required.{requiredRuns}
-use Rattle.runs.specs.RunList.{shownLevel, isRunList}
+use Rattle.planning.specs.Envelope.{farther, reachOf, offsetOf, reaches, lengthening, acceptJob, reached, envelope, sideEnvelopes}
+use Rattle.runs.specs.Level.{Covers, NoShortGap, Has, requiredLevel}
+use Rattle.runs.specs.RunList.{shownLevel}
+use Rattle.runs.specs.Count.{countFrom}
+use Rattle.runs.proofs.CountLaws.{count-add}
 use Rattle.schedule.specs.Schedule.{writeRecords, writeSchedule, readSchedule}
 use Rattle.number.specs.Number.{writeNumber}
 use Rattle.schedule.proofs.CallLaws.{find-found, find-nowhere, output-length}
 use Rattle.number.proofs.NumberLaws.{after-number}
 use Rattle.planning.specs.Required.{jobLevel, jobRuns}
-use Rattle.schedule.specs.Calls.{FoundRun, outputAfter, Part, Found, found, nowhere, findRecord, asked, lookup, fitted, plan, countFrom, millimetres, quantity}
+use Rattle.schedule.specs.Calls.{Found, found, nowhere, findRecord, placeIn, asked, lookup, fitted, plan, millimetres, quantity}
 use Rattle.runs.proofs.GapLaws.{required-covers, required-no-short-gap, required-least, required-is-highest, required-more}
-use Rattle.runs.proofs.RequiredLaws.{RunsOf, required-runs, required-run-list, runs-of-unique, member→run, run→member}
-use Rattle.refusal.proofs.AnswerLaws.{Bound, bound, tested}
-use Rattle.schedule.proofs.ScheduleLaws.{read-schedule, write-injective}
+use Rattle.runs.proofs.RequiredLaws.{runs-of-unique, member→run, run→member}
+use Rattle.refusal.proofs.AnswerLaws.{bound, tested}
+use Rattle.schedule.proofs.ScheduleLaws.{read-schedule}
 use Rattle.planning.proofs.JobRunLaws.{job-runs, job-run-list}
-use Rattle.planning.proofs.EnvelopeLaws.{AcceptedFits, accepted-fits, from-hazard, to-envelope, side-proper, side-levelled, side-ends, side-count}
-use Rattle.refusal.proofs.TestLaws.{and-intro}
-use Rattle.schedule.specs.Demands.{Accepted, Planned, levelIn, scheduleLevel, CoversHazards, LeastCovering, Demand2, OutputKept, Demand1, ShowsLevel, Looked, Demand2-lookup, WritesRuns, Demand3-writing, Demand3-planned, Demand3-equal, Alike, Demand3-growth, RisingStations, lastOf, lotsTotal, Demand3-quantities}
+use Rattle.planning.proofs.EnvelopeLaws.{AcceptedFits, accepted-fits, from-hazard, to-envelope, side-proper, side-levelled}
+use Rattle.schedule.specs.Demands.{Accepted, Planned, scheduleLevel, CoversHazards, LeastCovering, Demand2, Demand1, ShowsLevel, Demand2-lookup, Demand3-writing, Demand3-planned, Demand3-equal, Alike, Demand3-growth, RisingStations, lastOf, lotsTotal, Demand3-quantities}
 
 -- The planned schedule is the writing of the side's runs.
 planned-is : (s : List ℕ) (j : Job) (side room : ℕ) → Accepted s j → side ≤ 1 → length (writeSchedule (jobRuns j side)) ≤ room → plan s side room ≡ accepted (writeSchedule (jobRuns j side))
@@ -188,17 +186,6 @@ demand3-growth s₁ s₂ j₁ j₂ side w₁ w₂ a₁ a₂ h p₁ p₂ alike mo
     grows : requiredLevel (sideEnvelopes j₁ side) (j₂ .header .continuity) t ≤ requiredLevel (sideEnvelopes j₂ side) (j₂ .header .continuity) t
     grows = required-more (sideEnvelopes j₁ side) (sideEnvelopes j₂ side) (j₂ .header .continuity) t sub
 
--- Counts add up.
-count-add : (f : ℕ → Bool) (p n m : ℕ) → countFrom f p (n + m) ≡ countFrom f p n + countFrom f (p + n) m
-unfolding countFrom
-count-add f p zero m = rw (let a : 0 + m ≡ m = omega arith in a, let b : p + 0 ≡ p = omega arith in b) (let c : countFrom f p m ≡ 0 + countFrom f p m = omega arith in c)
-count-add f p (suc n) m = rw (let a : suc n + m ≡ suc (n + m) = omega arith in a, let b : p + suc n ≡ suc p + n = omega arith in b) (go (f p) (count-add f (suc p) n m))
-  where
-    go : (b : Bool) → countFrom f (suc p) (n + m) ≡ countFrom f (suc p) n + countFrom f (suc p + n) m
-        → (if b then suc (countFrom f (suc p) (n + m)) else countFrom f (suc p) (n + m)) ≡ (if b then suc (countFrom f (suc p) n) else countFrom f (suc p) n) + countFrom f (suc p + n) m
-    go true r = omega arith
-    go false r = r
-
 pub millimetres-add : (f : ℕ → ℕ) (v p q r : ℕ) → p ≤ q → q ≤ r → millimetres f v p q + millimetres f v q r ≡ millimetres f v p r
 unfolding millimetres
 millimetres-add f v p q r a b =
@@ -241,7 +228,7 @@ demand1 s side out = record {
 }
 
 pub demand2-lookup : Demand2-lookup
-unfolding lookup writeSchedule
+unfolding lookup placeIn writeSchedule
 demand2-lookup s j side right left a h p t = record { answer = answer; replies = rw (le-leb side 1 h, read); shows = go answer refl }
   where
     fits : AcceptedFits j

@@ -18,8 +18,8 @@ use Rattle.runs.specs.declared.Stretch.{Stretch}
 use Rattle.runs.proofs.RunLaws.{Rising}
 use Rattle.schedule.specs.Schedule.{writeRecord, writeRecords, writeSchedule, readSchedule}
 use Rattle.schedule.specs.Walk.{headAt, Passed, recordAt, walkRecords}
-use Rattle.schedule.specs.Calls.{Part, Found, found, nowhere, findRecord, asked, lookup, partOf}
-use Rattle.schedule.specs.Place.{IsPart, askedSlice, placeIn, between}
+use Rattle.schedule.specs.Calls.{Part, Found, found, nowhere, findRecord, placeIn, asked, lookup, partOf}
+use Rattle.schedule.specs.Place.{IsPart, between}
 use Rattle.schedule.specs.Query.{soFar, orLater}
 use Rattle.schedule.proofs.ScheduleLaws.{schedule-read}
 use Rattle.schedule.proofs.QuantityLaws.{read-rising}
@@ -85,11 +85,11 @@ module _ (t from to reached k e v : ℕ) (s : List ℕ) (at : ℕ) (p : Passed) 
 -- By side
 module _ (right left : List ℕ) (side t : ℕ) where
   pub lookup-right : side ≡ 0 → lookup right left side t ≡ placeIn right t
-  unfolding lookup placeIn
+  unfolding lookup
   lookup-right e = rw e
 
   pub lookup-left : side ≡ 1 → lookup right left side t ≡ placeIn left t
-  unfolding lookup placeIn
+  unfolding lookup
   lookup-left e = rw e
 
   pub lookup-argument : 1 < side → lookup right left side t ≡ refused 8 0
@@ -135,7 +135,7 @@ place-within s t p b e =
 
 -- The place that lookup finds is within the schedule of the side asked for.
 pub lookup-within : (right left : List ℕ) (side t : ℕ) (p : Part) → Bytes right → Bytes left → lookup right left side t ≡ accepted (found p) → Within 0 (length (asked side right left)) p
-unfolding lookup placeIn
+unfolding lookup
 lookup-within right left side t p br bl e = place-within (asked side right left) t p (go (eqb side 1)) (bound (unless-refuse (leb side 1) 8 0) _ (found p) e .rest)
   where
     go : (b : Bool) → Bytes (if b then left else right)
@@ -144,12 +144,12 @@ lookup-within right left side t p br bl e = place-within (asked side right left)
 
 -- The slice of the side asked for
 
-pub asked-now : (side : ℕ) (right left : RefT (List ℕ)) → now (askedSlice side right left) ≡ asked side (now right) (now left)
+pub asked-now : (side : ℕ) (right left : RefT (List ℕ)) → now (asked side right left) ≡ asked side (now right) (now left)
 asked-now side right left = go (eqb side 1)
   where
     go : (b : Bool) → now (if b then left else right) ≡ (if b then now left else now right)
     go true = refl
     go false = refl
 
-pub is-part : (r a A : RefT (List ℕ)) (L M : Answer Found) → a ≡ A → L ≡ M → IsPart r a (partOf L .at) (partOf L .len) → IsPart r A (partOf M .at) (partOf M .len)
-is-part r a A L M p q h = subst (λ (x : RefT (List ℕ)). IsPart r x (partOf M .at) (partOf M .len)) p (subst (λ (x : Answer Found). IsPart r a (partOf x .at) (partOf x .len)) q h)
+pub is-part : (r a A : RefT (List ℕ)) (L M : Answer Found) → a ≡ A → L ≡ M → IsPart r a (partOf L) → IsPart r A (partOf M)
+is-part r a A L M p q h = subst (λ (x : RefT (List ℕ)). IsPart r x (partOf M)) p (subst (λ (x : Answer Found). IsPart r a (partOf x)) q h)

@@ -5,7 +5,7 @@ use native.Mathlib.Omega.{arith}
 use mathlib.Core.Path.{_≡_, refl, ap}
 use mathlib.Core.Logic.{_↔_}
 use mathlib.Core.Bool.{Bool, true, false, _&&_}
-use mathlib.Core.List.{List, _∷_}
+use mathlib.Core.List.{List}
 use lib.ListN.{length}
 use lib.Dec.{leb, eqb}
 use borrow.Author.Tests.{le-leb, leb-true}
@@ -23,18 +23,11 @@ use Rattle.schedule.proofs.ScheduleLaws.{schedule-read}
 use Rattle.schedule.proofs.StepLaws.{thenRuns, walk-passed}
 use Rattle.schedule.proofs.CallLaws.{millimetres-overlaps}
 
-pub overlaps-more : (r : Stretch) (rs : List Stretch) (v p q : ℕ) → overlaps (r ∷ rs) v p q ≡ overlapAt r v p q + overlaps rs v p q
-unfolding overlaps
-overlaps-more r rs v p q = go (eqb (r .level) v)
-  where
-    go : (b : Bool) → (if b then overlap r p q + overlaps rs v p q else overlaps rs v p q) ≡ (if b then overlap r p q else 0) + overlaps rs v p q
-    go true = refl
-    go false = omega arith
-
 -- A turn of the walk: the run passed counts, and then those behind it.
 pub sum-turn : (v p q sum sum′ : ℕ) (k e u : ℕ) (s : List ℕ) (at : ℕ) (ps : Passed) → 0 < k → recordAt e u s at ≡ accepted ps → sum′ ≡ sum + overlapAt (ps .run) v p q
     → thenRuns (walkRecords k e u s at) (λ rs. sum + overlaps rs v p q) ≡ thenRuns (walkRecords (k - 1) (ps .run .end) (ps .run .level) s (ps .next)) (λ rs. sum′ + overlaps rs v p q)
-sum-turn v p q sum sum′ k e u s at ps h r m = walk-passed (λ rs. sum + overlaps rs v p q) (λ rs. sum′ + overlaps rs v p q) k e u s at ps h r (λ rs. omega (arith, overlaps-more (ps .run) rs v p q))
+unfolding overlaps
+sum-turn v p q sum sum′ k e u s at ps h r m = walk-passed (λ rs. sum + overlaps rs v p q) (λ rs. sum′ + overlaps rs v p q) k e u s at ps h r (λ rs. omega arith)
 
 -- A run that follows one which ended at e has no more millimetres than there are from there to its end.
 pub overlap-most : (e u : ℕ) (r : Stretch) → Next e u r → (v p q : ℕ) → e + overlapAt r v p q ≤ r .end

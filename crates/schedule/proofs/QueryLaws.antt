@@ -17,7 +17,7 @@ use Rattle.number.proofs.NumberLaws.{Bytes}
 use Rattle.runs.specs.declared.Stretch.{Stretch}
 use Rattle.runs.specs.RunList.{mostRuns, isRunList, shownLevel}
 use Rattle.schedule.specs.Schedule.{writeSchedule, IsSchedule, readRecords, orTen, readSchedule}
-use Rattle.schedule.specs.Calls.{millimetres, quantity, asked, lookup, Found, findRecord}
+use Rattle.schedule.specs.Calls.{millimetres, quantity, asked, lookup, Found, findRecord, placeIn}
 use Rattle.schedule.proofs.ScheduleLaws.{read-schedule, schedule-read}
 use Rattle.schedule.proofs.QuantityLaws.{Ranged, ranged}
 use Rattle.schedule.proofs.DemandLaws.{millimetres-add}
@@ -110,20 +110,15 @@ quantity-counts s v p q n = (to, from)
     from : Counts s v p q n → quantity s v p q ≡ accepted n
     from c = rw (ranged v p q .1 (c .ranged), c .read) (ap accepted (c .count))
 
--- "For p ≤ r ≤ q, [p, r) and [r, q) add up to [p, q)."
-pub quantity-add : (s : List ℕ) (v p r q a b : ℕ) → quantity s v p r ≡ accepted a → quantity s v r q ≡ accepted b → quantity s v p q ≡ accepted (a + b)
-quantity-add s v p r q a b e f =
-    let c = quantity-counts s v p r a .0 e in
-    let d = quantity-counts s v r q b .0 f in
-    let again : accepted (d .runs) ≡ accepted (c .runs) = sym (d .read) ∙ c .read in
-    let same : d .runs ≡ c .runs = cc in
-    let second = ap (λ (rs : List Stretch). millimetres (shownLevel rs) v r q) (sym same) ∙ d .count in
-    quantity-counts s v p q (a + b) .1 (record {
-      ranged = (c .ranged .0, c .ranged .1, omega (arith, c .ranged .2, d .ranged .2));
-      runs = c .runs;
-      read = c .read;
-      count = sym (millimetres-add (shownLevel (c .runs)) v p r q (c .ranged .2) (d .ranged .2)) ∙ omega (arith, c .count, second);
-    })
+-- "For p ≤ r ≤ q, [p, r) and [r, q) add up to [p, q)", in every schedule that is the writing of a run list; none of the three calls is refused.
+pub quantity-add : (s : List ℕ) (w : IsSchedule s) (v p r q : ℕ) → 1 ≤ v → v ≤ 6 → p ≤ r → r ≤ q
+    → let in-lot = millimetres (shownLevel (w .runs)) v in
+    (quantity s v p r ≡ accepted (in-lot p r)) × (quantity s v r q ≡ accepted (in-lot r q)) × (quantity s v p q ≡ accepted (in-lot p r + in-lot r q))
+quantity-add s w v p r q low top a b =
+    let read : readSchedule s ≡ accepted (w .runs) = ap readSchedule (w .writes) ∙ read-schedule (w .runs) (w .run-list) in
+    let counted : (x y : ℕ) → x ≤ y → quantity s v x y ≡ accepted (millimetres (shownLevel (w .runs)) v x y) =
+    λ x y h. quantity-counts s v x y (millimetres (shownLevel (w .runs)) v x y) .1 (record { ranged = (low, top, h); runs = w .runs; read = read; count = refl }) in
+    (counted p r a, counted r q b, counted p q (omega arith) ∙ ap accepted (sym (millimetres-add (shownLevel (w .runs)) v p r q a b)))
 
 -- 8: "level not 1 to 6, or p > q".
 pub quantity-eight : (s : List ℕ) (v p q : ℕ) → Bytes s → (quantity s v p q ≡ refused 8 0) ↔ (Ranged v p q → ⊥)
@@ -149,7 +144,7 @@ module _ (right left : List ℕ) (side t : ℕ) (b : Bytes (asked side right lef
 
   -- 8: "side above 1".
   pub lookup-eight : (lookup right left side t ≡ refused 8 0) ↔ (1 < side)
-  unfolding lookup find
+  unfolding lookup placeIn find
   lookup-eight =
       let e = query-eight (leb side 1) (asked side right left) find b in
       (λ x. pick (decLe side 1) (e .0 x), λ h. e .1 (λ l. omega (arith, leb-true side 1 l)))
@@ -160,7 +155,7 @@ module _ (right left : List ℕ) (side t : ℕ) (b : Bytes (asked side right lef
 
   -- 10: the asked side's schedule isn't the writing of a run list; the other side's is not looked at.
   pub lookup-ten : (lookup right left side t ≡ refused 10 0) ↔ ((side ≤ 1) × (IsSchedule (asked side right left) → ⊥))
-  unfolding lookup find
+  unfolding lookup placeIn find
   lookup-ten =
       let e = query-ten (leb side 1) (asked side right left) find b in
       (λ x. (leb-true side 1 (e .0 x .0), e .0 x .1), λ h. e .1 (le-leb side 1 (h .0), h .1))

@@ -1,27 +1,23 @@
 -- Schedules: reading gives back the run list that was written, and what can be read is the writing of a run list.
 -- Assumes nothing.
-use Prim.Native.Nat.{ℕ, zero, suc, _+_, _-_, _*_, _/_, _%_, _^_, _≤_, _<_}
+use Prim.Native.Nat.{ℕ, zero, suc, _+_, _-_, _*_, _≤_}
 use native.Mathlib.Omega.{arith}
-use native.Mathlib.Nat.{add-assoc}
-use native.Mathlib.Decide.{decLe, decLt, ℕ-discrete}
 use mathlib.Core.Path.{_≡_, refl, sym, subst, ap, _∙_}
-use mathlib.Core.Logic.{_⊎_, inl, inr, _↔_, _≢_}
-use mathlib.Core.Bool.{Bool, true, false, _&&_, _||_, not, false≢true}
-use mathlib.Core.List.{List, [], _∷_, _++_, append-assoc, append-nil, List·Memᴰ}
-use lib.ListN.{length, take, drop, length-append}
-use lib.Seq.{drop-drop, drop-append-seam, drop-length}
-use lib.Dec.{ltb, leb, eqb}
-use borrow.Author.Tests.{ltb-true, ltb-false, leb-true, leb-false, lt-ltb, le-ltb, lt-leb, le-leb, eqb-true, eqb-false, eq-eqb, ne-eqb, not-true}
-use Rattle.refusal.specs.Choice.{if_then_else_}
-use Rattle.refusal.specs.Answer.{Answer, accepted, refused, _>>=_, unless-refuse}
-use Rattle.number.specs.Number.{writeNumber, greatest, Reading, numberAt}
+use mathlib.Core.Bool.{true, _&&_}
+use mathlib.Core.List.{List, [], _∷_, _++_, append-assoc, append-nil}
+use lib.ListN.{length, drop, length-append}
+use lib.Seq.{drop-length}
+use lib.Dec.{leb, eqb}
+use borrow.Author.Tests.{leb-true, le-leb, eqb-true, eq-eqb}
+use Rattle.refusal.specs.Answer.{Answer, accepted, refused, unless-refuse}
+use Rattle.number.specs.Number.{writeNumber, Reading, numberAt}
 use Rattle.runs.specs.declared.Stretch.{Stretch}
-use Rattle.runs.specs.RunList.{lastStation, mostRuns, risingRuns, isRunList, shownLevel}
+use Rattle.runs.specs.RunList.{lastStation, mostRuns, risingRuns, isRunList}
 use Rattle.schedule.specs.Schedule.{writeRecord, writeRecords, writeSchedule, Records, readRecords, orTen, readSchedule}
-use Rattle.refusal.proofs.AnswerLaws.{Bound, bound, tested}
-use Rattle.refusal.proofs.TestLaws.{and-left, and-right, and-intro, decided, not-both}
+use Rattle.refusal.proofs.AnswerLaws.{bound, tested}
+use Rattle.refusal.proofs.TestLaws.{and-left, and-right}
 use Rattle.number.proofs.NumberLaws.{number-length, small-length, middle-length, read-number, after-number, Bytes, Stands, number-read}
-use Rattle.runs.proofs.RunLaws.{Next, Rising, rising, rising-test, runs-unique, stretch-path}
+use Rattle.runs.proofs.RunLaws.{Next, Rising, rising, rising-test}
 
 -- Records.
 read-records : (s : List ℕ) (e v at : ℕ) (got rs : List Stretch) (rest : List ℕ) → e ≤ lastStation → Rising e v rs → drop at s ≡ writeRecords e rs ++ rest

@@ -7,17 +7,18 @@ use mathlib.Core.Path.{_≡_, refl, sym, ap, _∙_}
 use mathlib.Core.Logic.{inl, inr}
 use mathlib.Core.Bool.{Bool, true, false, _&&_}
 use mathlib.Core.List.{List, [], _∷_, _++_, append-assoc, append-nil}
-use lib.ListN.{length, length-append, getD, drop, drop-of-length-le}
+use lib.ListN.{length, length-append, getD, drop}
 use lib.Seq.{drop-cons}
 use lib.Dec.{leb, eqb}
 use borrow.Author.Tests.{le-leb, leb-true}
 use Rattle.refusal.specs.Answer.{Answer, accepted, refused, _>>=_, unless-refuse}
 use Rattle.refusal.proofs.TestLaws.{and-left, and-intro}
-use Rattle.number.specs.Number.{Reading, scan, readingOf, numberAt, readNumber, writeNumber}
+use Rattle.number.specs.Number.{Reading, readingOf, numberAt, readNumber, writeNumber}
 use Rattle.number.specs.declared.Read.{Read}
 use Rattle.number.specs.declared.Read.the-variants.{Number, Ended, Malformed}
 use Rattle.number.proofs.Read
-use Rattle.number.proofs.NumberLaws.{Bytes, write-one, small-length, read-writing, read-stands}
+use Rattle.number.proofs.NumberLaws.{Bytes, write-one, read-stands}
+use Rattle.number.proofs.GroupWalk.{read-none, read-one}
 use denote.Enum.Declared.{tagOf}
 use types.Run.{OneOf}
 use Rattle.runs.specs.declared.Stretch.{Stretch}
@@ -65,8 +66,8 @@ levelled e v gap len s at = orTen (numberAt s at >>= λ lev. followingRun e v ga
 
 module _ (e v gap len : ℕ) (s : List ℕ) (at : ℕ) where
   pub level-ended : length s ≤ at → levelled e v gap len s at ≡ refused 10 0
-  unfolding numberAt readNumber scan
-  level-ended h = rw (drop-of-length-le s h)
+  unfolding numberAt
+  level-ended h = rw (read-none s at h)
 
   or-ten-run : (lev next : ℕ) → orTen (followingRun e v gap len lev next) ≡ followingRun e v gap len lev next
   unfolding followingRun
@@ -89,9 +90,7 @@ module _ (e v gap len : ℕ) (s : List ℕ) (at : ℕ) where
       first = drop-cons s at 0 there
 
       go : Dec (getD s at 0 < 128) → levelled e v gap len s at ≡ followingRun e v gap len (getD s at 0) (at + 1)
-      go (yes h) =
-          let writing : drop at s ≡ writeNumber (getD s at 0) ++ drop (suc at) s = first ∙ rw (write-one (getD s at 0) h) in
-          rw (read-writing s at (getD s at 0) (drop (suc at) s) (omega arith) writing, small-length (getD s at 0) h) (or-ten-run (getD s at 0) (at + 1))
+      go (yes h) = rw (read-one s at there h) (or-ten-run (getD s at 0) (at + 1))
       go (no h) = turn (readNumber s at) refl ∙ sym (no-level-above (getD s at 0) (at + 1) (omega arith))
         where
           above : (x n : ℕ) → readNumber s at ≡ Number x n → Dec (x < 128) → 128 ≤ x

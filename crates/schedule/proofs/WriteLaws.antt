@@ -1,9 +1,9 @@
 -- Laws for writing a stored run list record by record: what the i-th run satisfies, and what the records so far are.
 -- Assumes nothing.
-use Prim.Native.Nat.{ℕ, zero, suc, _+_, _-_, _*_, _≤_, _<_}
+use Prim.Native.Nat.{ℕ, _+_, _-_, _≤_, _<_}
 use native.Mathlib.Omega.{arith}
 use native.Mathlib.Numerals.{add-one}
-use mathlib.Core.Path.{_≡_, refl, sym, subst, ap, _∙_}
+use mathlib.Core.Path.{_≡_, refl, sym, _∙_}
 use mathlib.Core.Bool.{true}
 use mathlib.Core.List.{List, [], _∷_, _++_, append-assoc, append-nil}
 use lib.ListN.{length, getD, length-append}
@@ -12,7 +12,7 @@ use Rattle.number.proofs.NumberLaws.{number-length, group-count, placed-append,
 use Rattle.runs.specs.declared.Stretch.{Stretch}
 use Rattle.runs.specs.RunList.{isRunList, runsTo, lastEnd}
 use Rattle.runs.proofs.StoredLaws.{run, firstRuns, behind, run-next}
-use Rattle.schedule.specs.Schedule.{writeRecord, writeRecords, writeSchedule}
+use Rattle.schedule.specs.Schedule.{writeRecord, writeRecords}
 use Rattle.schedule.specs.Writing.{RecordFits, stretch}
 
 -- The length of a record: the group counts of its three numbers.

@@ -1,19 +1,20 @@
 -- The calls' complete replies, and the output memory.
 -- Assumes nothing.
-use Prim.Native.Nat.{ℕ, zero, suc, _+_, _-_}
-use mathlib.Core.Bool.{Bool, _&&_}
+use Prim.Native.Nat.{ℕ, _+_, _-_}
+use mathlib.Core.Bool.{_&&_}
 use mathlib.Core.Path.{_≡_}
 use mathlib.Core.List.{List, [], _∷_, _++_, List·Memᴰ}
 use lib.ListN.{length, drop, take}
-use lib.Dec.{ltb, leb, eqb}
+use lib.Dec.{leb, eqb}
 use Rattle.refusal.specs.Choice.{if_then_else_}
 use Rattle.refusal.specs.Answer.{Answer, accepted, refused, _>>=_, unless-refuse}
 use Rattle.refusal.specs.Refusal.{refusal}
 use Rattle.number.specs.Number.{writeNumber}
 use Rattle.runs.specs.declared.Stretch.{Stretch}
 use Rattle.planning.specs.Envelope.{acceptJob}
-use Rattle.runs.specs.Level.{Has}
+use Rattle.runs.specs.Level.{Has, has}
 use Rattle.runs.specs.RunList.{shownLevel, lastEnd}
+use Rattle.runs.specs.Count.{countFrom}
 use Rattle.planning.specs.Required.{jobRuns}
 use Rattle.schedule.specs.declared.reply.Plan.{Plan}
 use Rattle.schedule.specs.declared.reply.Plan.the-variants as Plan
@@ -51,11 +52,6 @@ outputAfter (refused k v) out = out
 
 -- Quantity
 
--- How many of the n millimetres from p pass the test.
-unfoldable pub countFrom : (ℕ → Bool) → (p n : ℕ) → ℕ
-countFrom f p zero = 0
-countFrom f p (suc n) = if f p then suc (countFrom f (suc p) n) else countFrom f (suc p) n
-
 -- "How many millimetres of [p, q) have exactly that level."
 unfoldable pub millimetres : (f : ℕ → ℕ) → (level p q : ℕ) → ℕ
 millimetres f level p q = countFrom (λ (t : ℕ). eqb (f t) level) p (q - p)
@@ -88,18 +84,21 @@ findRecord e i [] t = nowhere
 findRecord e i (r ∷ rs) t =
     let n = length (writeRecord e r) in
     let rest = findRecord (r .end) (i + n) rs t in
-    if leb (r .start) t && ltb t (r .end) then found (record { at = i; len = n }) else rest
+    if has r t then found (record { at = i; len = n }) else rest
 
--- The schedule of the side asked for; the right one for a bad side.
-abbrev pub asked : (side : ℕ) (right left : List ℕ) → List ℕ
+-- Where the record is in a schedule.
+unfoldable pub placeIn : List ℕ → (t : ℕ) → Answer Found
+placeIn s t = readSchedule s >>= λ rs. accepted (findRecord 0 (length (writeNumber (length rs))) rs t)
+
+-- That of the side asked for; the right one for a bad side.
+abbrev pub asked : {A : Type 0} (side : ℕ) (right left : A) → A
 asked side right left = if eqb side 1 then left else right
 
 -- Where the record is, in the schedule of the side asked for: "8, then 10, of the asked side's schedule".
 unfoldable pub lookup : (right left : List ℕ) (side t : ℕ) → Answer Found
 lookup right left side t =
     unless-refuse (leb side 1) 8 0 >>= λ _.
-    readSchedule (asked side right left) >>= λ rs.
-    accepted (findRecord 0 (length (writeNumber (length rs))) rs t)
+    placeIn (asked side right left) t
 
 -- The part that lookup returns: "an empty part at that schedule's start where no run has the station or a refusal holds".
 abbrev pub partOf : Answer Found → Part

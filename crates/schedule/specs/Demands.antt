@@ -1,10 +1,10 @@
 -- The owner's three demands, sentence by sentence, as statements about the definitions.
 -- Assumes nothing.
-use Prim.Native.Nat.{ℕ, _+_, _-_, _*_, _≤_, _<_}
+use Prim.Native.Nat.{ℕ, _+_, _≤_}
 use mathlib.Core.Path.{_≡_}
 use mathlib.Core.Logic.{_↔_}
-use mathlib.Core.Bool.{Bool, true, false}
-use mathlib.Core.List.{List, [], _∷_, _++_, List·Memᴰ}
+use mathlib.Core.Bool.{true}
+use mathlib.Core.List.{List, [], _∷_, List·Memᴰ}
 use lib.ListN.{length, take, drop}
 use Rattle.refusal.specs.Answer.{Answer, accepted, refused, _>>=_}
 use Rattle.number.specs.Number.{writeNumber}
@@ -12,8 +12,8 @@ use Rattle.job.specs.declared.Header.{Header}
 use Rattle.job.specs.declared.Hazard.{Hazard}
 use Rattle.job.specs.Job.{Job}
 use Rattle.runs.specs.declared.Stretch.{Stretch}
-use Rattle.planning.specs.Envelope.{Traffic, acceptJob, envelope, forward, offsetOf, opposite, reachOf, reached, reaches, runout, sideEnvelopes}
-use Rattle.runs.specs.Level.{NoShortGap, Has, Gap, InSet, Filled, Highest}
+use Rattle.planning.specs.Envelope.{Traffic, acceptJob, envelope, forward, opposite, reached, reaches, sideEnvelopes, Upstream, BelowFormula}
+use Rattle.runs.specs.Level.{NoShortGap, Has, InSet, Filled, Highest}
 use Rattle.runs.specs.RunList.{shownLevel, isRunList}
 use Rattle.schedule.specs.Schedule.{writeSchedule, readSchedule}
 use Rattle.planning.specs.Required.{jobLevel, jobRuns}
@@ -61,23 +61,13 @@ pub record LeastCovering (j : Job) (side : ℕ) (w : List ℕ) : Type 0 where
 abbrev pub Demand2 : Type 0
 Demand2 = (s : List ℕ) (j : Job) (side : ℕ) (w : List ℕ) → Accepted s j → side ≤ 1 → Planned s side w → LeastCovering j side w
 
--- A traffic's station upstream of a hazard, d whole millimetres before its end on that side.
-abbrev pub Upstream : Traffic → Hazard → (d t : ℕ) → Type 0
-Upstream forward z d t = t + d + 1 ≡ z .start
-Upstream opposite z d t = t ≡ z .end + d
-
 -- Demand 2, "built in document 01 from the published length-of-need formula": the formula itself, multiplied out, with no rounding and no division.
 -- Each millimetre whose end towards the hazard is nearer to it than the formula's length is covered.
 abbrev pub Demand2-formula : Type 0
 Demand2-formula =
     (s : List ℕ) (j : Job) (side : ℕ) (w : List ℕ) → Accepted s j → side ≤ 1 → Planned s side w
     → (z : Hazard) → List·Memᴰ z (j .hazards) → z .side ≡ side → (traffic : Traffic) → reaches (j .header) z traffic ≡ true
-    → (d t : ℕ) → Upstream traffic z d t
-    → let h = j .header in
-    let L = runout h traffic in
-    let R = reachOf h z traffic in
-    let m = offsetOf h z traffic in
-    d * (h .across * L + h .along * R) < L * (h .along * R + h .across * h .straight - h .along * m)
+    → (d t : ℕ) → Upstream traffic z d t → BelowFormula (j .header) z traffic d
     → z .level ≤ scheduleLevel w t
 
 -- What lookup finds at t in the schedule of a job that requires a level there: the record of a run of that level that has t, or nothing where the level is 0.

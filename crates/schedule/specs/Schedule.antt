@@ -9,7 +9,7 @@ use lib.Dec.{leb, eqb}
 use Rattle.refusal.specs.Answer.{Answer, accepted, refused, _>>=_, unless-refuse}
 use Rattle.number.specs.Number.{numberAt, writeNumber}
 use Rattle.runs.specs.declared.Stretch.{Stretch}
-use Rattle.runs.specs.RunList.{mostRuns, isRunList, shownLevel}
+use Rattle.runs.specs.RunList.{mostRuns, isRunList}
 
 -- "Its start less the previous run's end (less 0 for the first), its length, its level. These three numbers are the run's record."
 unfoldable pub writeRecord : ℕ → Stretch → List ℕ

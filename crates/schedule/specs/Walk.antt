@@ -68,7 +68,7 @@ overlapAt r v p q = if eqb (r .level) v then overlap r p q else 0
 -- The overlaps of the runs of level v.
 unfoldable pub overlaps : List Stretch → (v p q : ℕ) → ℕ
 overlaps [] v p q = 0
-overlaps (r ∷ rs) v p q = if eqb (r .level) v then overlap r p q + overlaps rs v p q else overlaps rs v p q
+overlaps (r ∷ rs) v p q = overlapAt r v p q + overlaps rs v p q
 
 -- The overlaps of the runs whose writing a schedule is.
 unfoldable pub overlapSum : List ℕ → (v p q : ℕ) → Answer ℕ

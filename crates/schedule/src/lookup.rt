@@ -6,11 +6,11 @@ use super::reply::Lookup;
 use refusal::Refusal;
 ghost use mathlib.Core.Path.{_≡_};
 ghost use Rattle.schedule.specs.Calls as Calls;
-ghost use Rattle.schedule.specs.Place.{IsPart, askedSlice, placeIn, locatedReply};
+ghost use Rattle.schedule.specs.Place.{IsPart, locatedReply};
 
 // The record's place in a schedule; no level is asked for.
 fn place_in(s: &[u8], station: u64) -> Located
-    ensures { λ r. ⌜ locatedReply r ≡ placeIn (now (s .entry)) station ⌝ }
+    ensures { λ r. ⌜ locatedReply r ≡ Calls.placeIn (now (s .entry)) station ⌝ }
 {
     let Walked::Over {
         sum: _,
@@ -44,9 +44,7 @@ pub fn locate(right: &[u8], left: &[u8], side: u64, station: u64) -> Located
 }
 
 pub fn lookup<'a>(right: &'a [u8], left: &'a [u8], side: u64, station: u64) -> &'a [u8]
-    ensures { λ r. ⌜ IsPart r (askedSlice side (right .entry) (left .entry))
-        (Calls.partOf (Calls.lookup (now (right .entry)) (now (left .entry)) side station) .at)
-        (Calls.partOf (Calls.lookup (now (right .entry)) (now (left .entry)) side station) .len) ⌝ }
+    ensures { λ r. ⌜ IsPart r (Calls.asked side (right .entry) (left .entry)) (Calls.partOf (Calls.lookup (now (right .entry)) (now (left .entry)) side station)) ⌝ }
 {
     let mut asked = right;
     if side == 1 {

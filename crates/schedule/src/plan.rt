@@ -14,7 +14,7 @@ ghost use Rattle.schedule.specs.Schedule.{writeSchedule};
 ghost use Rattle.schedule.specs.Calls.{fitted, planReply, bytesWritten, outputAfter};
 ghost use Rattle.schedule.specs.Calls as calls;
 
-// The bytes that the schedule needs where the room is less than the longest schedule; no schedule lacks room where it is not.
+// The bytes that the schedule needs, counted where the room is less than a proved bound on every schedule; with more, none lacks room.
 fn bytes_needed(list: RunList, room: usize) -> usize
     requires { ⌜ isRunList (runsOf list) ≡ true ⌝ }
     ensures { λ r. ⌜ (r ≤ room → length (writeSchedule (runsOf list)) ≤ room) × (room < r → r ≡ length (writeSchedule (runsOf list))) ⌝ }

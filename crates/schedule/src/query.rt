@@ -7,7 +7,7 @@ use runs::Stretch;
 ghost use mathlib.Core.Path.{_≡_};
 ghost use Prim.Native.Nat.{_-_, min, max};
 ghost use Rattle.schedule.specs.Walk.{overlapSum};
-ghost use Rattle.schedule.specs.Place.{placeIn};
+ghost use Rattle.schedule.specs.Calls.{placeIn};
 ghost use Rattle.schedule.specs.Query.{sumReply, placeReply};
 
 // What a walk of the records to their end finds.

@@ -61,12 +61,12 @@ pub fn put_schedule(out: &mut [u8], list: RunList) -> usize
     let count = list.count;
     let mut at = put_number(out, 0, count as u32);
     let mut end: u32 = 0;
-    let mut i = 0;
-    while i < count {
-        let stop = list.ends[i];
-        at = put_record(out, at, end, list.starts[i], stop, list.levels[i]);
+    let mut done = 0;
+    while done < count {
+        let stop = list.ends[done];
+        at = put_record(out, at, end, list.starts[done], stop, list.levels[done]);
         end = stop;
-        i += 1;
+        done += 1;
     }
     at
 }

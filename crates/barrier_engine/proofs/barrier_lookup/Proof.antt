@@ -1,14 +1,13 @@
 -- `barrier_engine::barrier_lookup` meets its contract: where the record is, case by case. Assumes nothing.
 use Prim.Native.Nat.{ℕ, _+_, _-_}
 use native.Mathlib.Omega.{arith}
-use mathlib.Core.Path.{_≡_, refl, sym, ap, _∙_}
+use mathlib.Core.Path.{_≡_, sym, ap, _∙_}
 use borrow.Author.Needs.{needs}
-use Rattle.refusal.specs.Answer.{Answer, accepted}
+use Rattle.refusal.specs.Answer.{accepted}
 use Rattle.number.proofs.NumberLaws.{index-bytes}
-use Rattle.schedule.specs.Calls.{Found, found, lookup}
+use Rattle.schedule.specs.Calls.{found, lookup}
 use Rattle.schedule.specs.Place.{between, locatedReply}
-use Rattle.schedule.proofs.PlaceLaws.{Within, lookup-within}
-use Rattle.barrier_engine.specs.declared.Record.{Record}
+use Rattle.schedule.proofs.PlaceLaws.{lookup-within}
 use Rattle.barrier_engine.specs.Interface.{recordOf}
 use Rattle.barrier_engine.proofs.barrier_lookup.Statement.{statement}
 use Rattle.barrier_engine.proofs.barrier_lookup.Tie as tie

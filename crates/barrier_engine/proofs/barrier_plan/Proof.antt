@@ -1,7 +1,6 @@
 -- `barrier_engine::barrier_plan` meets its contract: plan's reply, case by case, and plan's memory. Assumes nothing.
-use mathlib.Core.Path.{_≡_, sym, ap, _∙_}
+use mathlib.Core.Path.{sym, ap, _∙_}
 use borrow.Author.Needs.{needs}
-use Rattle.refusal.specs.Answer.{accepted}
 use Rattle.schedule.specs.Calls.{planReply}
 use Rattle.barrier_engine.specs.Interface.{replyOf}
 use Rattle.barrier_engine.proofs.barrier_plan.Statement.{statement}

@@ -1,5 +1,5 @@
 -- `barrier_engine::barrier_quantity` meets its contract: quantity's reply, case by case. Assumes nothing.
-use mathlib.Core.Path.{_≡_, sym, ap, _∙_}
+use mathlib.Core.Path.{sym, ap, _∙_}
 use borrow.Author.Needs.{needs}
 use Rattle.schedule.specs.Calls.{quantityReply}
 use Rattle.barrier_engine.specs.Interface.{replyOf}

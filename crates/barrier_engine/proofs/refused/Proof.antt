@@ -1,5 +1,5 @@
 -- `barrier_engine::refused` meets its contract: the number and the value of the table's row. Assumes nothing.
-use mathlib.Core.Path.{_≡_, ap₂}
+use mathlib.Core.Path.{ap₂}
 use borrow.Author.Needs.{needs}
 use Rattle.barrier_engine.specs.Interface.{reply}
 use Rattle.barrier_engine.proofs.refused.Statement.{statement}

@@ -1,5 +1,5 @@
 -- `number::read_fifth` meets its contract: the bytes end, or the group is the last, needless or too great. Assumes nothing.
-use mathlib.Core.Path.{_≡_, refl, sym}
+use mathlib.Core.Path.{refl, sym}
 use Prim.Native.Nat.{_+_, _^_}
 use native.Mathlib.Omega.{arith}
 use Rattle.number.proofs.GroupWalk.{read-ended, read-needless, read-whole, read-fifth-great}

@@ -7,12 +7,11 @@ use native.Mathlib.Nat.{mul-le-mul-left, pow-le-pow-right, pow-suc}
 use native.Mathlib.Numerals.{add-one}
 use native.Mathlib.Omega.{arith}
 use lib.ListN.{length, getD}
-use borrow.Author.Tests.{le-leb}
 use Rattle.number.specs.declared.Read.the-variants.{Number}
-use Rattle.number.specs.Number.{greatest, readNumber}
+use Rattle.number.specs.declared.Read.{Read}
+use Rattle.number.specs.Number.{readNumber, readingOf, numberAt}
 use Rattle.number.specs.Groups.{readBehind}
-use Rattle.number.proofs.NumberLaws.{small-length}
-use Rattle.number.proofs.GroupWalk.{scan-ended, scan-last-at, read-first, read-ended, read-more, read-needless, read-whole, group-less}
+use Rattle.number.proofs.GroupWalk.{read-none, read-one, read-first, read-ended, read-more, read-needless, read-whole, group-less}
 use Rattle.number.proofs.read_number.Statement.{statement}
 use Rattle.number.proofs.read_number.Tie as tie
 
@@ -69,16 +68,18 @@ room c = mul-le-mul-left {m = B c} {n = 255} (Weight c) (omega (arith, byte c))
 room-rest : (c : Body) → Weight c * (B c - 128) ≤ Weight c * 127
 room-rest c = mul-le-mul-left {m = B c - 128} {n = 127} (Weight c) (omega (arith, byte c))
 
+-- By the paper's numbers too.
+numbered : (s : List ℕ) (at : ℕ) (r : Read) → r ≡ readNumber s at → (r ≡ readNumber s at) × (readingOf at r ≡ numberAt s at)
+unfolding numberAt
+numbered s at r e = (e, ap (readingOf at) e)
+
 returns : tie.Need-returns Inv-loop μ-loop
-unfolding readNumber
-returns c = let a = c .before .before .args in rw (scan-ended 5 (a .at) (a .s .now) (omega arith) (c .if1 .taken))
+returns c = let a = c .before .before .args in numbered (a .s .now) (a .at) _ (sym (read-none (a .s .now) (a .at) (c .if1 .taken)))
 
 returns-2 : tie.Need-returns-2 Inv-loop μ-loop
-unfolding readNumber
 returns-2 c =
     let a = c .before .before .before .before .args in
-    let b = getD (a .s .now) (a .at) 0 in
-    rw (scan-last-at 5 (a .at) (a .s .now) (omega arith) (c .before .before .if1 .left) (c .if2 .taken), le-leb b greatest (omega arith), small-length b (c .if2 .taken))
+    numbered (a .s .now) (a .at) _ (sym (read-one (a .s .now) (a .at) (c .before .before .if1 .left) (c .if2 .taken)))
 
 loop-holds : tie.Need-loop-holds Inv-loop μ-loop
 loop-holds c =
@@ -96,21 +97,22 @@ returns-3 : tie.Need-returns-3 Inv-loop μ-loop
 returns-3 c =
     let l = c .before .before .loop in
     let a = c .before .before .before .before .before .before .before .args in
-    sym (l .inv .6 ∙ read-ended (l .low) (l .weight) (l .passed) (a .s .now) (a .at) (omega arith) (omega arith))
+    numbered (a .s .now) (a .at) _ (sym (l .inv .6 ∙ read-ended (l .low) (l .weight) (l .passed) (a .s .now) (a .at) (omega arith) (omega arith)))
 
 returns-4 : tie.Need-returns-4 Inv-loop μ-loop
 returns-4 c =
     let b = c .before .before in
     let l = b .before .before .before .loop in
-    sym (l .inv .6 ∙ read-needless (Low b) (Weight b) (Passed b) (S b) (At b) (omega arith) (omega arith) (omega arith) (counts b) (l .inv .5) (omega (arith, stands b)))
+    numbered (S b) (At b) _ (sym (l .inv .6 ∙ read-needless (Low b) (Weight b) (Passed b) (S b) (At b) (omega arith) (omega arith) (omega arith) (counts b) (l .inv .5) (omega (arith, stands b))))
 
 returns-5 : tie.Need-returns-5 Inv-loop μ-loop
 returns-5 c =
     let b = c .before .before in
     let l = b .before .before .before .loop in
+    numbered (S b) (At b) _ (
     ap₂ Number (ap (λ (m : ℕ). Low b + Weight b * m) (stands b)) (omega arith)
     ∙ sym (l .inv .6
-    ∙ read-whole (Low b) (Weight b) (Passed b) (S b) (At b) (omega arith) (omega arith) (omega arith) (counts b) (l .inv .5) (omega (arith, stands b)) (omega (arith, stands b)) (omega (arith, weight-le b, room b)))
+    ∙ read-whole (Low b) (Weight b) (Passed b) (S b) (At b) (omega arith) (omega arith) (omega arith) (counts b) (l .inv .5) (omega (arith, stands b)) (omega (arith, stands b)) (omega (arith, weight-le b, room b))))
 
 loop-again : tie.Need-loop-again Inv-loop μ-loop
 loop-again c =
@@ -142,7 +144,7 @@ returns-6 c =
     let a = c .before .before .before .before .before .before .before .args in
     let four : l .passed ≡ 4 = omega arith in
     let counted : l .weight ≡ 128 ^ 4 = l .inv .4 ∙ ap (λ (k : ℕ). 128 ^ k) four in
-    c .read-fifth .ensures ∙ sym (l .inv .6 ∙ ap₂ (λ (w k : ℕ). readBehind (l .low) w k (a .s .now) (a .at)) counted four)
+    numbered (a .s .now) (a .at) _ (c .read-fifth .ensures ∙ sym (l .inv .6 ∙ ap₂ (λ (w k : ℕ). readBehind (l .low) w k (a .s .now) (a .at)) counted four))
 
 pub read-number-spec : {M : Type 1} → statement M
 read-number-spec =

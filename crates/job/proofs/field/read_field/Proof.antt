@@ -11,7 +11,7 @@ use Rattle.job.proofs.field.read_field.Tie as tie
 
 -- A number was read.
 read : (c : tie.After-value) → let a = c .before .before .before .before .args in readNumber (a .s .now) (a .at) ≡ Number (c .value .given .0 .0) (c .value .given .0 .1 .0)
-read c = sym (c .before .before .read-number .ensures) ∙ c .value .given .1
+read c = sym (c .before .before .read-number .ensures .0) ∙ c .value .given .1
 
 returns : tie.Need-returns
 unfolding fieldAt numberAt
@@ -27,11 +27,11 @@ returns-3 c = simp (read (c .before .before .before), le-leb _ _ (c .before .if1
 
 returns-4 : tie.Need-returns-4
 unfolding fieldAt numberAt
-returns-4 c = simp (sym (c .before .before .read-number .ensures) ∙ c .enum-told .given .1)
+returns-4 c = simp (sym (c .before .before .read-number .ensures .0) ∙ c .enum-told .given .1)
 
 returns-5 : tie.Need-returns-5
 unfolding fieldAt numberAt
-returns-5 c = simp (sym (c .before .before .read-number .ensures) ∙ c .enum-told2 .given .1)
+returns-5 c = simp (sym (c .before .before .read-number .ensures .0) ∙ c .enum-told2 .given .1)
 
 pub read-field-spec : {M : Type 1} → statement M
 read-field-spec =

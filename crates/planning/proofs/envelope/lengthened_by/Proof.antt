@@ -1,7 +1,7 @@
 -- `planning::envelope::lengthened_by` meets its contract: where the traffic reaches the hazard, by the length that the approach crate promises.
 -- Assumes nothing.
 use native.Mathlib.Omega.{arith}
-use mathlib.Core.Path.{_≡_, _∙_}
+use mathlib.Core.Path.{_∙_}
 use borrow.Author.Needs.{needs}
 use Rattle.planning.specs.Reply.{trafficOf}
 use Rattle.planning.proofs.ReachLaws.{farther-top, lengthening-absent, lengthening-beyond, lengthening-domain, lengthening-asked, lengthening-top}

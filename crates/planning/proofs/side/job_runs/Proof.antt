@@ -1,5 +1,5 @@
 -- `planning::side::job_runs` meets its contract: what `side_envelopes` gives fits the builder of runs. Assumes nothing.
-use mathlib.Core.Path.{_≡_, sym, ap, _∙_}
+use mathlib.Core.Path.{sym, ap, _∙_}
 use borrow.Author.Needs.{needs}
 use Rattle.refusal.specs.Answer.{accepted}
 use Rattle.job.specs.Job.{jobOf}

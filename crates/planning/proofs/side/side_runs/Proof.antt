@@ -1,5 +1,5 @@
 -- `planning::side::side_runs` meets its contract: a job that was read fits the tests behind it. Assumes nothing.
-use mathlib.Core.Path.{_≡_, sym, _∙_}
+use mathlib.Core.Path.{sym, _∙_}
 use borrow.Author.Needs.{needs}
 use Rattle.job.proofs.JobLaws.{job-done, job-refused, stored-fits}
 use Rattle.planning.proofs.SideLaws.{runs-of-job, runs-unread}

@@ -1,6 +1,6 @@
 -- `runs::sweep::kept` meets its contract: what is cut off from the first k break points leaves what it leaves of all.
 -- Assumes nothing.
-use Prim.Native.Nat.{ℕ, _≤_, _-_}
+use Prim.Native.Nat.{ℕ, _≤_}
 use native.Mathlib.Omega.{arith}
 use mathlib.Core.Path.{_≡_, refl, sym, _∙_}
 use mathlib.Core.List.{List}

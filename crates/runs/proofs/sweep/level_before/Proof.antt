@@ -1,6 +1,5 @@
 -- `runs::sweep::level_before` meets its contract.
 -- Assumes nothing.
-use Prim.Native.Nat.{_-_}
 use native.Mathlib.Omega.{arith}
 use mathlib.Core.Path.{sym}
 use Rattle.runs.proofs.PlaceLaws.{level-last-of, level-first}

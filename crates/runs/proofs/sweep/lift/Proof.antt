@@ -1,8 +1,9 @@
 -- `runs::sweep::lift` meets its contract: the gap is filled, then the envelope's level set.
 -- Assumes nothing.
-use Prim.Native.Nat.{_-_}
+use Prim.Native.Nat.{ℕ, _-_, min}
 use native.Mathlib.Omega.{arith}
-use Rattle.runs.specs.Stand.{lifted}
+use mathlib.Core.Path.{_≡_, ap, _∙_}
+use Rattle.runs.specs.Stand.{aboveTo, lifted}
 use borrow.Author.Needs.{needs}
 use Rattle.runs.proofs.sweep.lift.Statement.{statement}
 use Rattle.runs.proofs.sweep.lift.Tie as tie
@@ -15,7 +16,9 @@ returns c =
     let least = c .before .before .before .before .before .before .before .before .before .before .before .before .lesser in
     let near = c .before .before .before .before .before .before .before .before .before .before .before .before .before .before .before .above in
     let far = c .before .before .before .before .before .before .before .before .before .before .before .before .before .before .before .before .less-or-zero in
-    (omega (arith, setting .ensures .0, filling .ensures .0), rw (← far .ensures, ← near .ensures .0, ← least .ensures, ← filling .ensures .1) (setting .ensures .1))
+    let a = c .before .before .before .before .before .before .before .before .before .before .before .before .before .before .before .before .before .before .before .before .args in
+    let with : least .result ≡ min (aboveTo (a .tops .now) (a .s - a .g) 6) (a .l) = least .ensures ∙ ap (λ (n : ℕ). min n (a .l)) (near .ensures .0 ∙ ap (λ (t : ℕ). aboveTo (a .tops .now) t 6) (far .ensures)) in
+    (omega (arith, setting .ensures .0, filling .ensures .0), rw (← with, ← filling .ensures .1) (setting .ensures .1))
 
 pub lift-spec : {M : Type 1} → statement M
 lift-spec =

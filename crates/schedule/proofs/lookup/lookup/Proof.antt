@@ -9,13 +9,14 @@ use borrow.Author.Needs.{needs}
 use borrow.Author.Tests.{eq-eqb, ne-eqb}
 use Rattle.number.proofs.NumberLaws.{index-bytes}
 use Rattle.schedule.specs.declared.reply.Located.the-variants as Located
-use Rattle.schedule.specs.Place.{between, askedSlice, locatedReply}
+use Rattle.schedule.specs.Calls.{asked}
+use Rattle.schedule.specs.Place.{between, locatedReply}
 use Rattle.schedule.proofs.PlaceLaws.{lookup-within, asked-now, is-part}
 use Rattle.schedule.proofs.lookup.lookup.Statement.{statement}
 use Rattle.schedule.proofs.lookup.lookup.Tie as tie
 
 -- The slice chosen before the call is that of the side asked for.
-chosen : (c : tie.Joined1) → let a = c .before .before .before .args in c .if1 .asked ≡ askedSlice (a .side) (a .right) (a .left)
+chosen : (c : tie.Joined1) → let a = c .before .before .before .args in c .if1 .asked ≡ asked (a .side) (a .right) (a .left)
 chosen c =
     let side = c .before .before .before .args .side in
     ⊎-elim (λ w. rw (eq-eqb side 1 (w .0 .taken)) (w .1)) (λ w. rw (ne-eqb side 1 (w .0 .left)) (w .1)) (c .if1 .came)

@@ -1,5 +1,5 @@
 -- `schedule::lookup::place_in` meets its contract: the place that the walk found, none, or its refusal. Assumes nothing.
-use mathlib.Core.Path.{_≡_, sym, ap, _∙_}
+use mathlib.Core.Path.{sym, ap, _∙_}
 use borrow.Author.Needs.{needs}
 use Rattle.refusal.specs.Answer.{accepted}
 use Rattle.schedule.specs.Query.{placeReply}

@@ -1,7 +1,7 @@
 -- `schedule::plan::place` meets its contract: with room the schedule is placed from the first byte on, and without it nothing is. Assumes nothing.
 use Prim.Native.Nat.{_≤_, _<_}
 use native.Mathlib.Omega.{arith}
-use mathlib.Core.Path.{_≡_, refl, sym, ap, _∙_}
+use mathlib.Core.Path.{refl, ap, _∙_}
 use lib.ListN.{length}
 use borrow.Author.Needs.{needs}
 use Rattle.refusal.specs.Answer.{accepted, refused}

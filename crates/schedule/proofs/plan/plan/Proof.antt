@@ -1,7 +1,7 @@
 -- `schedule::plan::plan` meets its contract: 8 before anything is read, then what planning answers, then the room. Assumes nothing.
 use Prim.Native.Nat.{_≤_}
 use native.Mathlib.Omega.{arith}
-use mathlib.Core.Path.{_≡_, refl}
+use mathlib.Core.Path.{refl}
 use lib.ListN.{length}
 use borrow.Author.Needs.{needs}
 use Rattle.schedule.specs.Calls.{bytesWritten}

@@ -1,5 +1,5 @@
 -- `schedule::quantity::overlap_sum` meets its contract: the walk's sum, or its refusal. Assumes nothing.
-use mathlib.Core.Path.{_≡_, sym, ap, _∙_}
+use mathlib.Core.Path.{sym, ap, _∙_}
 use borrow.Author.Needs.{needs}
 use Rattle.schedule.specs.Query.{sumReply}
 use Rattle.schedule.proofs.quantity.overlap_sum.Statement.{statement}

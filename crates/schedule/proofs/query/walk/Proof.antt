@@ -3,7 +3,6 @@
 -- Assumes nothing.
 use mathlib.Core.Path.{_≡_, sym, ap, _∙_}
 use mathlib.Core.Logic.{⊎-elim}
-use mathlib.Core.List.{[]}
 use Prim.Native.Nat.{ℕ, _+_, _-_, _≤_, _<_}
 use native.Mathlib.Omega.{arith}
 use borrow.Author.Needs.{needs}
@@ -12,8 +11,7 @@ use Rattle.refusal.specs.Answer.{accepted, refused}
 use Rattle.number.proofs.NumberLaws.{Bytes, index-bytes}
 use Rattle.runs.proofs.RunLaws.{Next}
 use Rattle.schedule.specs.Walk.{headReply, Passed, recordAt, recordReply, walkRecords, overlap, overlapAt, overlaps, overlapSum}
-use Rattle.schedule.specs.Calls.{findRecord}
-use Rattle.schedule.specs.Place.{placeIn}
+use Rattle.schedule.specs.Calls.{placeIn}
 use Rattle.schedule.proofs.StepLaws.{thenRuns, walk-start, head-refused, walk-refused, walk-over, walk-left-over, record-read}
 use Rattle.schedule.proofs.QuantityLaws.{sum-turn, overlap-most}
 use Rattle.schedule.proofs.PlaceLaws.{finding, place-start, passed-by, passed-here, finding-over}

@@ -11,15 +11,15 @@ use Rattle.schedule.proofs.walk.read_head.Tie as tie
 
 returns : tie.Need-returns
 unfolding headAt numberAt
-returns c = rw (sym (c .before .read-number .ensures)) (sym (no-number 0 _ (c .before .read-number .result) (c .match .keys2)))
+returns c = rw (sym (c .before .read-number .ensures .0)) (sym (no-number 0 _ (c .before .read-number .result) (c .match .keys2)))
 
 returns-2 : tie.Need-returns-2
 unfolding headAt numberAt
-returns-2 c = rw (sym (c .before .before .before .before .read-number .ensures) ∙ c .before .before .count .given .1, lt-leb _ mostRuns (c .if1 .taken))
+returns-2 c = rw (sym (c .before .before .before .before .read-number .ensures .0) ∙ c .before .before .count .given .1, lt-leb _ mostRuns (c .if1 .taken))
 
 returns-3 : tie.Need-returns-3
 unfolding headAt numberAt
-returns-3 c = rw (sym (c .before .before .before .before .read-number .ensures) ∙ c .before .before .count .given .1, le-leb _ mostRuns (c .if1 .left))
+returns-3 c = rw (sym (c .before .before .before .before .read-number .ensures .0) ∙ c .before .before .count .given .1, le-leb _ mostRuns (c .if1 .left))
 
 pub read-head-spec : {M : Type 1} → statement M
 read-head-spec = tie.close (tie.spec (λ c κs. search needs) (λ c. search needs) returns returns-2 returns-3)

@@ -15,19 +15,19 @@ use Rattle.schedule.proofs.walk.read_record.Tie as tie
 -- Where the first number was read, and where the second, and the third.
 first : (c : tie.After-known-told) → let a = c .before .before .before .before .before .args in
     readNumber (a .s .now) (a .at) ≡ Number (c .before .gap .given .0 .0) (c .before .gap .given .0 .1 .0)
-first c = sym (c .before .before .before .read-number .ensures) ∙ c .before .gap .given .1
+first c = sym (c .before .before .before .read-number .ensures .0) ∙ c .before .gap .given .1
 
 second : (c : tie.After-known-told2) → let b = c .before .before .before .before in let a = b .before .before .before .before .before .args in
     readNumber (a .s .now) (b .before .gap .given .0 .1 .0) ≡ Number (c .before .length .given .0 .0) (c .before .length .given .0 .1 .0)
-second c = sym (c .before .before .before .read-number2 .ensures) ∙ c .before .length .given .1
+second c = sym (c .before .before .before .read-number2 .ensures .0) ∙ c .before .length .given .1
 
 returns : tie.Need-returns
 unfolding recordAt numberAt
-returns c = rw (sym (c .before .read-number .ensures)) (sym (no-number _ _ (c .before .read-number .result) (c .match .keys2)))
+returns c = rw (sym (c .before .read-number .ensures .0)) (sym (no-number _ _ (c .before .read-number .result) (c .match .keys2)))
 
 returns-2 : tie.Need-returns-2
 unfolding recordAt numberAt
-returns-2 c = let b = c .before .before in rw (first b, sym (c .before .read-number2 .ensures)) (sym (no-number _ _ (c .before .read-number2 .result) (c .match2 .keys2)))
+returns-2 c = let b = c .before .before in rw (first b, sym (c .before .read-number2 .ensures .0)) (sym (no-number _ _ (c .before .read-number2 .result) (c .match2 .keys2)))
 
 returns-3 : tie.Need-returns-3
 unfolding recordAt numberAt

@@ -1,10 +1,10 @@
 -- `schedule::write::put_record` meets its contract: three numbers one behind the other. Assumes nothing.
-use Prim.Native.Nat.{ℕ, _+_, _-_, _≤_}
+use Prim.Native.Nat.{_-_}
 use native.Mathlib.Omega.{arith}
-use mathlib.Core.Path.{_≡_, ap, _∙_}
+use mathlib.Core.Path.{ap, _∙_}
 use lib.ListN.{length}
 use borrow.Author.Needs.{needs}
-use Rattle.number.specs.Number.{writeNumber, placed}
+use Rattle.number.specs.Number.{writeNumber}
 use Rattle.number.proofs.NumberLaws.{placed-length}
 use Rattle.schedule.proofs.WriteLaws.{record-sum, record-placed}
 use Rattle.schedule.proofs.write.put_record.Statement.{statement}

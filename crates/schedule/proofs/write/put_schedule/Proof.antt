@@ -1,13 +1,12 @@
--- `schedule::write::put_schedule` meets its contract. The loop's invariant: the output has the run count and the records of the first `i` runs from
+-- `schedule::write::put_schedule` meets its contract. The loop's invariant: the output has the run count and the records of the first `done` runs from
 -- its first byte on, `at` is the index behind them, and the last of these runs ended at `end`. The measure is how many runs are left.
 -- Assumes nothing.
-use Prim.Native.Nat.{ℕ, _+_, _-_, _≤_, _<_}
+use Prim.Native.Nat.{ℕ, _+_, _-_, _≤_}
 use native.Mathlib.Omega.{arith}
 use native.Mathlib.Nat.{zero-add}
-use mathlib.Core.Path.{_≡_, refl, sym, ap, _∙_}
-use mathlib.Core.List.{List, _++_, append-assoc, append-nil}
-use lib.ListN.{length, getD, length-append}
-use borrow.Author.Needs.{needs}
+use mathlib.Core.Path.{_≡_, sym, ap, _∙_}
+use mathlib.Core.List.{List, _++_}
+use lib.ListN.{length, length-append}
 use Rattle.number.specs.Number.{writeNumber, placed}
 use Rattle.number.proofs.NumberLaws.{placed-append, placed-length, placed-none}
 use Rattle.runs.specs.declared.RunList.{RunList}
@@ -26,14 +25,14 @@ abbrev head : RunList → ℕ
 head l = length (writeNumber (l .count))
 
 abbrev Inv-loop : tie.InvT-loop
-Inv-loop out₀ list count at₀ end₀ i₀ out at end i =
+Inv-loop out₀ list count at₀ end₀ done₀ out at end i =
     (i ≤ count) × (count ≤ 511)
     × (at ≡ head list + length (records list i))
     × (end ≡ lastEnd 0 (firstRuns (list .starts) (list .ends) (list .levels) i))
     × (out ≡ placed out₀ (head list) (records list i))
 
 abbrev μ-loop : tie.MeasureT-loop
-μ-loop out₀ list count at₀ end₀ i₀ out at end i = count - i
+μ-loop out₀ list count at₀ end₀ done₀ out at end i = count - i
 
 -- the record of run i
 abbrev recordAt : RunList → ℕ → List ℕ
@@ -87,18 +86,18 @@ same c =
     let s = c .before .before .before .before .before .before in
     let l = s .args .t2 in
     let first = c .before .before .before .put-number in
-    ap length (c .loop .inv .4) ∙ placed-length (first .last .0) (head l) (records l (c .loop .i)) ∙ ap length (first .ensures .1) ∙ placed-length (s .args .out .now) 0 (writeNumber (l .count))
+    ap length (c .loop .inv .4) ∙ placed-length (first .last .0) (head l) (records l (c .loop .done)) ∙ ap length (first .ensures .1) ∙ placed-length (s .args .out .now) 0 (writeNumber (l .count))
 
-room : (c : Turn) → c .before .loop .at + length (recordAt (start c .args .t2) (c .before .loop .i)) ≤ length (c .before .loop .out)
+room : (c : Turn) → c .before .loop .at + length (recordAt (start c .args .t2) (c .before .loop .done)) ≤ length (c .before .loop .out)
 room c =
     let l = start c .args .t2 in
-    omega (arith, same (c .before), whole-length l, start c .pre .1, records-within (l .starts) (l .ends) (l .levels) (c .before .loop .i) (l .count) (c .loop-test .taken))
+    omega (arith, same (c .before), whole-length l, start c .pre .1, records-within (l .starts) (l .ends) (l .levels) (c .before .loop .done) (l .count) (c .loop-test .taken))
 
 put-record-requires : tie.Need-put-record-requires Inv-loop μ-loop
 put-record-requires c κs =
     let t = c .before .before .before .before in
     let l = start t .args .t2 in
-    rw (t .before .loop .inv .3) (run-fits (l .starts) (l .ends) (l .levels) (l .count) (t .before .loop .i) (start t .pre .0) (t .loop-test .taken), room t)
+    rw (t .before .loop .inv .3) (run-fits (l .starts) (l .ends) (l .levels) (l .count) (t .before .loop .done) (start t .pre .0) (t .loop-test .taken), room t)
 
 loop-again : tie.Need-loop-again Inv-loop μ-loop
 loop-again c =
@@ -107,10 +106,10 @@ loop-again c =
     let at = t .before .loop in
     let first = t .before .before .before .before .put-number in
     let written = c .before .before .put-record in
-    let fits : head l + length (records l (at .i)) + length (recordAt l (at .i)) ≤ length (first .last .0) =
-    omega (arith, room t, ap length (at .inv .4), placed-length (first .last .0) (head l) (records l (at .i))) in
-    let step = turn l (at .i) (at .at) (at .end) (written .result) (first .last .0) (at .out) (written .last .0) (at .inv .2) (at .inv .3) (at .inv .4) (written .ensures .0) (written .ensures .1) fits in
-    (omega arith, at .inv .1, step .0, sym (last-more (l .starts) (l .ends) (l .levels) (at .i)), step .1)
+    let fits : head l + length (records l (at .done)) + length (recordAt l (at .done)) ≤ length (first .last .0) =
+    omega (arith, room t, ap length (at .inv .4), placed-length (first .last .0) (head l) (records l (at .done))) in
+    let step = turn l (at .done) (at .at) (at .end) (written .result) (first .last .0) (at .out) (written .last .0) (at .inv .2) (at .inv .3) (at .inv .4) (written .ensures .0) (written .ensures .1) fits in
+    (omega arith, at .inv .1, step .0, sym (last-more (l .starts) (l .ends) (l .levels) (at .done)), step .1)
 
 same-length : tie.Need-same-length Inv-loop μ-loop
 same-length c = same (c .before)
@@ -121,7 +120,7 @@ returns c =
     let l = s .args .t2 in
     let at = c .before .loop in
     let first = c .before .before .before .before .put-number in
-    let done : at .i ≡ l .count = omega arith in
+    let done : at .done ≡ l .count = omega arith in
     let fits : 0 + head l + length (records l (l .count)) ≤ length (s .args .out .now) = omega (arith, whole-length l, s .pre .1) in (
       rw done at (at .inv .2) ∙ sym (whole-length l),
       at .inv .4 ∙ rw (done, whole l, first .ensures .1)

@@ -1,9 +1,8 @@
 -- `schedule::write::record_length` meets its contract: a record is as long as its three numbers. Assumes nothing.
 use Prim.Native.Nat.{ℕ, _-_, _≤_}
 use native.Mathlib.Omega.{arith}
-use mathlib.Core.Path.{_≡_, sym, _∙_}
 use borrow.Author.Needs.{needs}
-use Rattle.number.specs.Number.{writeNumber, greatest, groupCount}
+use Rattle.number.specs.Number.{greatest, groupCount}
 use Rattle.number.proofs.NumberLaws.{number-length, group-count}
 use Rattle.schedule.proofs.WriteLaws.{record-groups}
 use Rattle.schedule.proofs.write.record_length.Statement.{statement}

@@ -1,9 +1,9 @@
 -- `schedule::write::schedule_length` meets its contract. The loop's invariant: `bytes` counts the run count and the records of the first `i` runs,
 -- the last of which ended at `end`. The measure is how many runs are left. Assumes nothing.
-use Prim.Native.Nat.{ℕ, _+_, _-_, _*_, _≤_}
+use Prim.Native.Nat.{_+_, _-_, _*_, _≤_}
 use native.Mathlib.Omega.{arith}
-use mathlib.Core.Path.{_≡_, refl, sym, ap, _∙_}
-use lib.ListN.{length, getD, length-append}
+use mathlib.Core.Path.{_≡_, sym, ap}
+use lib.ListN.{length, length-append}
 use borrow.Author.Needs.{needs}
 use Rattle.runs.specs.RunList.{lastEnd}
 use Rattle.number.specs.Number.{writeNumber}
@@ -13,8 +13,6 @@ use Rattle.runs.proofs.StoredLaws.{firstRuns, run, runs-length, count-top}
 use Rattle.schedule.proofs.WriteLaws.{run-fits, record-short, records-more, last-more, records-none, last-none}
 use Rattle.schedule.proofs.write.schedule_length.Statement.{statement}
 use Rattle.schedule.proofs.write.schedule_length.Tie as tie
-use Rattle.schedule.proofs.write.schedule_length.Reads as reads
-use Rattle.schedule.proofs.write.schedule_length.Lts as lts
 
 abbrev Inv-loop : tie.InvT-loop
 Inv-loop list count bytes₀ end₀ i₀ bytes end i =
