@@ -33,7 +33,7 @@ pub struct Header {
 }
 
 // A hazard [start, end) between a near and a far offset, on a side (0 right, 1 left), with its containment level. The two small
-// numbers share a word: 256 hazards are most of what a call needs of the stack.
+// numbers share a word, so that 256 hazards take no more than 5 KiB of a call's stack.
 pub struct Hazard {
     pub start: u32,
     pub end: u32,

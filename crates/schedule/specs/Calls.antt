@@ -90,7 +90,7 @@ findRecord e i (r ∷ rs) t =
 unfoldable pub placeIn : List ℕ → (t : ℕ) → Answer Found
 placeIn s t = readSchedule s >>= λ rs. accepted (findRecord 0 (length (writeNumber (length rs))) rs t)
 
--- That of the side asked for; the right one for a bad side.
+-- Of two, the one of the side asked for; the right one for a bad side.
 abbrev pub asked : {A : Type 0} (side : ℕ) (right left : A) → A
 asked side right left = if eqb side 1 then left else right
 
