@@ -8,7 +8,7 @@ ghost use Rattle.refusal.specs.Choice.{if_then_else_};
 ghost use Rattle.runs.specs.RunList.{runsOf, mostRuns};
 ghost use Rattle.runs.specs.Required.{requiredRuns};
 ghost use Rattle.runs.specs.Breaks.{levelOf, breaksTo, cut, setFrom, runsBelow};
-ghost use Rattle.runs.specs.Stand.{bit, aboveTo, Raised, raisedTop, filledFrom, lifted};
+ghost use Rattle.runs.specs.Stand.{bit, aboveTo, Raised, filledFrom, lifted};
 ghost use Rattle.runs.specs.Steps.{breakPlaces, Places, Room, Drained, Stepped, envelopesTo, Sweepable, Swept};
 
 // Where a sweep stands: break points in use, and the required level there.

@@ -3,7 +3,6 @@ use super::walk::Head;
 use super::walk::Record;
 use super::walk::read_head;
 use super::walk::read_record;
-use runs::Stretch;
 ghost use mathlib.Core.Path.{_≡_};
 ghost use Prim.Native.Nat.{_-_, min, max};
 ghost use Rattle.schedule.specs.Walk.{overlapSum};
