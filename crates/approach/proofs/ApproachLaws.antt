@@ -1,18 +1,18 @@
--- The approach length: the least whole number not below the formula's quotient, its bounds, the domain, and the worked lengths.
+-- The approach length: the least whole number not below the formula's quotient, its bounds, and its parts in the domain.
 -- Assumes nothing.
 use Prim.Native.Nat.{ℕ, suc, _+_, _-_, _*_, _≤_, _<_, max}
 use native.Mathlib.Omega.{arith}
+use native.Mathlib.Decide.{decLt}
 use native.Mathlib.Nat.{lt-div-mul-add, div-lt-iff-lt-mul, mul-le-mul-left, mul-le-mul-right, mul-le-mul, lt-of-mul-lt-mul-left, max-le, le-max-left, le-max-right}
-use mathlib.Core.Path.{_≡_, refl}
 use mathlib.Core.Logic.{_↔_}
-use mathlib.Core.Bool.{Bool, true, false, and-false}
-use mathlib.Core.List.{map}
-use lib.Dec.{ltb, leb}
-use borrow.Author.Tests.{ltb-true, leb-true, lt-ltb, le-leb}
-use Rattle.refusal.proofs.TestLaws.{not-both}
-use Rattle.approach.specs.declared.Approach.the-variants.{Length, Outside}
-use Rattle.approach.specs.Approach.{ceilDiv, approachLength, inDomain, approach}
-use Rattle.approach.specs.Worked.{worked, replied, stated}
+use Rattle.approach.specs.Approach.{ceilDiv, approachLength, Domain}
+
+not-le : {m n : ℕ} → (n ≤ m → ⊥) → m < n
+not-le {m} {n} h = go (decLt m n)
+  where
+    go : Dec (m < n) → m < n
+    go (yes l) = l
+    go (no l) = absurd (h (omega arith))
 
 -- Rounding up.
 -- x ≤ ⌈x / y⌉ × y, and no smaller number has that.
@@ -38,6 +38,10 @@ module _ (a b T L R m : ℕ) (some : 0 < b * L + a * R) where
   pub approach-exactly : (n : ℕ) → (approachLength a b T L R m ≤ n) ↔ (L * (a * R + b * T - a * m) ≤ n * (b * L + a * R))
   approach-exactly n = (λ l. omega (arith, approach-covers, mul-le-mul-right (b * L + a * R) l), approach-least n)
 
+  -- What lies below the length is what lies below the formula's quotient.
+  pub approach-below : (d : ℕ) → (d < approachLength a b T L R m) ↔ (d * (b * L + a * R) < L * (a * R + b * T - a * m))
+  approach-below d = (λ l. not-le (λ f. omega (arith, approach-exactly d .1 f)), λ l. not-le (λ f. omega (arith, approach-exactly d .0 f)))
+
   -- The length exceeds neither the greater of L and T nor their sum.
   pub approach-greatest : approachLength a b T L R m ≤ max L T
   approach-greatest = approach-least (max L T) (omega (arith, uncut, reach-part, flare-part))
@@ -53,64 +57,6 @@ module _ (a b T L R m : ℕ) (some : 0 < b * L + a * R) where
 
   pub approach-bound : approachLength a b T L R m ≤ L + T
   approach-bound = omega (arith, approach-greatest, max-le {a = L} {b = T} {k = L + T} (omega arith) (omega arith))
-
--- The domain.
--- Its tests as facts, and back.
-pub record Domain (a b T L R m : ℕ) : Type 0 where
-  pub along-low : 1 ≤ a
-  pub along-top : a ≤ 100
-  pub across-top : b ≤ 10
-  pub straight-top : T ≤ 100000
-  pub runout-low : 1 ≤ L
-  pub runout-top : L ≤ 200000
-  pub reach-top : R ≤ 30000
-  pub offset-top : m ≤ 40000
-  pub offset-below : m < R
-
-module _ (a b T L R m : ℕ) where
-  -- A test whose failing takes one out of the domain is passed inside.
-  passed : (test : Bool) → (test ≡ false → inDomain a b T L R m ≡ false) → inDomain a b T L R m ≡ true → test ≡ true
-  passed true f e = refl
-  passed false f e = absurd (not-both e (f refl))
-
-  pub in-domain : inDomain a b T L R m ≡ true → Domain a b T L R m
-  unfolding inDomain
-  in-domain e =
-      record {
-        along-low = leb-true 1 a (passed (leb 1 a) (λ f. simp f) e);
-        along-top = leb-true a 100 (passed (leb a 100) (λ f. simp (f, and-false)) e);
-        across-top = leb-true b 10 (passed (leb b 10) (λ f. simp (f, and-false)) e);
-        straight-top = leb-true T 100000 (passed (leb T 100000) (λ f. simp (f, and-false)) e);
-        runout-low = leb-true 1 L (passed (leb 1 L) (λ f. simp (f, and-false)) e);
-        runout-top = leb-true L 200000 (passed (leb L 200000) (λ f. simp (f, and-false)) e);
-        reach-top = leb-true R 30000 (passed (leb R 30000) (λ f. simp (f, and-false)) e);
-        offset-top = leb-true m 40000 (passed (leb m 40000) (λ f. simp (f, and-false)) e);
-        offset-below = ltb-true m R (passed (ltb m R) (λ f. simp (f, and-false)) e);
-      }
-
-  pub domain-in : Domain a b T L R m → inDomain a b T L R m ≡ true
-  unfolding inDomain
-  domain-in d =
-      simp (
-        le-leb 1 a (d .along-low),
-        le-leb a 100 (d .along-top),
-        le-leb b 10 (d .across-top),
-        le-leb T 100000 (d .straight-top),
-        le-leb 1 L (d .runout-low),
-        le-leb L 200000 (d .runout-top),
-        le-leb R 30000 (d .reach-top),
-        le-leb m 40000 (d .offset-top),
-        lt-ltb m R (d .offset-below),
-      )
-
-  -- The complete reply, inside and outside.
-  pub approach-inside : inDomain a b T L R m ≡ true → approach a b T L R m ≡ Length (approachLength a b T L R m)
-  unfolding approach
-  approach-inside e = rw e
-
-  pub approach-outside : inDomain a b T L R m ≡ false → approach a b T L R m ≡ Outside
-  unfolding approach
-  approach-outside e = rw e
 
 -- The formula in the domain.
 -- How great its parts are: none leaves 64 bits.
@@ -159,9 +105,3 @@ module _ (a b T L R m : ℕ) (d : Domain a b T L R m) where
         divisor = divisor-some;
         dividend = mul-le-mul (d .runout-top) (let e : a * R + b * T - a * m ≤ 100 * 30000 + 10 * 100000 = omega arith in e);
       }
-
--- The worked lengths.
--- Document 01's K1 to K3 are as stated.
-pub worked-lengths : map replied worked ≡ map stated worked
-unfolding ceilDiv approachLength inDomain approach worked replied stated
-worked-lengths = refl

@@ -1,2 +1,1 @@
 pub mod Approach
-pub mod Worked

@@ -1,33 +1,10 @@
 // The approach length of document 01, exact over its whole domain: the promise that planning, schedule and program cite.
 ghost use mathlib.Core.Path.{_≡_};
-ghost use mathlib.Core.Bool.{true};
-ghost use Rattle.approach.specs.Approach.{approachLength, inDomain, approach};
-
-pub enum Approach {
-    // Whole millimetres.
-    Length(u32),
-    // The formula is not asked there.
-    Outside,
-}
-
-// Whether the formula is asked there.
-fn in_domain(along: u32, across: u32, straight: u32, runout: u32, reach: u32, offset: u32) -> bool
-    ensures { λ r. ⌜ r ≡ inDomain along across straight runout reach offset ⌝ }
-{
-    (1 <= along)
-        & (along <= 100)
-        & (across <= 10)
-        & (straight <= 100000)
-        & (1 <= runout)
-        & (runout <= 200000)
-        & (reach <= 30000)
-        & (offset <= 40000)
-        & (offset < reach)
-}
+ghost use Rattle.approach.specs.Approach.{approachLength, Domain};
 
 // The formula, rounded up; no step of it leaves 64 bits.
 fn whole_length(along: u64, across: u64, straight: u64, runout: u64, reach: u64, offset: u64) -> u64
-    requires { ⌜ inDomain along across straight runout reach offset ≡ true ⌝ }
+    requires { ⌜ Domain along across straight runout reach offset ⌝ }
     ensures { λ r. ⌜ r ≡ approachLength along across straight runout reach offset ⌝ }
 {
     let along_reach = along * reach;
@@ -36,7 +13,7 @@ fn whole_length(along: u64, across: u64, straight: u64, runout: u64, reach: u64,
     (dividend + (divisor - 1)) / divisor
 }
 
-// The same in 32 bits, for callers that know the numbers to be in the domain.
+// The same in 32 bits. Flare `across` for `along` (b for a) after a straight part T; runout length L, hazard reach R and barrier offset m.
 pub fn domain_length(
     along: u32,
     across: u32,
@@ -45,7 +22,7 @@ pub fn domain_length(
     reach: u32,
     offset: u32,
 ) -> u32
-    requires { ⌜ inDomain along across straight runout reach offset ≡ true ⌝ }
+    requires { ⌜ Domain along across straight runout reach offset ⌝ }
     ensures { λ r. ⌜ r ≡ approachLength along across straight runout reach offset ⌝ }
 {
     let length = whole_length(
@@ -57,21 +34,4 @@ pub fn domain_length(
         offset as u64,
     );
     length as u32
-}
-
-// Flare `across` for `along` (b for a) after a straight part T; runout length L, hazard reach R and barrier offset m.
-pub fn approach_length(
-    along: u32,
-    across: u32,
-    straight: u32,
-    runout: u32,
-    reach: u32,
-    offset: u32,
-) -> Approach
-    ensures { λ r. ⌜ r ≡ approach along across straight runout reach offset ⌝ }
-{
-    if in_domain(along, across, straight, runout, reach, offset) {
-        return Approach::Length(domain_length(along, across, straight, runout, reach, offset));
-    }
-    Approach::Outside
 }

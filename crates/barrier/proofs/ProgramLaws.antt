@@ -3,7 +3,6 @@
 -- Assumes nothing.
 use Prim.Native.Nat.{ℕ, zero, suc, _≤_, _<_}
 use native.Mathlib.Omega.{arith}
-use native.Mathlib.Decide.{decLt}
 use mathlib.Core.Path.{_≡_, sym, ap, _∙_}
 use mathlib.Core.Bool.{true}
 use mathlib.Core.List.{List, _∷_, _++_, append-assoc, List·Memᴰ}
@@ -16,7 +15,7 @@ use Rattle.runs.specs.declared.Stretch.{Stretch}
 use Rattle.runs.specs.Level.{Has}
 use Rattle.runs.proofs.RunLaws.{ShownRun, shown-run}
 use Rattle.approach.specs.Approach.{approachLength}
-use Rattle.approach.proofs.ApproachLaws.{approach-exactly, divisor-some}
+use Rattle.approach.proofs.ApproachLaws.{approach-below, divisor-some}
 use Rattle.planning.specs.Envelope.{Traffic, runout, reaches, reachOf, offsetOf, Upstream, BelowFormula, acceptJob}
 use Rattle.planning.specs.Required.{jobRuns}
 use Rattle.planning.proofs.EnvelopeLaws.{accepted-fits, domain-of}
@@ -37,13 +36,6 @@ pub record PrintedRun (s word : List ℕ) (v t : ℕ) : Type 0 where
   pub before : List ℕ
   pub after : List ℕ
   pub text : reported s ≡ before ++ (runLine word (run .start) (run .end) (run .level) ++ after)
-
-not-le : {m n : ℕ} → (n ≤ m → ⊥) → m < n
-not-le {m} {n} h = go (decLt m n)
-  where
-    go : Dec (m < n) → m < n
-    go (yes l) = l
-    go (no l) = absurd (h (omega arith))
 
 -- The lines of runs among which one stands.
 lines-split : (word : List ℕ) (rs before : List Stretch) (r : Stretch) (after : List Stretch) → rs ≡ before ++ r ∷ after
@@ -116,8 +108,5 @@ pub printed-length : (s : List ℕ) (j : Job) → acceptJob s ≡ accepted j →
     → let h = j .header in d < approachLength (h .along) (h .across) (h .straight) (runout h traffic) (reachOf h z traffic) (offsetOf h z traffic)
     → PrintedRun s (sideWord (z .side)) (z .level) t
 printed-length s j a z m traffic r d t u l =
-    let h = j .header in
-    let domain = domain-of j (accepted-fits s j a) z m traffic r in
-    let some = divisor-some (h .along) (h .across) (h .straight) (runout h traffic) (reachOf h z traffic) (offsetOf h z traffic) domain in
-    let exact = approach-exactly (h .along) (h .across) (h .straight) (runout h traffic) (reachOf h z traffic) (offsetOf h z traffic) some d in
-    printed-formula s j a z m traffic r d t u (not-le (λ f. omega (arith, exact .1 f)))
+    let some = divisor-some _ _ _ _ _ _ (domain-of j (accepted-fits s j a) z m traffic r) in
+    printed-formula s j a z m traffic r d t u (approach-below _ _ _ _ _ _ some d .0 l)

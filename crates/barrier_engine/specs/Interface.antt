@@ -2,7 +2,7 @@
 -- Assumes nothing.
 use Prim.Native.Nat.{ℕ, _+_}
 use Rattle.refusal.specs.Answer.{Answer, accepted, refused}
-use Rattle.schedule.specs.Calls.{Found, found, nowhere}
+use Rattle.queries.specs.Lookup.{Found, found, nowhere}
 use Rattle.barrier_engine.specs.declared.Reply.{Reply}
 use Rattle.barrier_engine.specs.declared.Record.{Record}
 

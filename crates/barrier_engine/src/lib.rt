@@ -1,12 +1,14 @@
 // The engine's C interface: numbers, slices as pointer and length, and replies as plain structs. include/barrier.h declares it.
+use queries::reply::Located;
+use queries::reply::Quantity;
 use refusal::Refusal;
-use schedule::reply::Located;
 use schedule::reply::Plan;
-use schedule::reply::Quantity;
 ghost use mathlib.Core.Path.{_≡_};
 ghost use lib.ListN.{length};
 ghost use Rattle.refusal.specs.Refusal.{numberOf, valueOf};
-ghost use Rattle.schedule.specs.Calls.{plan, bytesWritten, outputAfter, quantity, lookup};
+ghost use Rattle.schedule.specs.Plan.{plan, bytesWritten, outputAfter};
+ghost use Rattle.queries.specs.Quantity.{quantity};
+ghost use Rattle.queries.specs.Lookup.{lookup};
 ghost use Rattle.barrier_engine.specs.Interface.{replyOf, recordOf, reply};
 
 // Number 0: done, with the bytes written or the millimetres; else document 01's refusal number and what it returns.
@@ -52,7 +54,7 @@ pub extern "C" fn barrier_plan(job: &[u8], side: u64, out: &mut [u8]) -> Reply
 pub extern "C" fn barrier_quantity(schedule: &[u8], level: u64, p: u64, q: u64) -> Reply
     ensures { λ r. ⌜ r ≡ replyOf (quantity (now (schedule .entry)) level p q) ⌝ }
 {
-    match schedule::quantity::quantity(schedule, level, p, q) {
+    match queries::quantity::quantity(schedule, level, p, q) {
         Quantity::Millimetres(millimetres) => Reply {
             number: 0,
             value: millimetres,
@@ -65,7 +67,7 @@ pub extern "C" fn barrier_quantity(schedule: &[u8], level: u64, p: u64, q: u64) 
 pub extern "C" fn barrier_lookup(right: &[u8], left: &[u8], side: u64, station: u64) -> Record
     ensures { λ r. ⌜ r ≡ recordOf (lookup (now (right .entry)) (now (left .entry)) side station) ⌝ }
 {
-    match schedule::lookup::locate(right, left, side, station) {
+    match queries::lookup::locate(right, left, side, station) {
         Located::Found { start, end } => Record {
             number: 0,
             found: 1,

@@ -4,9 +4,8 @@ use Prim.Native.Nat.{ℕ, zero, suc, _+_, _-_, _≤_, _<_}
 use native.Mathlib.Omega.{arith}
 use native.Mathlib.Nat.{zero-add}
 use mathlib.Core.Path.{_≡_, sym, subst, ap, _∙_}
-use mathlib.Core.Logic.{_⊎_, inl, inr}
 use mathlib.Core.Bool.{true}
-use mathlib.Core.List.{List, [], _∷_, _++_, List·Memᴰ, List·Memᴰ·not-nil, List·Memᴰ·append-cases, List·Memᴰ·eq-of-singleton}
+use mathlib.Core.List.{List, [], _∷_, _++_, List·Memᴰ, List·Memᴰ·not-nil}
 use lib.ListN.{length, length-append}
 use lib.Dec.{leb}
 use borrow.Author.Tests.{leb-true}
@@ -15,6 +14,7 @@ use Rattle.refusal.specs.Refusal.{refusal}
 use Rattle.refusal.specs.declared.Refusal.{Refusal}
 use Rattle.refusal.proofs.TestLaws.{and-left, and-right}
 use Rattle.refusal.proofs.AnswerLaws.{bound, tested}
+use Rattle.refusal.proofs.EachLaws.{snoc-each}
 use Rattle.number.specs.Number.{numberAt}
 use Rattle.job.specs.declared.Header.{Header}
 use Rattle.job.specs.declared.Hazard.{Hazard}
@@ -121,13 +121,6 @@ pub record HazardsFit (h : Header) (k : ℕ) (zs : List Hazard) : Type 0 where
   pub count : length zs ≡ k
   pub each : (z : Hazard) → List·Memᴰ z zs → HazardFits h z
 
-snoc-each : (h : Header) (got : List Hazard) (y : Hazard) → ((z : Hazard) → List·Memᴰ z got → HazardFits h z) → HazardFits h y → (z : Hazard) → List·Memᴰ z (got ++ y ∷ []) → HazardFits h z
-snoc-each h got y all one z m = go (List·Memᴰ·append-cases got m)
-  where
-    go : List·Memᴰ z got ⊎ List·Memᴰ z (y ∷ []) → HazardFits h z
-    go (inl k) = all z k
-    go (inr k) = rw (List·Memᴰ·eq-of-singleton k) one
-
 pub hazards-fit : (h : Header) (k : ℕ) (got : List Hazard) (s : List ℕ) (at : ℕ) (r : Hazards) → ((z : Hazard) → List·Memᴰ z got → HazardFits h z) → readHazards h k got s at ≡ accepted r → HazardsFit h (length got + k) (r .list)
 unfolding readHazards
 hazards-fit h zero got s at r all e =
@@ -136,7 +129,7 @@ hazards-fit h zero got s at r all e =
 hazards-fit h (suc k) got s at r all e =
     let b1 = bound (readFields (nextInHazard h) 4 (λ _. length got) 6 [] s at) _ r e in
     let fit = hazard-fits h (b1 .first .numbers) (fields-in (nextInHazard h) 4 (λ _. length got) 6 [] s at (b1 .first) (b1 .taken)) in
-    let rest = hazards-fit h k (got ++ hazardOf (b1 .first .numbers) ∷ []) s (b1 .first .next) r (snoc-each h got (hazardOf (b1 .first .numbers)) all fit) (b1 .rest) in
+    let rest = hazards-fit h k (got ++ hazardOf (b1 .first .numbers) ∷ []) s (b1 .first .next) r (snoc-each (HazardFits h) got all fit) (b1 .rest) in
     subst (λ (n : ℕ). HazardsFit h n (r .list)) (count (hazardOf (b1 .first .numbers))) rest
   where
     count : (y : Hazard) → length (got ++ y ∷ []) + k ≡ length got + suc k

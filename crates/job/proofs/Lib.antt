@@ -4,3 +4,5 @@ pub mod HeaderLaws
 pub mod HazardLaws
 pub mod RestLaws
 pub mod WritingLaws
+pub mod StandLaws
+pub mod RowLaws

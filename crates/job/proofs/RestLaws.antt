@@ -3,22 +3,26 @@
 use Prim.Native.Nat.{ℕ, suc, _+_, _-_, _≤_, _<_}
 use native.Mathlib.Nat.{sub-zero}
 use native.Mathlib.Omega.{arith}
-use mathlib.Core.Path.{_≡_, sym, ap, _∙_}
+use mathlib.Core.Path.{_≡_, refl, sym, ap, _∙_}
 use mathlib.Core.List.{List, [], _∷_, _++_}
-use lib.ListN.{length, take, set, length-set}
-use lib.Seq.{length-take-le}
+use lib.ListN.{length, set, replicate, length-append, length-set}
+use lib.Seq.{take-at}
 use borrow.Author.Tests.{le-leb, lt-leb}
-use Rattle.refusal.specs.Answer.{accepted, refused, _>>=_}
+use Rattle.refusal.specs.Answer.{Answer, accepted, refused, _>>=_}
 use Rattle.refusal.specs.Refusal.{refusal}
+use Rattle.refusal.specs.Stored.{acceptedOr}
 use Rattle.refusal.specs.declared.Refusal.{Refusal}
+use Rattle.refusal.specs.declared.Outcome.the-variants.{Done, Refused}
+use Rattle.refusal.proofs.StoredLaws.{padded-more}
 use Rattle.job.specs.declared.Header.{Header}
 use Rattle.job.specs.declared.Hazard.{Hazard}
 use Rattle.job.specs.declared.StoredJob.{StoredJob}
+use Rattle.job.specs.declared.read.JobRead.{JobRead}
 use Rattle.job.specs.declared.hazard_fields.HazardRead.{HazardRead}
 use Rattle.job.specs.declared.hazard_fields.HazardRead.the-variants as HazardRead
-use Rattle.job.specs.Job.{jobOf, hazardOf, nextInHazard, readFields, readHeader, readHazards, readRest, readJob}
-use Rattle.job.specs.Reply.{headerReading, headerAt, hazardReading, hazardAt, hazardAnswer}
-use Rattle.job.proofs.FieldLaws.{take-stored, bind-assoc}
+use Rattle.job.specs.Job.{Job, hazardOf, nextInHazard, readFields, readHeader, readHazards, readRest, readJob}
+use Rattle.job.specs.Reply.{headerReading, headerAt, hazardReading, hazardAt, hazardAnswer, noJob, storedJob, jobAnswer}
+use Rattle.job.proofs.FieldLaws.{bind-assoc}
 
 -- The job is the header and what follows it.
 pub job-step : (s : List ℕ) → readJob s ≡ headerAt s >>= λ x. readRest (x .header) (x .header .count) [] s (x .next)
@@ -33,35 +37,45 @@ hazards-step h k got s at =
     let m = readFields (nextInHazard h) 4 (λ _. length got) 6 [] s at in
     bind-assoc m (λ f. readHazards h k (got ++ hazardOf (f .numbers) ∷ []) s (f .next)) _ ∙ sym (bind-assoc m (λ f. accepted (hazardReading f)) (λ z. readRest h k (got ++ z .hazard ∷ []) s (z .next)))
 
--- The first i of the hazards stand in the array, and the others are left from index `at` on.
+-- The first i of the hazards are stored, and the others are left from index `at` on.
 pub record HazardsLeft (h : Header) (s : List ℕ) (first : ℕ) (job : StoredJob) (at i : ℕ) : Type 0 where
+  pub got : List Hazard
+  pub number : length got ≡ i
   pub most : i ≤ h .count
-  pub own : job .header ≡ h
   pub room : length (job .hazards) ≡ 256
-  pub same : readRest h (h .count) [] s first ≡ readRest h (h .count - i) (take i (job .hazards)) s at
+  pub whole : job ≡ storedJob (record { header = h; hazards = got })
+  pub same : readRest h (h .count) [] s first ≡ readRest h (h .count - i) got s at
 
-pub none-stored : {h : Header} {s : List ℕ} {first : ℕ} {job : StoredJob} → job .header ≡ h → length (job .hazards) ≡ 256 → HazardsLeft h s first job first 0
-none-stored own room = record { most = omega arith; own = own; room = room; same = rw sub-zero }
+pub none-stored : {h : Header} {s : List ℕ} {first : ℕ} {job : StoredJob} → job ≡ storedJob (record { header = h; hazards = [] }) → HazardsLeft h s first job first 0
+none-stored e = record { got = []; number = refl; most = omega arith; room = rw e refl; whole = e; same = rw sub-zero }
+
+-- A reply says the answer by its outcome, and by what stands beside it.
+abbrev pub Replies : JobRead → Answer Job → Type 0
+Replies r answer = (jobAnswer r ≡ answer) × (r .job ≡ storedJob (acceptedOr noJob answer))
+
+pub replies-refused : {r : JobRead} {x : Refusal} {answer : Answer Job} → r ≡ record { outcome = Refused x; job = storedJob noJob } → refusal x ≡ answer → Replies r answer
+replies-refused p e = rw (p, sym e) (refl, refl)
 
 module _ {h : Header} {s : List ℕ} {first : ℕ} {job : StoredJob} {at i : ℕ} (left : HazardsLeft h s first job at i) where
   -- The next hazard, which is `r`, was read.
   module _ (r : HazardRead) (fits : h .count ≤ 256) (more : i < h .count) (read : hazardAnswer r ≡ hazardAt h i s at) where
-    left-next : readRest h (h .count) [] s first ≡ hazardAnswer r >>= λ z. readRest h (h .count - (i + 1)) (take i (job .hazards) ++ z .hazard ∷ []) s (z .next)
+    left-next : readRest h (h .count) [] s first ≡ hazardAnswer r >>= λ z. readRest h (h .count - (i + 1)) (left .got ++ z .hazard ∷ []) s (z .next)
     left-next =
         let count : h .count - i ≡ suc (h .count - (i + 1)) = omega arith in
-        let index : length (take i (job .hazards)) ≡ i = length-take-le i (job .hazards) (omega (arith, left .room)) in
         left .same
-        ∙ ap (λ (m : ℕ). readRest h m (take i (job .hazards)) s at) count
-        ∙ hazards-step h (h .count - (i + 1)) (take i (job .hazards)) s at
-        ∙ rw (index, sym read)
+        ∙ ap (λ (m : ℕ). readRest h m (left .got) s at) count
+        ∙ hazards-step h (h .count - (i + 1)) (left .got) s at
+        ∙ rw (left .number, sym read)
 
     pub hazard-stored : {z : Hazard} {n : ℕ} → r ≡ HazardRead.Hazard z n → HazardsLeft h s first (record { header = job .header; hazards = set (job .hazards) i z }) n (i + 1)
     hazard-stored {z} {n} e =
         record {
+          got = left .got ++ z ∷ [];
+          number = omega (arith, length-append (left .got) (z ∷ []));
           most = omega arith;
-          own = left .own;
           room = length-set (job .hazards) i z ∙ left .room;
-          same = rw (take-stored (job .hazards) i z (omega (arith, left .room))) (left-next ∙ rw e);
+          whole = rw (left .whole, sym (left .number)) (cc (padded-more 256 (hazardOf []) (left .got) z (omega arith)));
+          same = left-next ∙ rw e;
         }
 
     pub rest-refused : {x : Refusal} → r ≡ HazardRead.Refused x → refusal x ≡ readRest h (h .count) [] s first
@@ -75,9 +89,13 @@ module _ {h : Header} {s : List ℕ} {first : ℕ} {job : StoredJob} {at i : ℕ
         let none : h .count - i ≡ 0 = omega arith in
         rw (left .same, none, lt-leb (length s) at more)
 
-    pub rest-read : length s ≤ at → accepted (jobOf job) ≡ readRest h (h .count) [] s first
+    rest-read : length s ≤ at → readRest h (h .count) [] s first ≡ accepted (record { header = h; hazards = left .got })
     unfolding readRest readHazards
     rest-read end =
         let none : h .count - i ≡ 0 = omega arith in
-        let all : i ≡ h .count = omega arith in
-        rw (left .same, none, le-leb (length s) at end, left .own, all)
+        rw (left .same, none, le-leb (length s) at end)
+
+    pub replies-done : length s ≤ at → Replies (record { outcome = Done; job = job }) (readRest h (h .count) [] s first)
+    replies-done end =
+        let own = take-at (left .got) (replicate (256 - length (left .got)) (hazardOf [])) (h .count) (omega arith) in
+        rw (rest-read end, left .whole) (cc, refl)

@@ -1,3 +1,4 @@
 pub mod Job
 pub mod Reply
 pub mod Writing
+pub mod Rows

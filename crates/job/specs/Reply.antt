@@ -4,10 +4,12 @@ use Prim.Native.Nat.{ℕ}
 use mathlib.Core.List.{List, []}
 use Rattle.refusal.specs.Answer.{Answer, accepted, _>>=_, unless-refuse}
 use Rattle.refusal.specs.Refusal.{numberOf, valueOf, refusal, outcome}
+use Rattle.refusal.specs.Stored.{padded}
 use Rattle.refusal.specs.declared.Refusal.{Refusal}
 use Rattle.number.specs.Number.{Reading, numberAt}
 use Rattle.job.specs.declared.Header.{Header}
 use Rattle.job.specs.declared.Hazard.{Hazard}
+use Rattle.job.specs.declared.StoredJob.{StoredJob}
 use Rattle.job.specs.declared.field.Field.{Field}
 use Rattle.job.specs.declared.field.Field.the-variants as Field
 use Rattle.job.specs.declared.header_fields.HeaderRead.{HeaderRead}
@@ -59,6 +61,14 @@ hazardAt h index s at = readFields (nextInHazard h) 4 (λ _. index) 6 [] s at >>
 abbrev pub hazardAnswer : HazardRead → Answer HazardReading
 hazardAnswer (HazardRead.Hazard z n) = accepted (record { hazard = z; next = n })
 hazardAnswer (HazardRead.Refused r) = refusal r
+
+-- No job: every number 0, and no hazard.
+abbrev pub noJob : Job
+noJob = record { header = headerOf []; hazards = [] }
+
+-- A job as it is stored: its hazards in 256 places, every number behind them 0.
+abbrev pub storedJob : Job → StoredJob
+storedJob j = record { header = j .header; hazards = padded 256 (hazardOf []) (j .hazards) }
 
 -- The job that was read, or the refusal.
 abbrev pub jobAnswer : JobRead → Answer Job

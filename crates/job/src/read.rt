@@ -12,11 +12,12 @@ use refusal::Refusal;
 ghost use mathlib.Core.Path.{_≡_};
 ghost use mathlib.Core.List.{[]};
 ghost use Prim.Native.Nat.{_<_, _≤_};
-ghost use lib.ListN.{length};
+ghost use Rattle.refusal.specs.Stored.{acceptedOr};
+ghost use Rattle.refusal.specs.declared.Outcome.the-variants.{Refused};
 ghost use Rattle.job.specs.Job.{readRest, readJob};
-ghost use Rattle.job.specs.Reply.{jobAnswer};
+ghost use Rattle.job.specs.Reply.{jobAnswer, noJob, storedJob};
 
-// The outcome, and beside it the job where it is Done.
+// The outcome, and beside it the job where it is Done, else zeros.
 pub struct JobRead {
     pub outcome: Outcome,
     pub job: StoredJob,
@@ -24,7 +25,7 @@ pub struct JobRead {
 
 // A job with no hazard stored.
 fn unfilled(header: Header) -> StoredJob
-    ensures { λ r. ⌜ (r .header ≡ header) × (length (r .hazards) ≡ 256) ⌝ }
+    ensures { λ r. ⌜ r ≡ storedJob (record { header = header; hazards = [] }) ⌝ }
 {
     let none = Hazard {
         side: 0,
@@ -38,11 +39,22 @@ fn unfilled(header: Header) -> StoredJob
     StoredJob { header, hazards }
 }
 
+// A refusal, and zeros beside it.
+fn refused(refusal: Refusal) -> JobRead
+    ensures { λ r. ⌜ r ≡ record { outcome = Refused refusal; job = storedJob noJob } ⌝ }
+{
+    JobRead {
+        outcome: Outcome::Refused(refusal),
+        job: unfilled(header_of([0; 14])),
+    }
+}
+
 // The hazards behind the header, from index first on; nothing may follow them.
 fn read_rest(s: &[u8], first: usize, header: Header) -> JobRead
     requires { ⌜ 0 < header .end ⌝ }
     requires { ⌜ header .count ≤ 256 ⌝ }
     ensures { λ r. ⌜ jobAnswer r ≡ readRest header (header .count) [] (now (s .entry)) first ⌝ }
+    ensures { λ r. ⌜ r .job ≡ storedJob (acceptedOr noJob (readRest header (header .count) [] (now (s .entry)) first)) ⌝ }
 {
     let mut job = unfilled(header);
     let count = header.count as usize;
@@ -54,20 +66,12 @@ fn read_rest(s: &[u8], first: usize, header: Header) -> JobRead
                 job.hazards[i] = hazard;
                 at = next;
             }
-            HazardRead::Refused(refusal) => {
-                return JobRead {
-                    outcome: Outcome::Refused(refusal),
-                    job,
-                };
-            }
+            HazardRead::Refused(refusal) => return refused(refusal),
         }
         i += 1;
     }
     if at < s.len() {
-        return JobRead {
-            outcome: Outcome::Refused(Refusal::LeftOver(at)),
-            job,
-        };
+        return refused(Refusal::LeftOver(at));
     }
     JobRead {
         outcome: Outcome::Done,
@@ -78,12 +82,10 @@ fn read_rest(s: &[u8], first: usize, header: Header) -> JobRead
 // The job that the bytes are, or the first refusal of 1 to 4 and 7 in the paper's order.
 pub fn read_job(s: &[u8]) -> JobRead
     ensures { λ r. ⌜ jobAnswer r ≡ readJob (now (s .entry)) ⌝ }
+    ensures { λ r. ⌜ r .job ≡ storedJob (acceptedOr noJob (readJob (now (s .entry)))) ⌝ }
 {
     match read_header(s) {
         HeaderRead::Header { header, next } => read_rest(s, next, header),
-        HeaderRead::Refused(refusal) => JobRead {
-            outcome: Outcome::Refused(refusal),
-            job: unfilled(header_of([0; 14])),
-        },
+        HeaderRead::Refused(refusal) => refused(refusal),
     }
 }

@@ -19,8 +19,7 @@ use Rattle.refusal.specs.Answer.{accepted}
 use Rattle.refusal.proofs.TestLaws.{and-left, and-right}
 use Rattle.number.specs.declared.Read.{Read}
 use Rattle.number.specs.declared.Read.the-variants.{Number, Ended, Malformed}
-use Rattle.number.specs.declared.Write.the-variants.{Next, Full}
-use Rattle.number.specs.Number.{writeIn, writeNumber, greatest, groupCount, Scan, cut, overlong, whole, prefixed, scan, judged, readNumber, Reading, readingOf, numberAt, placed, placedNext}
+use Rattle.number.specs.Number.{writeIn, writeNumber, greatest, groupCount, Scan, cut, overlong, whole, prefixed, scan, judged, readNumber, Reading, readingOf, numberAt, placed}
 
 -- One group
 
@@ -333,14 +332,6 @@ placed-fits s at w h = rw (le-leb (at + length w) (length s) h)
 pub placed-full : (s : List ℕ) (at : ℕ) (w : List ℕ) → length s < at + length w → placed s at w ≡ s
 unfolding placed
 placed-full s at w h = rw (lt-leb (at + length w) (length s) h)
-
-pub placed-next-fits : (s : List ℕ) (at : ℕ) (w : List ℕ) → at + length w ≤ length s → placedNext s at w ≡ Next (at + length w)
-unfolding placedNext
-placed-next-fits s at w h = rw (le-leb (at + length w) (length s) h)
-
-pub placed-next-full : (s : List ℕ) (at : ℕ) (w : List ℕ) → length s < at + length w → placedNext s at w ≡ Full
-unfolding placedNext
-placed-next-full s at w h = rw (lt-leb (at + length w) (length s) h)
 
 -- Placed bytes are a run of stores.
 pub placed-sets : (s : List ℕ) (at : ℕ) (w : List ℕ) → at + length w ≤ length s → placed s at w ≡ sets s at w

@@ -10,8 +10,6 @@ use Rattle.refusal.specs.Choice.{if_then_else_}
 use Rattle.refusal.specs.Answer.{Answer, accepted, refused}
 use Rattle.number.specs.declared.Read.{Read}
 use Rattle.number.specs.declared.Read.the-variants.{Number, Ended, Malformed}
-use Rattle.number.specs.declared.Write.{Write}
-use Rattle.number.specs.declared.Write.the-variants.{Next, Full}
 
 -- Writing
 
@@ -86,7 +84,3 @@ numberAt s at = readingOf at (readNumber s at)
 -- The bytes w from index `at` on and all others as they were; nothing changed where they do not fit.
 unfoldable pub placed : List ℕ → (at : ℕ) → List ℕ → List ℕ
 placed s at w = if leb (at + length w) (length s) then take at s ++ (w ++ drop (at + length w) s) else s
-
--- The index behind them, where they fit.
-unfoldable pub placedNext : List ℕ → (at : ℕ) → List ℕ → Write
-placedNext s at w = if leb (at + length w) (length s) then Next (at + length w) else Full

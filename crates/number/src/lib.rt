@@ -2,7 +2,7 @@
 ghost use mathlib.Core.Path.{_≡_};
 ghost use Prim.Native.Nat.{_+_, _^_, _≤_, _<_};
 ghost use lib.ListN.{length};
-ghost use Rattle.number.specs.Number.{groupCount, writeNumber, readNumber, readingOf, numberAt, placed, placedNext};
+ghost use Rattle.number.specs.Number.{groupCount, writeNumber, readNumber, readingOf, numberAt, placed};
 ghost use Rattle.number.specs.Groups.{readBehind};
 
 // What reading at an index finds.
@@ -13,14 +13,6 @@ pub enum Read {
     Ended,
     // The fifth byte has its top bit set, the value is too great, or the form is not the shortest.
     Malformed,
-}
-
-// What writing at an index comes to.
-pub enum Write {
-    // The number was written, and this is the index behind it.
-    Next(usize),
-    // It has no room, and nothing was written.
-    Full,
 }
 
 // How many bytes the number takes: one for each begun seven of its bits, and one for 0. For up to 32 bits 9/64 is near enough to a seventh.
@@ -108,19 +100,4 @@ pub fn put_number(out: &mut [u8], at: usize, x: u32) -> usize
     }
     out[i] = rest as u8;
     i + 1
-}
-
-// The bytes of x from index at on; where they do not fit, nothing.
-pub fn write_number(out: &mut [u8], at: usize, x: u32) -> Write
-    ensures { λ r. ⌜ r ≡ placedNext (now (out .entry)) at (writeNumber x) ⌝ }
-    ensures { λ _. ⌜ now (out .exit) ≡ placed (now (out .entry)) at (writeNumber x) ⌝ }
-{
-    let count = group_count(x);
-    if out.len() < at {
-        return Write::Full;
-    }
-    if out.len() - at < count {
-        return Write::Full;
-    }
-    Write::Next(put_number(out, at, x))
 }

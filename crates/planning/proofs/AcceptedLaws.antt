@@ -1,10 +1,12 @@
 -- The accepted jobs, exactly: the writings of the jobs that fit and whose hazards pass 5 and 6. Nothing else is accepted, and none of these is refused.
 -- Assumes nothing.
 use Prim.Native.Nat.{ℕ, _+_}
+use native.Mathlib.Omega.{arith}
 use mathlib.Core.Path.{_≡_, refl, ap, _∙_}
 use mathlib.Core.Logic.{_↔_}
 use mathlib.Core.Bool.{Bool, true, false, _&&_, _||_, not}
-use mathlib.Core.List.{List, [], _∷_, List·Memᴰ, List·Memᴰ·head, List·Memᴰ·tail}
+use mathlib.Core.List.{List, [], _∷_, _++_, append-nil, List·Memᴰ, List·Memᴰ·head, List·Memᴰ·tail}
+use lib.ListN.{length}
 use lib.Dec.{ltb}
 use borrow.Author.Tests.{le-ltb}
 use Rattle.refusal.specs.Answer.{accepted}
@@ -15,7 +17,8 @@ use Rattle.job.specs.Job.{Job, readJob}
 use Rattle.job.specs.Writing.{writeJob}
 use Rattle.job.proofs.WritingLaws.{Bytes, job-written, job-is-written}
 use Rattle.planning.specs.Envelope.{forward, opposite, reached, lengthening, testHazard, testHazards, acceptJob}
-use Rattle.planning.proofs.EnvelopeLaws.{Passed, AcceptedFits, accepted-fits}
+use Rattle.planning.specs.Rows.{Passed}
+use Rattle.planning.proofs.EnvelopeLaws.{AcceptedFits, accepted-fits}
 
 -- Where a reached hazard fails no test, neither 5 nor 6 is returned.
 not-failed : (r t : Bool) → (r ≡ true → t ≡ false) → not (r && t) ≡ true
@@ -33,15 +36,18 @@ hazard-passes h i z p =
     = not-failed (reached h z) _ (λ r. neither (le-ltb _ _ (p .begins r)) (le-ltb _ _ (p .ends r))) in
     rw (five, six)
 
-hazards-pass : (h : Header) (i : ℕ) (zs : List Hazard) → ((z : Hazard) → List·Memᴰ z zs → Passed h z) → testHazards h i zs ≡ accepted tt
+-- The tests go on behind hazards that pass.
+pub hazards-pass : (h : Header) (i : ℕ) (zs rest : List Hazard) → ((z : Hazard) → List·Memᴰ z zs → Passed h z) → testHazards h i (zs ++ rest) ≡ testHazards h (i + length zs) rest
 unfolding testHazards
-hazards-pass h i [] p = refl
-hazards-pass h i (z ∷ zs) p = rw (hazard-passes h i z (p z (List·Memᴰ·head refl))) (hazards-pass h (i + 1) zs (λ y m. p y (List·Memᴰ·tail m)))
+hazards-pass h i [] rest p = ap (λ (k : ℕ). testHazards h k rest) (omega arith)
+hazards-pass h i (z ∷ zs) rest p =
+    rw (hazard-passes h i z (p z (List·Memᴰ·head refl)))
+    (hazards-pass h (i + 1) zs rest (λ y m. p y (List·Memᴰ·tail m)) ∙ ap (λ (k : ℕ). testHazards h k rest) (omega arith))
 
 -- A job that fits, its hazards passing 5 and 6, is accepted from its writing.
 pub fitting-accepted : (j : Job) → AcceptedFits j → acceptJob (writeJob j) ≡ accepted j
-unfolding acceptJob
-fitting-accepted j f = rw (job-written j (f .fits), hazards-pass (j .header) 0 (j .hazards) (f .passed))
+unfolding acceptJob testHazards
+fitting-accepted j f = rw (job-written j (f .fits), ← append-nil (j .hazards), hazards-pass (j .header) 0 (j .hazards) [] (f .passed))
 
 -- What was accepted is the writing of its job.
 pub accepted-is-written : (s : List ℕ) (j : Job) → Bytes s → acceptJob s ≡ accepted j → s ≡ writeJob j

@@ -13,9 +13,8 @@ use Rattle.refusal.specs.Choice.{if_then_else_}
 use Rattle.refusal.specs.Answer.{accepted, unless-refuse}
 use Rattle.refusal.proofs.TestLaws.{and-left, and-right, and-intro, or-left, or-right}
 use Rattle.refusal.proofs.AnswerLaws.{bound, tested}
-use Rattle.approach.specs.declared.Approach.the-variants.{Length}
-use Rattle.approach.specs.Approach.{approach}
-use Rattle.approach.proofs.ApproachLaws.{Domain}
+use Rattle.refusal.proofs.EachLaws.{cons-each}
+use Rattle.approach.specs.Approach.{Domain}
 use Rattle.job.specs.declared.Header.{Header}
 use Rattle.job.specs.declared.Hazard.{Hazard}
 use Rattle.job.specs.Job.{Job, readJob}
@@ -25,13 +24,8 @@ use Rattle.runs.specs.RunList.{lastStation}
 use Rattle.runs.proofs.LevelLaws.{Proper, Levelled, EndsBy}
 use Rattle.planning.specs.Envelope.{Traffic, forward, opposite, runout, reaches, reached, reachOf, offsetOf, lengthening, envelope, envelopes, sideEnvelopes, testHazard, testHazards, acceptJob}
 use Rattle.planning.specs.Reply.{testedEnvelopes}
-use Rattle.planning.proofs.ReachLaws.{reaching-domain, reaching-approach}
-
--- Each hazard of an accepted job passed 5 and 6.
-pub record Passed (h : Header) (z : Hazard) : Type 0 where
-  pub clear : reached h z ≡ true → h .offset + h .deflection ≤ z .near
-  pub begins : reached h z ≡ true → h .begin + lengthening h z forward ≤ z .start
-  pub ends : reached h z ≡ true → z .end + lengthening h z opposite ≤ h .end
+use Rattle.planning.specs.Rows.{Passed}
+use Rattle.planning.proofs.ReachLaws.{reaching-domain}
 
 -- A failed conjunction or disjunction.
 not-and : (a b : Bool) → not (a && b) ≡ true → a ≡ true → b ≡ false
@@ -46,7 +40,7 @@ or-false-right : (a b : Bool) → a || b ≡ false → b ≡ false
 or-false-right true b h = absurd (false≢true (sym h))
 or-false-right false b h = h
 
-hazard-passed : (h : Header) (i : ℕ) (z : Hazard) (u : Unit {0}) → testHazard h i z ≡ accepted u → Passed h z
+pub hazard-passed : (h : Header) (i : ℕ) (z : Hazard) (u : Unit {0}) → testHazard h i z ≡ accepted u → Passed h z
 unfolding testHazard
 hazard-passed h i z u e =
     let b1 = bound (unless-refuse (not (reached h z && ltb (z .near) (h .offset + h .deflection))) 5 i) _ u e in
@@ -60,14 +54,10 @@ hazard-passed h i z u e =
 
 hazards-passed : (h : Header) (i : ℕ) (zs : List Hazard) (u : Unit {0}) → testHazards h i zs ≡ accepted u → (z : Hazard) → List·Memᴰ z zs → Passed h z
 unfolding testHazards
-hazards-passed h i [] u e z m = absurd (List·Memᴰ·not-nil m)
-hazards-passed h i (x ∷ xs) u e z m =
+hazards-passed h i [] u e = λ z m. absurd (List·Memᴰ·not-nil m)
+hazards-passed h i (x ∷ xs) u e =
     let b1 = bound (testHazard h i x) _ u e in
-    go (List·Memᴰ·cases-cons m) (hazard-passed h i x (b1 .first) (b1 .taken)) (hazards-passed h (i + 1) xs u (b1 .rest) z)
-  where
-    go : (z ≡ x) ⊎ List·Memᴰ z xs → Passed h x → (List·Memᴰ z xs → Passed h z) → Passed h z
-    go (inl q) p r = rw q p
-    go (inr k) p r = r k
+    cons-each (Passed h) (hazard-passed h i x (b1 .first) (b1 .taken)) (hazards-passed h (i + 1) xs u (b1 .rest))
 
 -- An accepted job.
 pub record AcceptedFits (j : Job) : Type 0 where
@@ -172,11 +162,6 @@ module _ (j : Job) (fits : AcceptedFits j) (z : Hazard) (m : List·Memᴰ z (j .
 
   pub domain-of : Domain (j .header .along) (j .header .across) (j .header .straight) (runout (j .header) t) (reachOf (j .header) z t) (offsetOf (j .header) z t)
   domain-of = reaching-domain (j .header) z (fits .fits .header) (fits .fits .hazards .each z m) clear t r
-
-  pub approach-of :
-      approach (j .header .along) (j .header .across) (j .header .straight) (runout (j .header) t) (reachOf (j .header) z t) (offsetOf (j .header) z t)
-      ≡ Length (lengthening (j .header) z t)
-  approach-of = reaching-approach (j .header) z (fits .fits .header) (fits .fits .hazards .each z m) clear t r
 
 -- The envelopes that a tested job gives fit the builder of runs.
 pub record EnvelopesFit (es : List Stretch) : Type 0 where

@@ -6,3 +6,4 @@ pub mod SideLaws
 pub mod FormulaLaws
 pub mod JobRunLaws
 pub mod AcceptedLaws
+pub mod RowLaws

@@ -11,9 +11,8 @@ use lib.Dec.{ltb, eqb}
 use borrow.Author.Tests.{ltb-true, lt-ltb, le-ltb, eq-eqb}
 use Rattle.refusal.specs.Choice.{if_then_else_}
 use Rattle.refusal.proofs.TestLaws.{and-left, and-right, and-intro, or-cases, or-left, or-right}
-use Rattle.approach.specs.declared.Approach.the-variants.{Length}
-use Rattle.approach.specs.Approach.{approachLength, inDomain, approach}
-use Rattle.approach.proofs.ApproachLaws.{Domain, domain-in, approach-inside, length-fits}
+use Rattle.approach.specs.Approach.{approachLength, Domain}
+use Rattle.approach.proofs.ApproachLaws.{length-fits}
 use Rattle.job.specs.declared.Header.{Header}
 use Rattle.job.specs.declared.Hazard.{Hazard}
 use Rattle.job.proofs.JobLaws.{HeaderFits, HazardFits}
@@ -103,16 +102,11 @@ module _ (h : Header) (z : Hazard) (hf : HeaderFits h) (zf : HazardFits h z) (cl
         runout-low = ltb-true 0 (runout h t) runs;
         runout-top = runout-top h hf t;
         reach-top = omega (arith, hf .clear-top);
-        offset-top = omega (arith, hf .offset-top, hf .way-top, farther-top h hf (z .side) t);
         offset-below = omega (arith, in-zone h z t r, hf .deflection-low, zf .offsets);
       }
 
   -- Its lengthening is the length that the approach crate promises.
-  pub reaching-approach : reaches h z t ≡ true → approach (h .along) (h .across) (h .straight) (runout h t) (reachOf h z t) (offsetOf h z t) ≡ Length (lengthening h z t)
-  unfolding lengthening
-  reaching-approach r = rw r (approach-inside _ _ _ _ _ _ (domain-in _ _ _ _ _ _ (reaching-domain r)))
-
-  reaching-length : reaches h z t ≡ true → approachLength (h .along) (h .across) (h .straight) (runout h t) (reachOf h z t) (offsetOf h z t) ≡ lengthening h z t
+  pub reaching-length : reaches h z t ≡ true → approachLength (h .along) (h .across) (h .straight) (runout h t) (reachOf h z t) (offsetOf h z t) ≡ lengthening h z t
   unfolding lengthening
   reaching-length r = rw r
 
@@ -130,9 +124,9 @@ module _ (h : Header) (z : Hazard) (hf : HeaderFits h) (zf : HazardFits h z) (cl
     unfolding reaches
     asked-reaches = and-intro (present-runout h hf t ∙ lt-ltb 0 (runout h t) (omega arith)) (lt-ltb (z .near + farther h (z .side) t) (h .zone) (omega arith))
 
-    pub lengthening-domain : inDomain (h .along) (h .across) (h .straight) L R (h .offset + w) ≡ true
+    pub lengthening-domain : Domain (h .along) (h .across) (h .straight) L R (h .offset + w)
     unfolding reachOf offsetOf
-    lengthening-domain = rw (e, p, q) (domain-in _ _ _ _ _ _ (reaching-domain asked-reaches))
+    lengthening-domain = rw (e, p, q) (reaching-domain asked-reaches)
 
     pub lengthening-asked : approachLength (h .along) (h .across) (h .straight) L R (h .offset + w) ≡ lengthening h z t
     unfolding reachOf offsetOf

@@ -1,3 +1,4 @@
 pub mod Envelope
 pub mod Required
 pub mod Reply
+pub mod Rows

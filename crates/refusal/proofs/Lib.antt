@@ -1,2 +1,5 @@
 pub mod TestLaws
 pub mod AnswerLaws
+pub mod RowLaws
+pub mod EachLaws
+pub mod StoredLaws

@@ -1,3 +1,4 @@
 pub mod Choice
 pub mod Answer
 pub mod Refusal
+pub mod Stored

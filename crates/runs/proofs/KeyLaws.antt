@@ -1,29 +1,27 @@
 -- Keys of stored envelopes: what stands in the arrays, and that sorting the keys keeps the required runs.
 -- Assumes nothing.
-use Prim.Native.Nat.{ℕ, zero, suc, _+_, _/_, _%_, _≤_, _<_}
+use Prim.Native.Nat.{ℕ, zero, suc, _+_, _/_, _%_, _<_}
 use native.Mathlib.Omega.{arith}
 use native.Mathlib.Decide.{decLt}
 use mathlib.Core.Path.{_≡_, sym, ap, _∙_}
 use mathlib.Core.Logic.{_⊎_, inl, inr}
 use mathlib.Core.List.{List, List·Memᴰ, List·Memᴰ·head, List·Memᴰ·tail, List·Memᴰ·cases-cons, List·Memᴰ·not-nil, Memᴰ·cast}
 use lib.ListN.{length, getD, set}
-use lib.Seq.{getD-set-same, getD-set-other, length-take-le}
+use lib.Seq.{getD-set-same, getD-set-other}
 use Rattle.runs.specs.declared.Stretch.{Stretch}
 use Rattle.runs.specs.declared.Envelopes.{Envelopes}
 use Rattle.runs.specs.Level.{requiredLevel}
-use Rattle.runs.specs.declared.RunList.{RunList}
-use Rattle.runs.specs.RunList.{mostRuns, runsOf, envelopesOf}
+use Rattle.runs.specs.RunList.{envelopesOf}
 use Rattle.runs.specs.Required.{requiredRuns}
-use Rattle.runs.specs.Stored.{StoredEnvelopes, RequiredRuns}
+use Rattle.runs.specs.Stored.{StoredEnvelopes}
 use Rattle.runs.specs.Sorted.{Sortable, Sorted}
 use Rattle.runs.specs.Stand.{Sound, AllSound}
 use Rattle.runs.specs.Steps.{keyOf, envelopeOf, envelopesTo, Sweepable}
 use Rattle.runs.proofs.GapLaws.{required-more}
 use Rattle.runs.proofs.RunLaws.{stretch-path}
 use Rattle.runs.proofs.RequiredLaws.{RunsOf, required-runs, runs-of-unique}
-use Rattle.runs.proofs.StoredLaws.{runs-length}
+use Rattle.runs.proofs.StoredLaws.{noStretch}
 use Rattle.runs.proofs.SortLaws.{placed, among}
-use Rattle.runs.proofs.SweptLaws.{few-runs}
 
 -- Lists with the same members have the same required runs.
 pub same-runs : (es fs : List Stretch) (G : ℕ) → AllSound es → AllSound fs → ((e : Stretch) → List·Memᴰ e es → List·Memᴰ e fs) → ((e : Stretch) → List·Memᴰ e fs → List·Memᴰ e es) → requiredRuns es G ≡ requiredRuns fs G
@@ -59,9 +57,6 @@ key-at keys ends (suc n) x m = go (List·Memᴰ·cases-cons m) (key-at keys ends
     go (inl e) r = record { at = n; below = omega arith; is = e }
     go (inr k) r = let w = r k in record { at = w .at; below = omega (arith, w .below); is = w .is }
 
-abbrev pub noStretch : Stretch
-noStretch = record { start = 0; end = 0; level = 0 }
-
 -- The keys and ends of the first n stretches stand in two arrays.
 pub record Keyed (stretches : List Stretch) (keys ends : List ℕ) (n : ℕ) : Type 0 where
   pub key-is : (j : ℕ) → j < n → getD keys j 0 ≡ keyOf (getD stretches j noStretch) j
@@ -92,12 +87,6 @@ stored-sound e ok x m = record { long = ok .long x m; ends = ok .ends x m; low =
 module _ (e : Envelopes) (ok : StoredEnvelopes e) (full : length (e .stretches) ≡ 256) where
   pub sound-at : (j : ℕ) → j < e .count → Sound (getD (e .stretches) j noStretch)
   sound-at j h = stored-sound e ok _ (among (e .stretches) (e .count) j noStretch h (omega (arith, ok .count)))
-
-  stored-few : (G : ℕ) → length (requiredRuns (envelopesOf e) G) ≤ mostRuns
-  stored-few G = few-runs (envelopesOf e) G (stored-sound e ok) (omega (arith, length-take-le (e .count) (e .stretches) (omega (arith, ok .count)), ok .count))
-
-  pub stored-required : (G : ℕ) (r : RunList) → runsOf r ≡ requiredRuns (envelopesOf e) G → RequiredRuns e G r
-  stored-required G r p = record { runs = p; count = omega (arith, runs-length (r .starts) (r .ends) (r .levels) (r .count), ap length p, stored-few G) }
 
   module _ (keys ends : List ℕ) (n : ℕ) (all : n ≡ e .count) (k : Keyed (e .stretches) keys ends n) (key-places : length keys ≡ 256) (end-places : length ends ≡ 256) where
     pub sortable : Sortable n keys

@@ -3,6 +3,7 @@
 use Prim.Native.Nat.{ℕ, zero, suc, _+_, _-_, _≤_, _<_}
 use native.Mathlib.Omega.{arith}
 use native.Mathlib.Numerals.{add-one}
+use native.Mathlib.Nat.{add-zero}
 use native.Mathlib.Decide.{decLe, decLt}
 use mathlib.Core.Path.{_≡_, refl, sym, ap, _∙_}
 use mathlib.Core.Logic.{_≢_}
@@ -13,11 +14,11 @@ use lib.Seq.{getD-set-same, getD-set-other}
 use lib.Dec.{ltb}
 use borrow.Author.Tests.{le-ltb, lt-leb, le-leb, eq-eqb, ne-eqb}
 use Rattle.refusal.specs.Choice.{if_then_else_}
-use Rattle.runs.specs.declared.Stretch.{Stretch}
-use Rattle.runs.specs.RunList.{runsTo}
+use Rattle.runs.specs.declared.RunList.{RunList}
+use Rattle.runs.specs.Stored.{storedRuns}
 use Rattle.runs.specs.Stand.{bit, raisedTop, Raised}
 use Rattle.runs.specs.Breaks.{Break, levelOf, breaksTo, cut, setFrom, runsBelow}
-use Rattle.runs.proofs.StoredLaws.{run, runs-length}
+use Rattle.runs.proofs.StoredLaws.{withNext, cleared, stored-more, stored-same}
 
 module _ (starts levels : List ℕ) where
   pub breaks-last : (k : ℕ) → 0 < k → breaksTo starts levels k ≡ record { start = getD starts (k - 1) 0; level = getD levels (k - 1) 0 } ∷ breaksTo starts levels (k - 1)
@@ -82,35 +83,18 @@ module _ (starts levels : List ℕ) where
   unfolding setFrom
   set-push t v k count e n h l = rw (← e, ne-eqb _ _ n) (breaks-push k t v h l)
 
--- The runs in arrays, while they are made from break points in arrays.
-runs-set : (starts ends levels : List ℕ) (k s e v n : ℕ) → n ≤ k → runsTo (set starts k s) (set ends k e) (set levels k v) n ≡ runsTo starts ends levels n
-unfolding runsTo
-runs-set starts ends levels k s e v zero h = refl
-runs-set starts ends levels k s e v (suc n) h =
-    let ne : n ≢ k = λ z. omega arith in
-    rw (getD-set-other starts k n s 0 ne, getD-set-other ends k n e 0 ne, getD-set-other levels k n v 0 ne)
-    (ap (λ (r : List Stretch). r ++ run starts ends levels n ∷ []) (runs-set starts ends levels k s e v n (omega arith)))
-
-runs-push : (starts ends levels : List ℕ) (k s e v : ℕ) → k < length starts → k < length ends → k < length levels
-    → runsTo (set starts k s) (set ends k e) (set levels k v) (k + 1) ≡ runsTo starts ends levels k ++ record { start = s; end = e; level = v } ∷ []
-unfolding runsTo
-runs-push starts ends levels k s e v a b c =
-    rw (add-one k, getD-set-same starts k s 0 a, getD-set-same ends k e 0 b, getD-set-same levels k v 0 c)
-    (ap (λ (r : List Stretch). r ++ record { start = s; end = e; level = v } ∷ []) (runs-set starts ends levels k s e v k (omega arith)))
-
+-- The runs stored while they are made from break points in arrays.
 module _ (starts levels : List ℕ) where
   -- One break point more, and its run where its level is not 0.
-  pub runs-turn : (rs re rl : List ℕ) (k i e d : ℕ) → runsTo rs re rl k ≡ runsBelow (getD starts i 0) (breaksTo starts levels i) → k < length rs → k < length re → k < length rl → d ≡ bit (ltb 0 (getD levels i 0))
-      → runsTo (set rs k (getD starts i 0)) (set re k e) (set rl k (getD levels i 0)) (k + d) ≡ runsBelow e (breaksTo starts levels (i + 1))
+  pub runs-turn : (l : RunList) (i e d : ℕ) → cleared l ≡ storedRuns (runsBelow (getD starts i 0) (breaksTo starts levels i)) → l .count < 512 → d ≡ bit (ltb 0 (getD levels i 0))
+      → cleared (withNext l (record { start = getD starts i 0; end = e; level = getD levels i 0 }) (l .count + d)) ≡ storedRuns (runsBelow e (breaksTo starts levels (i + 1)))
   unfolding breaksTo runsBelow
-  runs-turn rs re rl k i e d h a b c q = rw (add-one i, q) (go (ltb 0 (getD levels i 0)))
+  runs-turn l i e d h room q = rw (add-one i, q) (go (ltb 0 (getD levels i 0)))
     where
-      go : (f : Bool) → runsTo (set rs k (getD starts i 0)) (set re k e) (set rl k (getD levels i 0)) (k + bit f)
-          ≡ (if f then runsBelow (getD starts i 0) (breaksTo starts levels i) ++ record { start = getD starts i 0; end = e; level = getD levels i 0 } ∷ [] else runsBelow (getD starts i 0) (breaksTo starts levels i))
-      go true = runs-push rs re rl k (getD starts i 0) e (getD levels i 0) a b c ∙ ap (λ (r : List Stretch). r ++ record { start = getD starts i 0; end = e; level = getD levels i 0 } ∷ []) h
-      go false =
-          let z : k + 0 ≡ k = omega arith in
-          rw z (runs-set rs re rl k (getD starts i 0) e (getD levels i 0) k (omega arith) ∙ h)
+      go : (f : Bool) → cleared (withNext l (record { start = getD starts i 0; end = e; level = getD levels i 0 }) (l .count + bit f))
+          ≡ storedRuns (if f then runsBelow (getD starts i 0) (breaksTo starts levels i) ++ record { start = getD starts i 0; end = e; level = getD levels i 0 } ∷ [] else runsBelow (getD starts i 0) (breaksTo starts levels i))
+      go true = stored-more l (runsBelow (getD starts i 0) (breaksTo starts levels i)) _ h room
+      go false = rw (add-zero (l .count)) (stored-same l (runsBelow (getD starts i 0) (breaksTo starts levels i)) _ h)
 
   below-length : (e n : ℕ) → length (runsBelow e (breaksTo starts levels (suc n))) ≡ length (runsBelow (getD starts n 0) (breaksTo starts levels n)) + bit (ltb 0 (getD levels n 0))
   unfolding breaksTo runsBelow
@@ -133,9 +117,8 @@ module _ (starts levels : List ℕ) where
           rw z (omega (arith, below-length e n, below-length f n))
 
   -- The runs so far are no more than all.
-  pub runs-room : (rs re rl : List ℕ) (k i n most : ℕ) → runsTo rs re rl k ≡ runsBelow (getD starts i 0) (breaksTo starts levels i) → i ≤ n → length (runsBelow (getD starts n 0) (breaksTo starts levels n)) ≤ most → k ≤ most
-  runs-room rs re rl k i n most h l m =
-      omega (arith, runs-length rs re rl k, ap length h, runs-grow n i (getD starts i 0) (getD starts n 0) l)
+  pub runs-room : {l : RunList} (i n : ℕ) → l ≡ storedRuns (runsBelow (getD starts i 0) (breaksTo starts levels i)) → i ≤ n → l .count ≤ length (runsBelow (getD starts n 0) (breaksTo starts levels n))
+  runs-room i n made h = omega (arith, ap (λ (r : RunList). r .count) made, runs-grow n i (getD starts i 0) (getD starts n 0) h)
 
 -- The tops, raised one after the other.
 pub record Raising (l e v : ℕ) (old new : List ℕ) : Type 0 where

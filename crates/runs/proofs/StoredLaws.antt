@@ -4,16 +4,20 @@ use Prim.Native.Nat.{ℕ, zero, suc, _+_, _≤_, _<_}
 use native.Mathlib.Omega.{arith}
 use native.Mathlib.Decide.{decLt}
 use native.Mathlib.Numerals.{add-one}
-use mathlib.Core.Path.{_≡_, refl, ap}
+use mathlib.Core.Path.{_≡_, refl, sym, ap, _∙_}
 use mathlib.Core.Bool.{true}
-use mathlib.Core.List.{List, [], _∷_, _++_, append-assoc}
-use lib.ListN.{length, getD, length-append}
+use mathlib.Core.List.{List, [], _∷_, _++_, map, map-append, append-assoc}
+use lib.ListN.{length, getD, set, length-append, length-map, List·getD-append, List·getD-map}
+use lib.Seq.{ext-getD, getD-at, set-set}
 use lib.Dec.{leb}
 use borrow.Author.Tests.{leb-true}
 use Rattle.refusal.proofs.TestLaws.{and-left, and-right}
+use Rattle.refusal.proofs.StoredLaws.{padded-more, padded-clear}
 use Rattle.runs.specs.declared.Stretch.{Stretch}
-use Rattle.runs.specs.RunList.{mostRuns, risingRuns, isRunList, lastEnd, runsTo}
-use Rattle.runs.proofs.RunLaws.{Next, Rising, rising}
+use Rattle.runs.specs.declared.RunList.{RunList}
+use Rattle.runs.specs.RunList.{mostRuns, risingRuns, isRunList, lastEnd, runsTo, runsOf}
+use Rattle.runs.specs.Stored.{column, storedRuns}
+use Rattle.runs.proofs.RunLaws.{stretch-path, Next, Rising, rising}
 
 -- The level of the last of the runs; v where there is none.
 abbrev pub lastLevel : ℕ → List Stretch → ℕ
@@ -32,6 +36,9 @@ run-list-rising rs h = rising 0 0 rs (and-right (leb (length rs) mostRuns) _ h)
 pub run-list-short : (rs : List Stretch) → isRunList rs ≡ true → length rs ≤ mostRuns
 unfolding isRunList
 run-list-short rs h = leb-true (length rs) mostRuns (and-left _ (risingRuns 0 0 rs) h)
+
+abbrev pub noStretch : Stretch
+noStretch = record { start = 0; end = 0; level = 0 }
 
 module _ (starts ends levels : List ℕ) where
   -- The i-th run, and the first i.
@@ -68,6 +75,9 @@ module _ (starts ends levels : List ℕ) where
       go (yes l) r = let b = r l in record { rest = b .rest ++ run n ∷ []; split = rw (b .split) (append-assoc (firstRuns i) (run i ∷ b .rest) (run n ∷ [])) }
       go (no l) r = record { rest = []; split = ap (λ (k : ℕ). firstRuns k ++ run k ∷ []) (let e : n ≡ i = omega arith in e) }
 
+  run-at : (i n : ℕ) → i < n → getD (firstRuns n) i noStretch ≡ run i
+  run-at i n h = let b = behind i n h in rw (b .split) (getD-at (firstRuns i) (run i) (b .rest) noStretch i (runs-length i))
+
   module _ (n : ℕ) (list : isRunList (firstRuns n) ≡ true) where
     -- Each run of a run list follows those before it.
     pub run-next : (i : ℕ) → i < n → Next (lastEnd 0 (firstRuns i)) (lastLevel 0 (firstRuns i)) (run i)
@@ -77,3 +87,49 @@ module _ (starts ends levels : List ℕ) where
 
     pub count-top : n ≤ mostRuns
     count-top = omega (arith, runs-length n, run-list-short (firstRuns n) list)
+
+-- Runs as they are stored.
+
+module _ (number : Stretch → ℕ) (rs : List Stretch) where
+  column-at : (i : ℕ) → i < length rs → getD (column number rs) i (number noStretch) ≡ number (getD rs i noStretch)
+  column-at i h = List·getD-append (map number rs) _ _ i (omega (arith, length-map rs number)) ∙ List·getD-map number rs i noStretch
+
+  column-clear : set (column number rs) (length rs) 0 ≡ column number rs
+  column-clear = rw (sym (length-map rs number)) (padded-clear 512 0 (map number rs))
+
+  column-more : (r : Stretch) → length rs < 512 → set (column number rs) (length rs) (number r) ≡ column number (rs ++ r ∷ [])
+  column-more r h =
+      let same = length-map rs number in
+      rw (map-append number rs (r ∷ []), sym same) (padded-more 512 0 (map number rs) (number r) (omega arith))
+
+-- A list stores the runs that it was made of.
+pub runs-stored : (rs : List Stretch) → runsOf (storedRuns rs) ≡ rs
+runs-stored rs =
+    let l = storedRuns rs in
+    let n = runs-length (l .starts) (l .ends) (l .levels) (l .count) in
+    ext-getD noStretch _ rs n
+    (λ i h. run-at (l .starts) (l .ends) (l .levels) i (length rs) (omega arith)
+    ∙ stretch-path _ _ (column-at (λ r. r .start) rs i (omega arith)) (column-at (λ r. r .end) rs i (omega arith)) (column-at (λ r. r .level) rs i (omega arith)))
+
+-- A stretch put behind the runs of a list, which then has n of them; and zeros put there.
+abbrev pub withNext : RunList → Stretch → (n : ℕ) → RunList
+withNext l r n = record { count = n; starts = set (l .starts) (l .count) (r .start); ends = set (l .ends) (l .count) (r .end); levels = set (l .levels) (l .count) (r .level) }
+
+abbrev pub cleared : RunList → RunList
+cleared l = withNext l noStretch (l .count)
+
+stored-cleared : (rs : List Stretch) → cleared (storedRuns rs) ≡ storedRuns rs
+stored-cleared rs = cc (column-clear (λ x. x .start) rs, column-clear (λ x. x .end) rs, column-clear (λ x. x .level) rs)
+
+next-stored : (l : RunList) (rs : List Stretch) (r : Stretch) → l ≡ storedRuns rs → l .count < 512 → withNext l r (l .count + 1) ≡ storedRuns (rs ++ r ∷ [])
+next-stored l rs r e room =
+    let h : length rs < 512 = omega (arith, ap (λ (x : RunList). x .count) e) in
+    rw e (cc (length-append rs (r ∷ []), column-more (λ x. x .start) rs r h, column-more (λ x. x .end) rs r h, column-more (λ x. x .level) rs r h))
+
+-- What is put behind stored runs is one more of them, or nothing where it is not counted.
+module _ (l : RunList) (rs : List Stretch) (r : Stretch) (e : cleared l ≡ storedRuns rs) where
+  pub stored-more : l .count < 512 → cleared (withNext l r (l .count + 1)) ≡ storedRuns (rs ++ r ∷ [])
+  stored-more room = ap cleared (simp set-set at (next-stored (cleared l) rs r e room)) ∙ stored-cleared (rs ++ r ∷ [])
+
+  pub stored-same : cleared (withNext l r (l .count)) ≡ storedRuns rs
+  stored-same = simp set-set e

@@ -63,7 +63,7 @@ module _ (keys ends : List ℕ) (n G : ℕ) where
       }
 
 -- Up to 256 sound envelopes have up to 511 runs.
-pub few-runs : (es : List Stretch) (G : ℕ) → AllSound es → length es ≤ 256 → length (requiredRuns es G) ≤ mostRuns
+few-runs : (es : List Stretch) (G : ℕ) → AllSound es → length es ≤ 256 → length (requiredRuns es G) ≤ mostRuns
 unfolding isRunList
 few-runs es G sound h =
     leb-true _ _ (and-left (leb (length (requiredRuns es G)) mostRuns) _ (required-run-list es G (λ e m. sound e m .long) (λ e m. sound e m .ends) h))

@@ -1,13 +1,13 @@
--- What a stored list of envelopes holds, and the run list that is built of it.
+-- What a stored list of envelopes holds, and runs as they are stored.
 -- Assumes nothing.
 use Prim.Native.Nat.{ℕ, _≤_, _<_}
-use mathlib.Core.Path.{_≡_}
-use mathlib.Core.List.{List·Memᴰ}
+use mathlib.Core.List.{List, map, List·Memᴰ}
+use lib.ListN.{length}
+use Rattle.refusal.specs.Stored.{padded}
 use Rattle.runs.specs.declared.Stretch.{Stretch}
 use Rattle.runs.specs.declared.Envelopes.{Envelopes}
 use Rattle.runs.specs.declared.RunList.{RunList}
-use Rattle.runs.specs.RunList.{mostRuns, lastStation, runsOf, envelopesOf}
-use Rattle.runs.specs.Required.{requiredRuns}
+use Rattle.runs.specs.RunList.{lastStation, envelopesOf}
 
 -- At most 256 envelopes, each of one millimetre or more, of level 1 to 6, and ending by the last station.
 pub record StoredEnvelopes (e : Envelopes) : Type 0 where
@@ -16,7 +16,10 @@ pub record StoredEnvelopes (e : Envelopes) : Type 0 where
   pub levels : (s : Stretch) → List·Memᴰ s (envelopesOf e) → (1 ≤ s .level) × (s .level ≤ 6)
   pub ends : (s : Stretch) → List·Memᴰ s (envelopesOf e) → s .end ≤ lastStation
 
--- The stored runs are the required ones, and they fit a run list.
-pub record RequiredRuns (e : Envelopes) (G : ℕ) (r : RunList) : Type 0 where
-  pub runs : runsOf r ≡ requiredRuns (envelopesOf e) G
-  pub count : r .count ≤ mostRuns
+-- A number of each run, in 512 places: zeros stand behind.
+abbrev pub column : (number : Stretch → ℕ) → List Stretch → List ℕ
+column number rs = padded 512 0 (map number rs)
+
+-- Runs as they are stored.
+abbrev pub storedRuns : List Stretch → RunList
+storedRuns rs = record { count = length rs; starts = column (λ r. r .start) rs; ends = column (λ r. r .end) rs; levels = column (λ r. r .level) rs }

@@ -6,8 +6,10 @@ use super::sort::sort;
 use super::sweep::swept_runs;
 ghost use mathlib.Core.Path.{_≡_};
 ghost use Prim.Native.Nat.{_<_};
+ghost use Rattle.runs.specs.RunList.{envelopesOf};
+ghost use Rattle.runs.specs.Required.{requiredRuns};
 ghost use Rattle.runs.specs.Steps.{keyOf};
-ghost use Rattle.runs.specs.Stored.{StoredEnvelopes, RequiredRuns};
+ghost use Rattle.runs.specs.Stored.{StoredEnvelopes, storedRuns};
 
 // Keys rise as the starts do; a key says where its envelope stands.
 fn key_of(e: Stretch, index: usize) -> u64
@@ -20,7 +22,7 @@ fn key_of(e: Stretch, index: usize) -> u64
 // The required runs of the envelopes.
 pub fn required_runs(envelopes: Envelopes, continuity: u32) -> RunList
     requires { ⌜ StoredEnvelopes envelopes ⌝ }
-    ensures { λ r. ⌜ RequiredRuns envelopes continuity r ⌝ }
+    ensures { λ r. ⌜ r ≡ storedRuns (requiredRuns (envelopesOf envelopes) continuity) ⌝ }
 {
     let mut keys: [u64; 256] = [0; 256];
     let mut ends: [u32; 256] = [0; 256];

@@ -5,8 +5,9 @@ ghost use mathlib.Core.List.{List};
 ghost use Prim.Native.Nat.{ℕ, _+_, _-_, _≤_, _<_, min, max};
 ghost use lib.ListN.{length, getD};
 ghost use Rattle.refusal.specs.Choice.{if_then_else_};
-ghost use Rattle.runs.specs.RunList.{runsOf, mostRuns};
+ghost use Rattle.runs.specs.RunList.{mostRuns};
 ghost use Rattle.runs.specs.Required.{requiredRuns};
+ghost use Rattle.runs.specs.Stored.{storedRuns};
 ghost use Rattle.runs.specs.Breaks.{levelOf, breaksTo, cut, setFrom, runsBelow};
 ghost use Rattle.runs.specs.Stand.{bit, aboveTo, Raised, filledFrom, lifted};
 ghost use Rattle.runs.specs.Steps.{breakPlaces, Places, Room, Drained, Stepped, envelopesTo, Sweepable, Swept};
@@ -237,7 +238,7 @@ fn runs_of(starts: &[u32], levels: &[u8], count: usize) -> RunList
     requires { ⌜ Places (now starts) (now levels) ⌝ }
     requires { ⌜ count ≤ breakPlaces ⌝ }
     requires { ⌜ length (runsBelow (getD (now starts) (count - 1) 0) (breaksTo (now starts) (now levels) (count - 1))) ≤ mostRuns ⌝ }
-    ensures { λ r. ⌜ runsOf r ≡ runsBelow (getD (now (starts .entry)) (count - 1) 0) (breaksTo (now (starts .entry)) (now (levels .entry)) (count - 1)) ⌝ }
+    ensures { λ r. ⌜ r ≡ storedRuns (runsBelow (getD (now (starts .entry)) (count - 1) 0) (breaksTo (now (starts .entry)) (now (levels .entry)) (count - 1))) ⌝ }
 {
     let mut run_starts: [u32; 512] = [0; 512];
     let mut run_ends: [u32; 512] = [0; 512];
@@ -252,6 +253,10 @@ fn runs_of(starts: &[u32], levels: &[u8], count: usize) -> RunList
         k += one_if(0 < level);
         i += 1;
     }
+    // A break point of level 0 leaves its stations behind the runs.
+    run_starts[k] = 0;
+    run_ends[k] = 0;
+    run_levels[k] = 0;
     RunList {
         count: k,
         starts: run_starts,
@@ -263,7 +268,7 @@ fn runs_of(starts: &[u32], levels: &[u8], count: usize) -> RunList
 // The required runs of n envelopes whose keys rise.
 pub fn swept_runs(keys: &[u64], ends: &[u32], n: usize, g: u32) -> RunList
     requires { ⌜ Sweepable (now keys) (now ends) n ⌝ }
-    ensures { λ r. ⌜ runsOf r ≡ requiredRuns (envelopesTo (now (keys .entry)) (now (ends .entry)) n) g ⌝ }
+    ensures { λ r. ⌜ r ≡ storedRuns (requiredRuns (envelopesTo (now (keys .entry)) (now (ends .entry)) n) g) ⌝ }
 {
     let mut starts: [u32; 512] = [0; 512];
     let mut levels: [u8; 512] = [0; 512];

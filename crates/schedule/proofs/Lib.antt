@@ -1,13 +1,4 @@
 pub mod WriteLaws
 pub mod ScheduleLaws
-pub mod WalkLaws
-pub mod StepLaws
-pub mod CallLaws
 pub mod PlanLaws
-pub mod QuantityLaws
-pub mod PlaceLaws
-pub mod DemandLaws
-pub mod FormulaLaws
-pub mod QueryLaws
-pub mod CaseLaws
-pub mod RefusalLaws
+pub mod PlannedLaws

@@ -1,10 +1,6 @@
 -- The paper's definitions.
 pub mod Schedule
-pub mod Calls
-pub mod Place
-pub mod Demands
-pub mod Cases
+pub mod Plan
+pub mod Planned
 -- Steps of the code, proved equal to them.
 pub mod Writing
-pub mod Walk
-pub mod Query

@@ -11,8 +11,8 @@ ghost use Prim.Native.Nat.{_≤_, _<_};
 ghost use lib.ListN.{length};
 ghost use Rattle.runs.specs.RunList.{isRunList, runsOf};
 ghost use Rattle.schedule.specs.Schedule.{writeSchedule};
-ghost use Rattle.schedule.specs.Calls.{fitted, planReply, bytesWritten, outputAfter};
-ghost use Rattle.schedule.specs.Calls as calls;
+ghost use Rattle.schedule.specs.Plan.{fitted, planReply, bytesWritten, outputAfter};
+ghost use Rattle.schedule.specs.Plan as spec;
 
 // The bytes that the schedule needs, counted where the room is less than a proved bound on every schedule; with more, none lacks room.
 fn bytes_needed(list: RunList, room: usize) -> usize
@@ -40,8 +40,8 @@ fn place(out: &mut [u8], list: RunList) -> Plan
 
 // The schedule of a side of the job, written into the output; or the first refusal, and nothing written.
 pub fn plan(job: &[u8], side: u64, out: &mut [u8]) -> Plan
-    ensures { λ r. ⌜ planReply r ≡ bytesWritten (calls.plan (now (job .entry)) side (length (now (out .entry)))) ⌝ }
-    ensures { λ _. ⌜ now (out .exit) ≡ outputAfter (calls.plan (now (job .entry)) side (length (now (out .entry)))) (now (out .entry)) ⌝ }
+    ensures { λ r. ⌜ planReply r ≡ bytesWritten (spec.plan (now (job .entry)) side (length (now (out .entry)))) ⌝ }
+    ensures { λ _. ⌜ now (out .exit) ≡ outputAfter (spec.plan (now (job .entry)) side (length (now (out .entry)))) (now (out .entry)) ⌝ }
 {
     if 1 < side {
         return Plan::Refused(Refusal::Argument);

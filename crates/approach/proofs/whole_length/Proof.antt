@@ -3,12 +3,12 @@
 use native.Mathlib.Omega.{arith}
 use mathlib.Core.Path.{refl}
 use Rattle.approach.specs.Approach.{ceilDiv, approachLength}
-use Rattle.approach.proofs.ApproachLaws.{in-domain, Sizes, sizes}
+use Rattle.approach.proofs.ApproachLaws.{Sizes, sizes}
 use Rattle.approach.proofs.whole_length.Statement.{statement}
 use Rattle.approach.proofs.whole_length.Tie as tie
 
 known : (c : tie.Start) → Sizes (c .args .along) (c .args .across) (c .args .straight) (c .args .runout) (c .args .reach) (c .args .offset)
-known c = sizes _ _ _ _ _ _ (in-domain _ _ _ _ _ _ (c .pre))
+known c = sizes _ _ _ _ _ _ (c .pre)
 
 returns : tie.Need-returns
 unfolding approachLength ceilDiv

@@ -5,9 +5,9 @@ use mathlib.Core.Path.{_≡_, sym, ap, _∙_}
 use borrow.Author.Needs.{needs}
 use Rattle.refusal.specs.Answer.{accepted}
 use Rattle.number.proofs.NumberLaws.{index-bytes}
-use Rattle.schedule.specs.Calls.{found, lookup}
-use Rattle.schedule.specs.Place.{between, locatedReply}
-use Rattle.schedule.proofs.PlaceLaws.{lookup-within}
+use Rattle.queries.specs.Lookup.{found, lookup}
+use Rattle.queries.specs.Place.{between, locatedReply}
+use Rattle.queries.proofs.PlaceLaws.{lookup-within}
 use Rattle.barrier_engine.specs.Interface.{recordOf}
 use Rattle.barrier_engine.proofs.barrier_lookup.Statement.{statement}
 use Rattle.barrier_engine.proofs.barrier_lookup.Tie as tie

@@ -1,7 +1,7 @@
 -- `barrier_engine::barrier_plan` meets its contract: plan's reply, case by case, and plan's memory. Assumes nothing.
 use mathlib.Core.Path.{sym, ap, _∙_}
 use borrow.Author.Needs.{needs}
-use Rattle.schedule.specs.Calls.{planReply}
+use Rattle.schedule.specs.Plan.{planReply}
 use Rattle.barrier_engine.specs.Interface.{replyOf}
 use Rattle.barrier_engine.proofs.barrier_plan.Statement.{statement}
 use Rattle.barrier_engine.proofs.barrier_plan.Tie as tie

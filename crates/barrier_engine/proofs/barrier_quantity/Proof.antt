@@ -1,7 +1,7 @@
 -- `barrier_engine::barrier_quantity` meets its contract: quantity's reply, case by case. Assumes nothing.
 use mathlib.Core.Path.{sym, ap, _∙_}
 use borrow.Author.Needs.{needs}
-use Rattle.schedule.specs.Calls.{quantityReply}
+use Rattle.queries.specs.Quantity.{quantityReply}
 use Rattle.barrier_engine.specs.Interface.{replyOf}
 use Rattle.barrier_engine.proofs.barrier_quantity.Statement.{statement}
 use Rattle.barrier_engine.proofs.barrier_quantity.Tie as tie

@@ -24,7 +24,7 @@ start c = c .before .before .before .before .before .before .before
 sides : (c : tie.After-side-runs2) → Sides (start c .args .job .now) (c .before .before .before .side-runs .result) (c .side-runs2 .result)
 sides c =
     let first = c .before .before .before .side-runs in
-    sides-done (start c .args .job .now) (first .result) (first .ensures) (c .side-runs2 .result) (c .side-runs2 .ensures) (c .before .enum-told .given .1)
+    sides-done (start c .args .job .now) (first .result) (first .ensures .0) (c .side-runs2 .result) (c .side-runs2 .ensures .0) (c .before .enum-told .given .1)
 
 put-runs-requires : tie.Need-put-runs-requires
 put-runs-requires c κs =
@@ -46,7 +46,7 @@ returns-3 c =
     let r = c .before .before .before .before .before .before .before in
     let a = r .before .before .before .before .before .before .args in
     let first = r .before .before .side-runs in
-    let told = sides-refused (a .job .now) (first .result) (first .ensures) (r .outcome .given .0 .0) (r .outcome .given .1) in
+    let told = sides-refused (a .job .now) (first .result) (first .ensures .0) (r .outcome .given .0 .0) (r .outcome .given .1) in
     text-printed (a .job .now) (a .text .now) (r .before .before .before .if1 .left)
     (rw told (rw (c .before .before .before .before .before .refusal-number .ensures, c .before .before .before .before .refusal-value .ensures) at (c .before .before .put-refused .ensures)))
 

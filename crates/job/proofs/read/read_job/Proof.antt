@@ -6,7 +6,7 @@ use borrow.Author.Needs.{needs}
 use Rattle.refusal.specs.Answer.{accepted}
 use Rattle.job.specs.Reply.{headerAt, headerAnswer}
 use Rattle.job.proofs.JobLaws.{header-at-fits}
-use Rattle.job.proofs.RestLaws.{job-step}
+use Rattle.job.proofs.RestLaws.{job-step, replies-refused}
 use Rattle.job.proofs.read.read_job.Statement.{statement}
 use Rattle.job.proofs.read.read_job.Tie as tie
 
@@ -18,14 +18,14 @@ read-rest-requires : tie.Need-read-rest-requires
 read-rest-requires c κs = let fits = header-at-fits _ _ (read (c .before)) in (omega (arith, fits .road), fits .count)
 
 returns : tie.Need-returns
-returns c = c .read-rest .ensures ∙ sym (job-step _ ∙ rw (read (c .before .before)))
+returns c = rw (job-step (c .before .before .before .before .before .before .args .s .now), read (c .before .before)) (c .read-rest .ensures)
 
 returns-2 : tie.Need-returns-2
 returns-2 c =
-    let r = c .before .before .before in
-    sym (job-step _ ∙ rw (sym (r .before .before .read-header .ensures) ∙ ap headerAnswer (r .refusal .given .1)))
+    let r = c .before .before in
+    replies-refused (c .refused .ensures) (sym (job-step _ ∙ rw (sym (r .before .before .read-header .ensures) ∙ ap headerAnswer (r .refusal .given .1))))
 
 pub read-job-spec : {M : Type 1} → statement M
 read-job-spec =
     tie.close
-    (tie.spec (λ c κs. search needs) (λ c. search needs) read-rest-requires (λ c. search needs) (λ c κs. search needs) (λ c κs. search needs) returns returns-2)
+    (tie.spec (λ c κs. search needs) (λ c. search needs) read-rest-requires (λ c. search needs) (λ c κs. search needs) returns returns-2)

@@ -1,8 +1,10 @@
 -- `planning::side::job_runs` meets its contract: what `side_envelopes` gives fits the builder of runs. Assumes nothing.
-use mathlib.Core.Path.{sym, ap, _∙_}
+use mathlib.Core.Path.{refl, ap, _∙_}
 use borrow.Author.Needs.{needs}
 use Rattle.refusal.specs.Answer.{accepted}
 use Rattle.job.specs.Job.{jobOf}
+use Rattle.runs.specs.RunList.{runsOf}
+use Rattle.runs.proofs.StoredLaws.{runs-stored}
 use Rattle.planning.proofs.SideLaws.{stored-envelopes, runs-done, runs-refused}
 use Rattle.planning.proofs.side.job_runs.Statement.{statement}
 use Rattle.planning.proofs.side.job_runs.Tie as tie
@@ -17,13 +19,14 @@ returns : tie.Need-returns
 returns c =
     let s = c .before .before .before .before .before .before in
     let tested = c .before .before .before .before .before .side-envelopes in
-    ap accepted (c .required-runs .ensures .runs) ∙ sym (runs-done (jobOf (s .args .job)) (s .args .side) (tested .result) (tested .ensures .0) (c .before .before .before .enum-told .given .1))
+    rw (runs-done (jobOf (s .args .job)) (s .args .side) (tested .result) (tested .ensures .0) (c .before .before .before .enum-told .given .1))
+    (ap accepted (ap runsOf (c .required-runs .ensures) ∙ runs-stored _), c .required-runs .ensures)
 
 returns-2 : tie.Need-returns-2
 returns-2 c =
-    let s = c .before .before .before .before .before in
-    let tested = c .before .before .before .before .side-envelopes in
-    sym (runs-refused (jobOf (s .args .job)) (s .args .side) (tested .result) (tested .ensures .0) (c .before .before .outcome .given .1))
+    let s = c .before .before .before .before in
+    let tested = c .before .before .before .side-envelopes in
+    rw (runs-refused (jobOf (s .args .job)) (s .args .side) (tested .result) (tested .ensures .0) (c .before .outcome .given .1)) (refl, refl)
 
 pub job-runs-spec : {M : Type 1} → statement M
 job-runs-spec =
@@ -33,6 +36,5 @@ job-runs-spec =
     (λ c. search needs)
     required-runs-requires
     (λ c. search needs)
-    (λ c κs. search needs)
     returns
     returns-2)

@@ -2,9 +2,10 @@
 -- Assumes nothing.
 use Prim.Native.Nat.{_-_, _≤_}
 use native.Mathlib.Omega.{arith}
-use mathlib.Core.Path.{_≡_, refl, _∙_}
+use mathlib.Core.Path.{_≡_, refl, ap, _∙_}
 use lib.ListN.{length, length-map}
-use Rattle.runs.proofs.KeyLaws.{Keyed, keyed-none, keyed-turn, sortable, sweepable, stored-runs, stored-required}
+use Rattle.runs.specs.Stored.{storedRuns}
+use Rattle.runs.proofs.KeyLaws.{Keyed, keyed-none, keyed-turn, sortable, sweepable, stored-runs}
 use borrow.Author.Needs.{needs}
 use Rattle.runs.proofs.required.required_runs.Statement.{statement}
 use Rattle.runs.proofs.required.required_runs.Tie as tie
@@ -49,8 +50,8 @@ returns c =
     let l = c .before .before .before .before .before .before .loop in
     let start = c .before .before .before .before .before .before .before in
     let sorting = c .before .before .before .sort in
-    stored-required (start .args .t1) (start .pre) (full start) (start .args .continuity) (c .swept-runs .result) (c .swept-runs .ensures
-    ∙ stored-runs (start .args .t1) (start .pre) (full start) (l .keys) (l .ends) (start .args .t1 .count) refl (all-keyed (c .before .before .before .before .before)) (l .inv .1) (l .inv .2) _ (sorting .ensures) (start .args .continuity))
+    c .swept-runs .ensures
+    ∙ ap storedRuns (stored-runs (start .args .t1) (start .pre) (full start) (l .keys) (l .ends) (start .args .t1 .count) refl (all-keyed (c .before .before .before .before .before)) (l .inv .1) (l .inv .2) _ (sorting .ensures) (start .args .continuity))
 
 pub required-runs-spec : {M : Type 1} → statement M
 required-runs-spec =

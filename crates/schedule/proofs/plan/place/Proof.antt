@@ -7,8 +7,8 @@ use borrow.Author.Needs.{needs}
 use Rattle.refusal.specs.Answer.{accepted, refused}
 use Rattle.runs.specs.RunList.{runsOf}
 use Rattle.schedule.specs.Schedule.{writeSchedule}
-use Rattle.schedule.specs.Calls.{bytesWritten}
-use Rattle.schedule.proofs.CallLaws.{fitted-fits, fitted-short, placed-first}
+use Rattle.schedule.specs.Plan.{bytesWritten}
+use Rattle.schedule.proofs.PlanLaws.{fitted-fits, fitted-short, placed-first}
 use Rattle.schedule.proofs.plan.place.Statement.{statement}
 use Rattle.schedule.proofs.plan.place.Tie as tie
 

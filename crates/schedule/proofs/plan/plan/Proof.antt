@@ -4,7 +4,7 @@ use native.Mathlib.Omega.{arith}
 use mathlib.Core.Path.{refl}
 use lib.ListN.{length}
 use borrow.Author.Needs.{needs}
-use Rattle.schedule.specs.Calls.{bytesWritten}
+use Rattle.schedule.specs.Plan.{bytesWritten}
 use Rattle.schedule.proofs.PlanLaws.{plan-bad-side, runs-listed, plan-done, plan-refused}
 use Rattle.schedule.proofs.plan.plan.Statement.{statement}
 use Rattle.schedule.proofs.plan.plan.Tie as tie
@@ -19,14 +19,14 @@ place-requires : tie.Need-place-requires
 place-requires c κs =
     let a = c .before .before .before .before .before .before .before .before .args in
     let planned = c .before .before .before .before .side-runs in
-    runs-listed (a .job .now) (a .side) (planned .result) (planned .ensures) (c .before .before .enum-told .given .1)
+    runs-listed (a .job .now) (a .side) (planned .result) (planned .ensures .0) (c .before .before .enum-told .given .1)
 
 returns-2 : tie.Need-returns-2
 returns-2 c =
     let a = c .before .before .before .before .before .before .before .before .before .before .before .args in
     let planned = c .before .before .before .before .before .before .before .side-runs in
     let side : a .side ≤ 1 = omega arith in
-    rw (plan-done (a .job .now) (a .side) (planned .result) (planned .ensures) (length (a .out .now)) side (c .before .before .before .before .before .enum-told .given .1))
+    rw (plan-done (a .job .now) (a .side) (planned .result) (planned .ensures .0) (length (a .out .now)) side (c .before .before .before .before .before .enum-told .given .1))
     (c .before .before .place .ensures)
 
 returns-3 : tie.Need-returns-3
@@ -35,7 +35,7 @@ returns-3 c =
     let a = c .before .before .before .before .before .before .before .args in
     let planned = c .before .before .before .side-runs in
     let side : a .side ≤ 1 = omega arith in
-    rw (plan-refused (a .job .now) (a .side) (planned .result) (planned .ensures) (length (a .out .now)) (c .before .outcome .given .0 .0) side (c .before .outcome .given .1)) (refl, refl)
+    rw (plan-refused (a .job .now) (a .side) (planned .result) (planned .ensures .0) (length (a .out .now)) (c .before .outcome .given .0 .0) side (c .before .outcome .given .1)) (refl, refl)
 
 pub plan-spec : {M : Type 1} → statement M
 plan-spec =

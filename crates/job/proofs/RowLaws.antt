@@ -1,0 +1,191 @@
+-- The rows of document 01's table that the reading of a job returns: exactly when, and with what value.
+-- Assumes nothing.
+use Prim.Native.Nat.{ℕ, zero, suc, _+_, _≤_}
+use native.Mathlib.Omega.{arith}
+use native.Mathlib.Nat.{zero-add}
+use mathlib.Core.Path.{_≡_, refl, sym, subst, ap, _∙_}
+use mathlib.Core.Logic.{_↔_}
+use mathlib.Core.Bool.{Bool, true, false}
+use mathlib.Core.List.{List, [], _∷_, _++_, append-assoc, append-nil, List·Memᴰ·not-nil}
+use lib.ListN.{length, drop, length-append, length-drop, drop-of-length-le}
+use lib.Dec.{leb}
+use borrow.Author.Tests.{leb-true, leb-false}
+use Rattle.refusal.specs.Answer.{Answer, accepted, refused, _>>=_, unless-refuse}
+use Rattle.refusal.specs.Refusal.{numberOf, valueOf, refusal}
+use Rattle.refusal.specs.declared.Refusal.{Refusal}
+use Rattle.refusal.specs.declared.Refusal.the-variants as row
+use Rattle.refusal.proofs.EachLaws.{snoc-each}
+use Rattle.refusal.proofs.RowLaws.{same-row}
+use Rattle.number.specs.declared.Read.{Read}
+use Rattle.number.specs.declared.Read.the-variants.{Number, Ended, Malformed}
+use Rattle.number.specs.Number.{writeNumber, greatest, readNumber, readingOf, numberAt}
+use Rattle.number.proofs.NumberLaws.{Bytes, read-stands}
+use Rattle.number.proofs.FormLaws.{read-ended, read-malformed}
+use Rattle.job.specs.declared.Header.{Header}
+use Rattle.job.specs.declared.Hazard.{Hazard}
+use Rattle.job.specs.Job.{Job, Range, within, nextInHeader, nextInHazard, Fields, readFields, readHeader, headerOf, hazardOf, Hazards, readHazards, readRest, readJob}
+use Rattle.job.specs.Writing.{headerNumbers, hazardNumbers, hazardsNumbers, numbersOf, writeNumbers, writeJob}
+use Rattle.job.specs.Rows.{Group, ofHeader, ofHazard, HasGroup, sizeOf, nextIn, numbersBefore, InRanges, BeforeInRanges, Stands, behind, Next, OutOfRange, ReadRow}
+use Rattle.job.proofs.JobLaws.{FieldsIn, fields-in}
+use Rattle.job.proofs.StandLaws.{numbers-append, outNumber, outValue, row-refused}
+
+-- A header or hazard has the numbers that it was made of.
+header-own : (numbers : List ℕ) → FieldsIn nextInHeader 14 [] numbers → headerNumbers (headerOf numbers) ≡ numbers
+header-own numbers f = subst (λ (l : List ℕ). headerNumbers (headerOf l) ≡ l) (f .2 .2 .2 .2 .2 .2 .2 .2 .2 .2 .2 .2 .2 .2) refl
+
+hazard-own : (h : Header) (numbers : List ℕ) → FieldsIn (nextInHazard h) 6 [] numbers → hazardNumbers (hazardOf numbers) ≡ numbers
+hazard-own h numbers f = subst (λ (l : List ℕ). hazardNumbers (hazardOf l) ≡ l) (f .2 .2 .2 .2 .2 .2) refl
+
+-- A number more behind others that are in their ranges.
+ranges-more : (rangeOf : List ℕ → Range) (got xs : List ℕ) (x : ℕ) → InRanges rangeOf got xs → within (rangeOf (got ++ xs)) x ≡ true → x ≤ greatest → InRanges rangeOf got (xs ++ x ∷ [])
+ranges-more rangeOf got [] x fit w top = ((rw append-nil at w, top), tt)
+ranges-more rangeOf got (y ∷ xs) x fit w top = (fit .0, ranges-more rangeOf (got ++ y ∷ []) xs x (fit .1) (rw (append-assoc got (y ∷ []) xs) w) top)
+
+hazards-append : (zs ys : List Hazard) → hazardsNumbers (zs ++ ys) ≡ hazardsNumbers zs ++ hazardsNumbers ys
+unfolding hazardsNumbers
+hazards-append [] ys = refl
+hazards-append (z ∷ zs) ys = rw (hazards-append zs ys) (sym (append-assoc (hazardNumbers z) (hazardsNumbers zs) (hazardsNumbers ys)))
+
+module _ (s : List ℕ) where
+  -- The reading has come to a place.
+  record At (g : Group) (got : List ℕ) (at : ℕ) : Type 0 where
+    stands : Stands s g got (drop at s)
+    index : at ≡ behind g got
+
+  -- The row of a number and a value holds.
+  record Holds (n v : ℕ) : Type 0 where
+    which : Refusal
+    number : numberOf which ≡ n
+    value : valueOf which ≡ v
+    row : ReadRow which s
+
+  -- What an answer of each reader says.
+  abbrev GroupRead : Group → Answer Fields → Type 0
+  GroupRead g (accepted f) = At g (f .numbers) (f .next)
+  GroupRead g (refused n v) = Holds n v
+
+  abbrev HazardsRead : Header → Answer Hazards → Type 0
+  HazardsRead h (accepted r) = At (ofHazard h (r .list)) [] (r .next) × (length (r .list) ≡ h .count)
+  HazardsRead h (refused n v) = Holds n v
+
+  abbrev JobRead : Answer Job → Type 0
+  JobRead (accepted j) = s ≡ writeJob j
+  JobRead (refused n v) = Holds n v
+
+module _ {s : List ℕ} (b : Bytes s) where
+  at-more : {g : Group} {got : List ℕ} {at : ℕ} (x n : ℕ) → At s g got at → readNumber s at ≡ Number x n → within (nextIn g got) x ≡ true → At s g (got ++ x ∷ []) n
+  unfolding writeNumbers
+  at-more {g} {got} {at} x n here e w =
+      let number = read-stands s at x n b e in
+      let W = writeNumbers (numbersBefore g ++ got) in
+      let more : writeNumbers (numbersBefore g ++ (got ++ x ∷ [])) ≡ W ++ writeNumber x = rw (← append-assoc) (numbers-append (numbersBefore g ++ got) (x ∷ []) ∙ rw append-nil) in
+      record {
+        stands = record {
+          before = here .stands .before;
+          own = ranges-more (nextIn g) [] got x (here .stands .own) w (number .fits);
+          bytes = here .stands .bytes ∙ rw (number .split, more) (sym (append-assoc W (writeNumber x) (drop n s)));
+        };
+        index = omega (arith, here .index, number .next, ap length more, length-append W (writeNumber x));
+      }
+
+  outside-holds : (g : Group) (got : List ℕ) → OutOfRange s g got → Holds s (outNumber g) (outValue g got)
+  outside-holds ofHeader got o = record { which = row.HeaderRange (length got + 1); number = refl; value = refl; row = (got, o, refl) }
+  outside-holds (ofHazard h zs) got o = record { which = row.HazardRange (length zs); number = refl; value = refl; row = (h, zs, got, o, refl) }
+
+  group-read : (g : Group) → HasGroup g → (k : ℕ) (got : List ℕ) (at : ℕ) → length got + k ≡ sizeOf g → At s g got at
+      → GroupRead s g (readFields (nextIn g) (outNumber g) (outValue g) k got s at)
+  unfolding readFields numberAt
+  group-read g has zero got at size here = here
+  group-read g has (suc k) got at size here = go (readNumber s at) refl (group-read g has k)
+    where
+      next : Next s g got (drop at s)
+      next = record { has = has; more = omega arith; stands = here .stands }
+
+      Later : Type 0
+      Later = (l : List ℕ) (i : ℕ) → length l + k ≡ sizeOf g → At s g l i → GroupRead s g (readFields (nextIn g) (outNumber g) (outValue g) k l s i)
+
+      tested : (x n : ℕ) → readNumber s at ≡ Number x n → (t : Bool) → within (nextIn g got) x ≡ t → Later
+          → GroupRead s g (unless-refuse t (outNumber g) (outValue g got) >>= λ _. readFields (nextIn g) (outNumber g) (outValue g) k (got ++ x ∷ []) s n)
+      tested x n e true w later = later (got ++ x ∷ []) n (rw length-append (omega arith)) (at-more x n here e w)
+      tested x n e false w later =
+          let number = read-stands s at x n b e in
+          outside-holds g got (record { number = x; rest = drop n s; next = subst (Next s g got) (number .split) next; fits = number .fits; outside = w })
+
+      go : (c : Read) → readNumber s at ≡ c → Later
+          → GroupRead s g (readingOf at c >>= λ x. unless-refuse (within (nextIn g got) (x .value)) (outNumber g) (outValue g got) >>= λ _. readFields (nextIn g) (outNumber g) (outValue g) k (got ++ x .value ∷ []) s (x .next))
+      go (Number x n) e later = tested x n e (within (nextIn g got) x) refl later
+      go Ended e later = record { which = row.Ended at; number = refl; value = refl; row = record { group = g; got = got; rest = drop at s; next = next; fault = read-ended s at .0 e; begins = here .index } }
+      go Malformed e later = record { which = row.Malformed at; number = refl; value = refl; row = record { group = g; got = got; rest = drop at s; next = next; fault = read-malformed s at .0 e; begins = here .index } }
+
+  -- The same numbers, taken to another group.
+  at-group : {g q : Group} {got own : List ℕ} {at : ℕ} → numbersBefore g ++ got ≡ numbersBefore q ++ own → BeforeInRanges q → InRanges (nextIn q) [] own → At s g got at → At s q own at
+  at-group {at = at} same before fit here =
+      record {
+        stands = record { before = before; own = fit; bytes = here .stands .bytes ∙ ap (λ (l : List ℕ). writeNumbers l ++ drop at s) same };
+        index = here .index ∙ ap (λ (l : List ℕ). length (writeNumbers l)) same;
+      }
+
+  at-first : {numbers : List ℕ} {at : ℕ} → headerNumbers (headerOf numbers) ≡ numbers → At s ofHeader numbers at → At s (ofHazard (headerOf numbers) []) [] at
+  unfolding numbersOf hazardsNumbers
+  at-first {numbers} own here =
+      at-group (sym own ∙ simp append-nil) (subst (InRanges nextInHeader []) (sym own) (here .stands .own), λ z m. absurd (List·Memᴰ·not-nil m)) tt here
+
+  at-next : {h : Header} {zs : List Hazard} {numbers : List ℕ} {at : ℕ} → hazardNumbers (hazardOf numbers) ≡ numbers → At s (ofHazard h zs) numbers at → At s (ofHazard h (zs ++ hazardOf numbers ∷ [])) [] at
+  unfolding numbersOf hazardsNumbers
+  at-next {h} {zs} {numbers} own here =
+      let fit = subst (InRanges (nextInHazard h) []) (sym own) (here .stands .own) in
+      at-group (simp (append-nil, hazards-append, own, append-assoc))
+      (here .stands .before .0, snoc-each (λ z. InRanges (nextInHazard h) [] (hazardNumbers z)) zs (here .stands .before .1) fit) tt here
+
+  hazards-read : (h : Header) (k : ℕ) (zs : List Hazard) (at : ℕ) → length zs + k ≡ h .count → At s (ofHazard h zs) [] at → HazardsRead s h (readHazards h k zs s at)
+  unfolding readHazards
+  hazards-read h zero zs at size here = (here, omega arith)
+  hazards-read h (suc k) zs at size here =
+      go (readFields (nextInHazard h) 4 (λ _. length zs) 6 [] s at) refl (group-read (ofHazard h zs) (omega arith) 6 [] at refl here) (hazards-read h k)
+    where
+      go : (a : Answer Fields) → readFields (nextInHazard h) 4 (λ _. length zs) 6 [] s at ≡ a → GroupRead s (ofHazard h zs) a
+          → ((ys : List Hazard) (i : ℕ) → length ys + k ≡ h .count → At s (ofHazard h ys) [] i → HazardsRead s h (readHazards h k ys s i))
+          → HazardsRead s h (a >>= λ f. readHazards h k (zs ++ hazardOf (f .numbers) ∷ []) s (f .next))
+      go (accepted f) e r later =
+          let own = hazard-own h (f .numbers) (fields-in (nextInHazard h) 4 (λ _. length zs) 6 [] s at f e) in
+          later (zs ++ hazardOf (f .numbers) ∷ []) (f .next) (rw length-append (omega arith)) (at-next own r)
+      go (refused n v) e r later = r
+
+  job-read : JobRead s (readJob s)
+  unfolding readJob readRest readHeader writeNumbers writeJob
+  job-read = header (readHeader s) refl (group-read ofHeader tt 14 [] 0 refl (record { stands = record { before = tt; own = tt; bytes = refl }; index = refl }))
+    where
+      over : (h : Header) (r : Hazards) → At s (ofHazard h (r .list)) [] (r .next) → length (r .list) ≡ h .count → (t : Bool) → leb (length s) (r .next) ≡ t
+          → JobRead s (unless-refuse t 7 (r .next) >>= λ _. accepted (record { header = h; hazards = r .list }))
+      over h r here size true l = here .stands .bytes ∙ rw (drop-of-length-le s (leb-true _ _ l)) (simp append-nil)
+      over h r here size false l =
+          record {
+            which = row.LeftOver (r .next);
+            number = refl;
+            value = refl;
+            row = record { job = record { header = h; hazards = r .list }; rest = drop (r .next) s; all = size; stands = here .stands; some = rw length-drop (omega (arith, leb-false (length s) (r .next) l)); first = here .index };
+          }
+
+      hazards : (h : Header) (a : Answer Hazards) → HazardsRead s h a → JobRead s (a >>= λ r. unless-refuse (leb (length s) (r .next)) 7 (r .next) >>= λ _. accepted (record { header = h; hazards = r .list }))
+      hazards h (accepted r) w = over h r (w .0) (w .1) (leb (length s) (r .next)) refl
+      hazards h (refused n v) w = w
+
+      header : (a : Answer Fields) → readHeader s ≡ a → GroupRead s ofHeader a → JobRead s (a >>= λ f. let h = headerOf (f .numbers) in readRest h (h .count) [] s (f .next))
+      header (accepted f) e w =
+          let h = headerOf (f .numbers) in
+          let own = header-own (f .numbers) (fields-in nextInHeader 3 (λ l. length l + 1) 14 [] s 0 f e) in
+          hazards h (readHazards h (h .count) [] s (f .next)) (hazards-read h (h .count) [] (f .next) (zero-add (h .count)) (at-first own w))
+      header (refused n v) e w = w
+
+-- What was read is the writing of its job.
+pub job-is-written : (s : List ℕ) (j : Job) → Bytes s → readJob s ≡ accepted j → s ≡ writeJob j
+job-is-written s j b e = subst (JobRead s) e (job-read b)
+
+-- The reading refuses a job for what its row says, and for nothing else.
+pub read-exactly : (s : List ℕ) (r : Refusal) → Bytes s → (readJob s ≡ refusal r) ↔ ReadRow r s
+read-exactly s r b = (to, row-refused s r)
+  where
+    to : readJob s ≡ refusal r → ReadRow r s
+    to e =
+        let h : Holds s (numberOf r) (valueOf r) = subst (JobRead s) e (job-read b) in
+        subst (λ (q : Refusal). ReadRow q s) (same-row (h .which) r (h .number) (h .value)) (h .row)

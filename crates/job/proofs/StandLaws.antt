@@ -1,0 +1,153 @@
+-- Numbers that stand in the bytes, each in its range, are read, and the reading goes on behind them: where a row of the table holds, its refusal is returned.
+-- Assumes nothing.
+use Prim.Native.Nat.{ℕ, zero, suc, _+_, _-_, _<_}
+use native.Mathlib.Omega.{arith}
+use mathlib.Core.Path.{_≡_, refl, sym, ap, _∙_}
+use mathlib.Core.List.{List, [], _∷_, _++_, append-assoc, append-nil, List·Memᴰ, List·Memᴰ·head, List·Memᴰ·tail}
+use lib.ListN.{length, drop, length-append}
+use lib.Seq.{drop-drop, drop-append-seam}
+use borrow.Author.Tests.{lt-leb}
+use Rattle.refusal.specs.Answer.{accepted, refused}
+use Rattle.refusal.specs.Refusal.{refusal}
+use Rattle.refusal.specs.declared.Refusal.{Refusal}
+use Rattle.refusal.specs.declared.Refusal.the-variants as row
+use Rattle.number.specs.declared.Read.{Read}
+use Rattle.number.specs.declared.Read.the-variants.{Ended, Malformed}
+use Rattle.number.specs.Number.{writeNumber, readNumber, readingOf, numberAt}
+use Rattle.number.proofs.NumberLaws.{read-number, after-number}
+use Rattle.number.proofs.FormLaws.{read-ended, read-malformed}
+use Rattle.job.specs.declared.Header.{Header}
+use Rattle.job.specs.declared.Hazard.{Hazard}
+use Rattle.job.specs.Job.{Range, nextInHeader, nextInHazard, readFields, readHeader, readHazards, readRest, readJob}
+use Rattle.job.specs.Writing.{headerNumbers, hazardNumbers, hazardsNumbers, numbersOf, writeNumbers}
+use Rattle.job.specs.Rows.{Group, ofHeader, ofHazard, sizeOf, nextIn, numbersBefore, InRanges, Stands, behind, Next, Unread, OutOfRange, BytesAfter, ReadRow}
+
+pub numbers-append : (xs ys : List ℕ) → writeNumbers (xs ++ ys) ≡ writeNumbers xs ++ writeNumbers ys
+unfolding writeNumbers
+numbers-append [] ys = refl
+numbers-append (x ∷ xs) ys = rw (numbers-append xs ys) (sym (append-assoc (writeNumber x) (writeNumbers xs) (writeNumbers ys)))
+
+-- What stands behind a beginning.
+after-part : (s : List ℕ) (at : ℕ) (w rest : List ℕ) → drop at s ≡ w ++ rest → drop (at + length w) s ≡ rest
+after-part s at w rest e = sym (drop-drop (length w) at s) ∙ rw e (drop-append-seam w rest)
+
+-- Numbers of one group.
+fields-behind : (rangeOf : List ℕ → Range) (number : ℕ) (valueOf : List ℕ → ℕ) (m k : ℕ) (xs got s : List ℕ) (at : ℕ) (rest : List ℕ)
+    → m ≡ length xs + k → InRanges rangeOf got xs → drop at s ≡ writeNumbers xs ++ rest
+    → readFields rangeOf number valueOf m got s at ≡ readFields rangeOf number valueOf k (got ++ xs) s (at + length (writeNumbers xs))
+unfolding readFields writeNumbers
+fields-behind rangeOf number valueOf m k [] got s at rest size fit e =
+    rw (append-nil got, (let z : at + 0 ≡ at = omega arith in z), (let z : m ≡ k = omega arith in z))
+fields-behind rangeOf number valueOf zero k (x ∷ xs) got s at rest size fit e = absurd (omega arith)
+fields-behind rangeOf number valueOf (suc m) k (x ∷ xs) got s at rest size fit e =
+    let here : drop at s ≡ writeNumber x ++ (writeNumbers xs ++ rest) = e ∙ append-assoc (writeNumber x) (writeNumbers xs) rest in
+    let later = fields-behind rangeOf number valueOf m k xs (got ++ x ∷ []) s (at + length (writeNumber x)) rest (omega arith) (fit .1) (after-number s at x (writeNumbers xs ++ rest) here) in
+    rw (read-number s at x (writeNumbers xs ++ rest) (fit .0 .1) here, fit .0 .0)
+    (later ∙ rw (append-assoc got (x ∷ []) xs, length-append (writeNumber x) (writeNumbers xs), (let z : at + (length (writeNumber x) + length (writeNumbers xs)) ≡ at + length (writeNumber x) + length (writeNumbers xs) = omega arith in z)))
+
+fields-written : (rangeOf : List ℕ → Range) (number : ℕ) (valueOf : List ℕ → ℕ) (xs s : List ℕ) (at : ℕ) (rest : List ℕ)
+    → InRanges rangeOf [] xs → drop at s ≡ writeNumbers xs ++ rest
+    → readFields rangeOf number valueOf (length xs) [] s at ≡ accepted (record { numbers = xs; next = at + length (writeNumbers xs) })
+unfolding readFields
+fields-written rangeOf number valueOf xs s at rest fit e = fields-behind rangeOf number valueOf (length xs) 0 xs [] s at rest (omega arith) fit e
+
+-- Hazards.
+hazards-behind : (h : Header) (m k : ℕ) (zs got : List Hazard) (s : List ℕ) (at : ℕ) (rest : List ℕ)
+    → m ≡ length zs + k → ((z : Hazard) → List·Memᴰ z zs → InRanges (nextInHazard h) [] (hazardNumbers z)) → drop at s ≡ writeNumbers (hazardsNumbers zs) ++ rest
+    → readHazards h m got s at ≡ readHazards h k (got ++ zs) s (at + length (writeNumbers (hazardsNumbers zs)))
+unfolding readHazards hazardsNumbers writeNumbers
+hazards-behind h m k [] got s at rest size fit e =
+    rw (append-nil got, (let z : at + 0 ≡ at = omega arith in z), (let z : m ≡ k = omega arith in z))
+hazards-behind h zero k (z ∷ zs) got s at rest size fit e = absurd (omega arith)
+hazards-behind h (suc m) k (z ∷ zs) got s at rest size fit e =
+    let one = writeNumbers (hazardNumbers z) in
+    let others = writeNumbers (hazardsNumbers zs) in
+    let both : writeNumbers (hazardNumbers z ++ hazardsNumbers zs) ≡ one ++ others = numbers-append (hazardNumbers z) (hazardsNumbers zs) in
+    let here : drop at s ≡ one ++ (others ++ rest) = e ∙ ap (λ (l : List ℕ). l ++ rest) both ∙ append-assoc one others rest in
+    let first = fields-written (nextInHazard h) 4 (λ _. length got) (hazardNumbers z) s at (others ++ rest) (fit z (List·Memᴰ·head refl)) here in
+    let later = hazards-behind h m k zs (got ++ z ∷ []) s (at + length one) rest (omega arith) (λ y i. fit y (List·Memᴰ·tail i)) (after-part s at one (others ++ rest) here) in
+    rw first
+    (later ∙ rw (append-assoc got (z ∷ []) zs, both, length-append one others, (let w : at + (length one + length others) ≡ at + length one + length others = omega arith in w)))
+
+-- The header and hazards.
+behind-own : (g : Group) (got : List ℕ) → behind g got ≡ behind g [] + length (writeNumbers got)
+unfolding writeNumbers
+behind-own g got = simp (numbers-append, length-append) (omega arith)
+
+bytes-behind : {s : List ℕ} {g : Group} {got rest : List ℕ} → Stands s g got rest → drop (behind g []) s ≡ writeNumbers got ++ rest
+bytes-behind {s} {g} {got} {rest} stands =
+    let split : s ≡ writeNumbers (numbersBefore g ++ []) ++ (writeNumbers got ++ rest) = stands .bytes ∙ simp (append-nil, numbers-append, append-assoc) in
+    rw split (drop-append-seam (writeNumbers (numbersBefore g ++ [])) (writeNumbers got ++ rest))
+
+pub job-behind : {s : List ℕ} {h : Header} {zs : List Hazard} {got rest : List ℕ} (k : ℕ) → Stands s (ofHazard h zs) got rest → h .count ≡ length zs + k
+    → readJob s ≡ readRest h k zs s (behind (ofHazard h zs) [])
+unfolding readJob readRest readHeader numbersOf
+job-behind {s} {h} {zs} {got} {rest} k stands count =
+    let one = writeNumbers (headerNumbers h) in
+    let others = writeNumbers (hazardsNumbers zs) in
+    let split : s ≡ one ++ (others ++ (writeNumbers got ++ rest)) = stands .bytes ∙ simp (numbers-append, append-assoc) in
+    let header = fields-written nextInHeader 3 (λ l. length l + 1) (headerNumbers h) s 0 (others ++ (writeNumbers got ++ rest)) (stands .before .0) split in
+    let hazards = hazards-behind h (h .count) k zs [] s (0 + length one) (writeNumbers got ++ rest) count (stands .before .1) (after-part s 0 one (others ++ (writeNumbers got ++ rest)) split) in
+    let index : 0 + length one + length others ≡ behind (ofHazard h zs) [] = simp (append-nil, numbers-append, length-append) (omega arith) in
+    rw (header, hazards, index)
+
+-- Refusals
+
+-- What a number outside its range is refused with, by its group.
+abbrev pub outNumber : Group → ℕ
+outNumber ofHeader = 3
+outNumber (ofHazard h before) = 4
+
+abbrev pub outValue : Group → List ℕ → ℕ
+outValue ofHeader = λ got. length got + 1
+outValue (ofHazard h before) = λ got. length before
+
+module _ {s : List ℕ} where
+  -- Where a group's next number is refused, the job is.
+  own-refused : {g : Group} {got rest : List ℕ} (n v : ℕ) → Next s g got rest
+      → ((k : ℕ) → readFields (nextIn g) (outNumber g) (outValue g) (suc k) got s (behind g got) ≡ refused n v)
+      → readFields (nextIn g) (outNumber g) (outValue g) (sizeOf g) [] s (behind g []) ≡ refused n v
+  own-refused {g} {got} {rest} n v next e =
+      let left = sizeOf g - suc (length got) in
+      fields-behind (nextIn g) (outNumber g) (outValue g) (sizeOf g) (suc left) got [] s (behind g []) rest (omega (arith, next .more)) (next .stands .own) (bytes-behind (next .stands))
+      ∙ rw (sym (behind-own g got)) (e left)
+
+  next-refused : (g : Group) {got rest : List ℕ} (n v : ℕ) → Next s g got rest
+      → ((k : ℕ) → readFields (nextIn g) (outNumber g) (outValue g) (suc k) got s (behind g got) ≡ refused n v) → readJob s ≡ refused n v
+  unfolding readJob readHeader readRest readHazards writeNumbers
+  next-refused ofHeader n v next e = rw (own-refused n v next e)
+  next-refused (ofHazard h zs) n v next e =
+      job-behind (suc (h .count - suc (length zs))) (next .stands) (omega (arith, next .has)) ∙ rw (own-refused n v next e)
+
+  rest-behind : {g : Group} {got rest : List ℕ} → Stands s g got rest → drop (behind g got) s ≡ rest
+  rest-behind {g} {got} {rest} stands = rw (stands .bytes) (drop-append-seam (writeNumbers (numbersBefore g ++ got)) rest)
+
+  unread-refused : {Fault : List ℕ → Type 0} {at : ℕ} (n : ℕ) (c : Read) → ((i : ℕ) → readingOf i c ≡ refused n i) → ((i : ℕ) → Fault (drop i s) → readNumber s i ≡ c)
+      → Unread Fault s at → readJob s ≡ refused n at
+  unfolding readFields numberAt
+  unread-refused n c number fault w =
+      next-refused (w .group) n _ (w .next) (λ k. rw (fault (behind (w .group) (w .got)) (rw (rest-behind (w .next .stands)) (w .fault)), number (behind (w .group) (w .got))) (ap (refused n) (sym (w .begins))))
+
+  outside-refused : {g : Group} {got : List ℕ} → OutOfRange s g got → readJob s ≡ refused (outNumber g) (outValue g got)
+  unfolding readFields
+  outside-refused {g} {got} w =
+      next-refused g (outNumber g) (outValue g got) (w .next) (λ k. rw (read-number s (behind g got) (w .number) (w .rest) (w .fits) (rest-behind (w .next .stands)), w .outside))
+
+  after-refused : {at : ℕ} → BytesAfter s at → readJob s ≡ refused 7 at
+  unfolding readRest readHazards
+  after-refused w =
+      let g = ofHazard (w .job .header) (w .job .hazards) in
+      let longer : behind g [] < length s = rw (w .stands .bytes, length-append) (omega (arith, w .some)) in
+      job-behind 0 (w .stands) (omega (arith, w .all)) ∙ rw (lt-leb (length s) (behind g []) longer, w .first)
+
+pub row-refused : (s : List ℕ) (r : Refusal) → ReadRow r s → readJob s ≡ refusal r
+row-refused s (row.Ended at) w = unread-refused 1 Ended (λ i. refl) (λ i. read-ended s i .1) w
+row-refused s (row.Malformed at) w = unread-refused 2 Malformed (λ i. refl) (λ i. read-malformed s i .1) w
+row-refused s (row.HeaderRange number) w = outside-refused (w .1) ∙ ap (refused 3) (sym (w .2))
+row-refused s (row.HazardRange index) w = outside-refused (w .3) ∙ ap (refused 4) (sym (w .4))
+row-refused s (row.NearBarrier index) w = absurd w
+row-refused s (row.OffRoad index) w = absurd w
+row-refused s (row.LeftOver at) w = after-refused w
+row-refused s row.Argument w = absurd w
+row-refused s (row.Room needed) w = absurd w
+row-refused s row.Schedule w = absurd w

@@ -1,0 +1,112 @@
+-- When the reading of a job refuses, and with what value: rows 1 to 4 and 7 of document 01's table.
+-- Assumes nothing.
+use Prim.Native.Nat.{ℕ, _+_, _≤_, _<_}
+use mathlib.Core.Path.{_≡_}
+use mathlib.Core.Bool.{true, false}
+use mathlib.Core.List.{List, [], _∷_, _++_, List·Memᴰ}
+use lib.ListN.{length}
+use Rattle.refusal.specs.declared.Refusal.{Refusal}
+use Rattle.refusal.specs.declared.Refusal.the-variants.{Ended, Malformed, HeaderRange, HazardRange, NearBarrier, OffRoad, LeftOver, Argument, Room, Schedule}
+use Rattle.number.specs.Number.{writeNumber, greatest}
+use Rattle.number.specs.Form.{EndsInside, IllFormed}
+use Rattle.job.specs.declared.Header.{Header}
+use Rattle.job.specs.declared.Hazard.{Hazard}
+use Rattle.job.specs.Job.{Job, Range, within, nextInHeader, nextInHazard}
+use Rattle.job.specs.Writing.{headerNumbers, hazardNumbers, numbersOf, writeNumbers}
+
+-- A place in the job
+
+-- The numbers stand in groups: the header, and each hazard, behind the header and the hazards before it.
+pub data Group : Type 0 where
+  ofHeader : Group
+  ofHazard : (h : Header) (before : List Hazard) → Group
+
+-- "Header, 14 numbers"; "then h hazards of six numbers".
+abbrev pub HasGroup : Group → Type 0
+HasGroup ofHeader = Unit {0}
+HasGroup (ofHazard h before) = length before < h .count
+
+abbrev pub sizeOf : Group → ℕ
+sizeOf ofHeader = 14
+sizeOf (ofHazard h before) = 6
+
+-- The range of its next number, after the numbers `got`.
+abbrev pub nextIn : Group → (got : List ℕ) → Range
+nextIn ofHeader = nextInHeader
+nextIn (ofHazard h before) = nextInHazard h
+
+abbrev pub numbersBefore : Group → List ℕ
+numbersBefore ofHeader = []
+numbersBefore (ofHazard h before) = numbersOf (record { header = h; hazards = before })
+
+-- Numbers after `got`, each in its range and within the greatest value.
+abbrev pub InRanges : (List ℕ → Range) → (got numbers : List ℕ) → Type 0
+InRanges rangeOf got [] = Unit {0}
+InRanges rangeOf got (x ∷ xs) = ((within (rangeOf got) x ≡ true) × (x ≤ greatest)) × InRanges rangeOf (got ++ x ∷ []) xs
+
+abbrev pub BeforeInRanges : Group → Type 0
+BeforeInRanges ofHeader = Unit {0}
+BeforeInRanges (ofHazard h before) =
+    InRanges nextInHeader [] (headerNumbers h) × ((z : Hazard) → List·Memᴰ z before → InRanges (nextInHazard h) [] (hazardNumbers z))
+
+-- The bytes begin with the numbers before a group and `got` of its own, each in shortest form and in its range; `rest` follows.
+pub record Stands (s : List ℕ) (g : Group) (got rest : List ℕ) : Type 0 where
+  pub before : BeforeInRanges g
+  pub own : InRanges (nextIn g) [] got
+  pub bytes : s ≡ writeNumbers (numbersBefore g ++ got) ++ rest
+
+-- The byte index behind them.
+abbrev pub behind : Group → (got : List ℕ) → ℕ
+behind g got = length (writeNumbers (numbersBefore g ++ got))
+
+-- And the group has another number, which is to begin there.
+pub record Next (s : List ℕ) (g : Group) (got rest : List ℕ) : Type 0 where
+  pub has : HasGroup g
+  pub more : length got < sizeOf g
+  pub stands : Stands s g got rest
+
+-- The rows
+
+-- A number that cannot be read.
+pub record Unread (Fault : List ℕ → Type 0) (s : List ℕ) (at : ℕ) : Type 0 where
+  pub group : Group
+  pub got : List ℕ
+  pub rest : List ℕ
+  pub next : Next s group got rest
+  pub fault : Fault rest
+  pub begins : at ≡ behind group got
+
+-- A number outside its range.
+pub record OutOfRange (s : List ℕ) (g : Group) (got : List ℕ) : Type 0 where
+  pub number : ℕ
+  pub rest : List ℕ
+  pub next : Next s g got (writeNumber number ++ rest)
+  pub fits : number ≤ greatest
+  pub outside : within (nextIn g got) number ≡ false
+
+-- Bytes after the last hazard.
+pub record BytesAfter (s : List ℕ) (at : ℕ) : Type 0 where
+  pub job : Job
+  pub rest : List ℕ
+  pub all : length (job .hazards) ≡ job .header .count
+  pub stands : Stands s (ofHazard (job .header) (job .hazards)) [] rest
+  pub some : 0 < length rest
+  pub first : at ≡ behind (ofHazard (job .header) (job .hazards)) []
+
+-- The table, row by row. The other rows are not the reading's.
+abbrev pub ReadRow : Refusal → (s : List ℕ) → Type 0
+-- 1: "byte index where that number begins"; "job bytes end before or inside a number".
+ReadRow (Ended at) s = Unread EndsInside s at
+-- 2: "byte index where it begins"; "its fifth byte has the top bit set, or its value is too great, or it isn't in shortest form".
+ReadRow (Malformed at) s = Unread IllFormed s at
+-- 3: "header number 1 to 14"; "header number outside its range".
+ReadRow (HeaderRange number) s = (got : List ℕ) × OutOfRange s ofHeader got × (number ≡ length got + 1)
+-- 4: "hazard index from 0"; "hazard field outside its range".
+ReadRow (HazardRange index) s = (h : Header) × (before : List Hazard) × (got : List ℕ) × OutOfRange s (ofHazard h before) got × (index ≡ length before)
+-- 7: "index of first byte left over"; "bytes after the last hazard".
+ReadRow (LeftOver at) s = BytesAfter s at
+ReadRow (NearBarrier index) s = ⊥
+ReadRow (OffRoad index) s = ⊥
+ReadRow Argument s = ⊥
+ReadRow (Room needed) s = ⊥
+ReadRow Schedule s = ⊥

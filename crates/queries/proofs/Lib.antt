@@ -1,0 +1,4 @@
+pub mod WalkLaws
+pub mod StepLaws
+pub mod QuantityLaws
+pub mod PlaceLaws
