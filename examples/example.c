@@ -89,6 +89,9 @@ static void print_refusal(const char *what, barrier_reply reply)
     case BARRIER_NO_SCHEDULE:
         printf("these bytes are not a schedule\n");
         break;
+    case BARRIER_TOO_MANY_RANGES:
+        printf("more than %d ranges\n", BARRIER_RANGES_MAX);
+        break;
     default:
         printf("a number that barrier.h does not have\n");
     }
@@ -148,44 +151,54 @@ static void print_price(const char *what, uint64_t millimetres)
            cents / 100, cents % 100);
 }
 
-/* One lot, [p, q): adds its millimetres of NC-3 to the sum; 0 if refused. */
-static int print_lot(const uint8_t *right, size_t right_len, uint64_t p, uint64_t q, uint64_t *sum)
+/* One range, [p, q), and its millimetres of NC-3. */
+static void print_range(uint64_t p, uint64_t q, uint64_t millimetres)
 {
-    const barrier_reply reply = barrier_quantity(right, right_len, BARRIER_NC_3, p, q);
     char name[64];
     snprintf(name, sizeof name, "[%" PRIu64 ", %" PRIu64 ")", p, q);
-    if (reply.number != BARRIER_DONE) {
-        print_refusal(name, reply);
-        return 0;
-    }
-    print_price(name, reply.value);
-    *sum += reply.value;
-    return 1;
+    print_price(name, millimetres);
 }
 
 /*
- * Two lots that share a boundary, their sum, and the road in one lot.  A range
- * does not have its end station, so nothing is counted in both lots.  A lot
- * that is refused has no millimetres to add, so there is no sum behind it.
+ * Two lots that share a boundary, in one call, and their sum.  A range does not
+ * have its end station, so nothing is counted in both lots.  Where the call is
+ * refused there are no millimetres to add, so there is no sum; 0 then.
  */
 static int print_lots(const uint8_t *right, size_t right_len, uint64_t boundary)
 {
-    uint64_t lots = 0, road = 0;
-    if (!print_lot(right, right_len, 0, boundary, &lots))
+    const uint64_t lots[4] = {0, boundary, boundary, ROAD_END};
+    const barrier_quantities_reply reply =
+        barrier_quantities(right, right_len, BARRIER_NC_3, lots, 4);
+    if (reply.number != BARRIER_DONE) {
+        const barrier_reply refusal = {reply.number, reply.value};
+        print_refusal("lots", refusal);
         return 0;
-    if (!print_lot(right, right_len, boundary, ROAD_END, &lots))
+    }
+    for (int i = 0; i < 2; i++)
+        print_range(lots[2 * i], lots[2 * i + 1], reply.quantities[i]);
+    print_price("both lots", reply.quantities[0] + reply.quantities[1]);
+    return 1;
+}
+
+/* The road in one lot; 0 if refused. */
+static int print_road(const uint8_t *right, size_t right_len)
+{
+    const barrier_reply reply = barrier_quantity(right, right_len, BARRIER_NC_3, 0, ROAD_END);
+    if (reply.number != BARRIER_DONE) {
+        print_refusal("road", reply);
         return 0;
-    print_price("both lots", lots);
-    return print_lot(right, right_len, 0, ROAD_END, &road);
+    }
+    print_range(0, ROAD_END, reply.value);
+    return 1;
 }
 
 static int print_prices(const uint8_t *right, size_t right_len)
 {
     printf("NC-3 by lots, the boundary inside the run\n");
-    if (!print_lots(right, right_len, 180000))
+    if (!print_lots(right, right_len, 180000) || !print_road(right, right_len))
         return 0;
     printf("NC-3 by lots, the boundary where the run begins\n");
-    return print_lots(right, right_len, 155773);
+    return print_lots(right, right_len, 155773) && print_road(right, right_len);
 }
 
 /* A call that has to be refused; 0 if it is done. */

@@ -3,10 +3,11 @@
  *
  * A job goes in: one straight road and its roadside hazards.  A schedule comes
  * out: the runs of safety barrier along one side of the road, each with its
- * containment level.  There are three calls:
+ * containment level.  There are four calls:
  *
  *     barrier_plan        writes the schedule of one side of a job
  *     barrier_quantity    counts the millimetres of one level in a range
+ *     barrier_quantities  the same for all lots of a contract, in one walk
  *     barrier_lookup      finds the record of the run at a station
  *
  * This file is the manual; examples/example.c is a first program.
@@ -138,11 +139,12 @@
  *                                       after B
  *      7      index of the first        bytes behind the last hazard
  *             byte left over
- *      8      0                         side above 1, level not 1 to 6, or
- *                                       p > q
+ *      8      0                         side above 1, level not 1 to 6, p > q
+ *                                       in any range, or a p without its q
  *      9      bytes needed              the output is shorter than that
  *     10      0                         the bytes are not a schedule, that is,
  *                                       not the writing of a run list
+ *     11      0                         more than 64 ranges
  *
  * The first that holds is returned, in this order:
  *
@@ -151,6 +153,7 @@
  *                         read; then 7; then the hazards by index, those of
  *                         both sides, each for 5 and then for 6; then 9
  *     barrier_quantity    8, then 10
+ *     barrier_quantities  8, then 11, then 10
  *     barrier_lookup      8, then 10, of the asked side's schedule
  *
  * A job to which none of 1 to 7 applies is accepted, on both sides alike.
@@ -163,17 +166,18 @@
  * ---------------------------------------------------------------------------
  * MEMORY
  *
- * A call reads the bytes it is given with their length, and never changes
- * them.  Only barrier_plan writes, and only to its output:
+ * A call reads the bytes and the ranges that it is given with their length,
+ * and never changes them.  Only barrier_plan writes, and only to its output:
  *
  *   - Done: the complete schedule stands from the output's first byte on; the
  *     bytes behind it stay as they were.
  *   - Refused: every byte of the output stays as it was.
  *
- * Each pointer has to be good for as many bytes as its length says, the
- * output for writing too.  A pointer may be NULL where its length is 0.  The
- * buffers of one call must not overlap.  No alignment is asked for.  The
- * engine keeps no pointer behind a call.
+ * Each pointer has to be good for as many bytes as its length says, or
+ * numbers for ranges, and the output for writing too.  A pointer may be NULL
+ * where its length is 0.  The output must not overlap the job; buffers that
+ * are only read may overlap.  Ranges are aligned as C aligns uint64_t; bytes
+ * need no alignment.  The engine keeps no pointer behind a call.
  *
  * ---------------------------------------------------------------------------
  * THREADS
@@ -183,7 +187,7 @@
  * call may run on any thread at any time, several at once too, as long as no
  * thread changes a buffer that another call is using.  One call of
  * barrier_plan takes less than 23 KiB of stack, each of the others less than
- * 1 KiB.
+ * 2 KiB.
  *
  * ---------------------------------------------------------------------------
  * LINKING
@@ -191,7 +195,7 @@
  * `pkg-config --cflags --libs barrier_engine` prints the flags; they name this
  * header's folder and the archive libbarrier_engine.a.  The archive is for
  * x86-64, position independent, so that it links into programs and shared
- * libraries alike, exports the three calls alone, and asks the C library for
+ * libraries alike, exports the four calls alone, and asks the C library for
  * nothing but block copies and fills (memcpy, memset and their kin).
  */
 #ifndef BARRIER_H
@@ -205,7 +209,7 @@ extern "C" {
 #endif
 
 /* The version of the engine that this header belongs to. */
-#define BARRIER_VERSION "0.1.0"
+#define BARRIER_VERSION "0.2.0"
 
 /*
  * CONSTANTS
@@ -229,6 +233,7 @@ extern "C" {
 #define BARRIER_JOB_LONGEST 4646
 #define BARRIER_HAZARDS_MAX 256
 #define BARRIER_RUNS_MAX 511
+#define BARRIER_RANGES_MAX 64
 #define BARRIER_STATION_MAX 2000000000
 #define BARRIER_STACK_MAX 24576
 
@@ -260,7 +265,8 @@ enum barrier_number {
     BARRIER_JOB_LEFT_OVER = 7,
     BARRIER_ARGUMENT = 8,
     BARRIER_OUTPUT_SHORT = 9,
-    BARRIER_NO_SCHEDULE = 10
+    BARRIER_NO_SCHEDULE = 10,
+    BARRIER_TOO_MANY_RANGES = 11
 };
 
 /*
@@ -281,6 +287,24 @@ typedef struct {
     uint64_t number;
     uint64_t value;
 } barrier_reply;
+
+/*
+ * What barrier_quantities replies.
+ *
+ *     number        BARRIER_DONE, BARRIER_ARGUMENT, BARRIER_TOO_MANY_RANGES or
+ *                   BARRIER_NO_SCHEDULE
+ *     value         0
+ *     records       done: the records read, which are the schedule's runs;
+ *                   refused: 0
+ *     quantities    done: the millimetres of each range, in the ranges' order,
+ *                   and 0 behind them; refused: 0 everywhere
+ */
+typedef struct {
+    uint64_t number;
+    uint64_t value;
+    uint64_t records;
+    uint64_t quantities[BARRIER_RANGES_MAX];
+} barrier_quantities_reply;
 
 /*
  * What barrier_lookup replies.
@@ -330,6 +354,32 @@ barrier_reply barrier_plan(const uint8_t *job, size_t job_len, uint64_t side,
  */
 barrier_reply barrier_quantity(const uint8_t *schedule, size_t schedule_len,
                                uint64_t level, uint64_t p, uint64_t q);
+
+/*
+ * Quantities for a whole contract: how many millimetres of each range have
+ * exactly that level.  Every record is read once, however many ranges there
+ * are.
+ *
+ *     schedule, schedule_len    the schedule of one side
+ *     level                     BARRIER_NC_1 to BARRIER_NC_6
+ *     ranges, ranges_len        the ranges as p, q, p, q and so on; the length
+ *                               counts the numbers, two for each range
+ *
+ * Done: each quantity is what barrier_quantity gives for that range, and
+ * records is the schedule's run count.
+ * Refused: 8, 11 or 10.
+ *
+ * The ranges may overlap, repeat, be empty and stand in any order.  They are
+ * tested all, also behind the 64th: where one has p > q, or the last p has no
+ * q, the call is refused 8 and not 11.  With no range at all (NULL, 0) level
+ * and schedule are tested, and records counted, all the same.
+ *
+ * The quantities of the lots of a road add up to that of the road, as those of
+ * single calls do.
+ */
+barrier_quantities_reply barrier_quantities(const uint8_t *schedule, size_t schedule_len,
+                                            uint64_t level, const uint64_t *ranges,
+                                            size_t ranges_len);
 
 /*
  * Lookup: where in the schedule the record of the run at a station is.

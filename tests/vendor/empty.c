@@ -50,6 +50,28 @@ static void quantities(void)
     reply_is("quantity, no schedule, no such level", barrier_quantity(NULL, 0, 7, 0, 5), BARRIER_ARGUMENT, 0);
 }
 
+/* A reply without a refusal has as many records as it should; all the rest is 0. */
+static void contract_is(const char *what, barrier_quantities_reply reply, uint64_t number, uint64_t records)
+{
+    int as_stated = reply.number == number && reply.value == 0 && reply.records == records;
+    int i;
+
+    for (i = 0; i < 64; i++)
+        as_stated &= reply.quantities[i] == 0;
+    expect(what, as_stated);
+}
+
+static void contracts(void)
+{
+    static const uint64_t ranges[3] = {0, 5, 5};
+    contract_is("quantities, no ranges", barrier_quantities(right, sizeof right, BARRIER_NC_3, NULL, 0), BARRIER_DONE, 1);
+    contract_is("quantities, no ranges, no such level", barrier_quantities(right, sizeof right, 0, NULL, 0), BARRIER_ARGUMENT, 0);
+    contract_is("quantities, no schedule", barrier_quantities(NULL, 0, BARRIER_NC_1, ranges, 2), BARRIER_NO_SCHEDULE, 0);
+    contract_is("quantities, no schedule, no partner", barrier_quantities(NULL, 0, BARRIER_NC_1, ranges, 3), BARRIER_ARGUMENT, 0);
+    contract_is("quantities, neither", barrier_quantities(NULL, 0, BARRIER_NC_6, NULL, 0), BARRIER_NO_SCHEDULE, 0);
+    contract_is("quantities, neither, no such level", barrier_quantities(NULL, 0, 7, NULL, 0), BARRIER_ARGUMENT, 0);
+}
+
 static void lookups(void)
 {
     const barrier_record found =
@@ -68,6 +90,7 @@ int main(void)
 {
     plans();
     quantities();
+    contracts();
     lookups();
     return wrong;
 }

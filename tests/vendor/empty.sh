@@ -1,8 +1,8 @@
 #!/bin/sh
-# NULL with length 0 for the job, the output and each schedule.
+# NULL with length 0 for the job, the output, each schedule and the ranges.
 set -eu
 tmp=$(mktemp -d)
 trap 'rm -rf "$tmp"' EXIT
 $CC -std=c99 -O2 -Wall -Wextra -Werror -pedantic -Iinclude tests/vendor/empty.c -L"$LIBDIR" -lbarrier_engine -o "$tmp/empty"
 "$tmp/empty"
-echo "empty: NULL with length 0 for job, output and schedules, replies as stated"
+echo "empty: NULL with length 0 for job, output, schedules and ranges, replies as stated"

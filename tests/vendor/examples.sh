@@ -42,6 +42,7 @@ refused() {
 }
 refused plan '  plan: refused 1 with 34, the job ends before or inside the number at byte 34'
 refused lookup '  lookup: refused 10 with 0, these bytes are not a schedule'
-refused quantity '  [180000, 1000000): refused 10 with 0, these bytes are not a schedule'
+refused quantities '  lots: refused 10 with 0, these bytes are not a schedule'
+refused quantity '  road: refused 10 with 0, these bytes are not a schedule'
 refused nothing '  near offset 3999: done, but it should be refused'
 echo "examples: C and Rust end with 1 at the first call refused, and at one that is not and should be"

@@ -1,12 +1,12 @@
 /*
- * Not the engine: an archive of the same three calls in which one kind of call
- * is always refused, to see what the examples do then.  REFUSED names the call;
- * with `nothing` no call is refused, not even those that should be.
+ * Not the engine: an archive of the same calls, one kind of which is always
+ * refused, to see what the examples do then.  REFUSED names the call; with
+ * `nothing` no call is refused, not even those that should be.
  */
 #include <barrier.h>
 #include <string.h>
 
-enum { nothing, plan, lookup, quantity };
+enum { nothing, plan, lookup, quantity, quantities };
 
 barrier_reply barrier_plan(const uint8_t *job, size_t job_len, uint64_t side, uint8_t *out,
                            size_t out_len)
@@ -31,8 +31,22 @@ barrier_reply barrier_quantity(const uint8_t *schedule, size_t schedule_len, uin
     (void)schedule;
     (void)schedule_len;
     (void)level;
-    /* The first lot is done, the second refused. */
-    return REFUSED == quantity && p > 0 ? refused : done;
+    return REFUSED == quantity ? refused : done;
+}
+
+barrier_quantities_reply barrier_quantities(const uint8_t *schedule, size_t schedule_len,
+                                            uint64_t level, const uint64_t *ranges,
+                                            size_t ranges_len)
+{
+    barrier_quantities_reply done = {BARRIER_DONE, 0, 1, {0}};
+    const barrier_quantities_reply refused = {BARRIER_NO_SCHEDULE, 0, 0, {0}};
+    size_t i;
+    (void)schedule;
+    (void)schedule_len;
+    (void)level;
+    for (i = 0; 2 * i + 1 < ranges_len; i++)
+        done.quantities[i] = ranges[2 * i + 1] - ranges[2 * i];
+    return REFUSED == quantities ? refused : done;
 }
 
 barrier_record barrier_lookup(const uint8_t *right, size_t right_len, const uint8_t *left,

@@ -3,7 +3,8 @@
  * was painted before, and the paint that is left shows how deep it went. A job
  * comes from standard input; BARRIER_STACK_MAX bytes have to suffice for
  * planning it, into a large output and into one of exactly its schedule's
- * length, where the bytes needed are counted first, and for the two queries.
+ * length, where the bytes needed are counted first, and for the queries. Where
+ * a reply is large, its room in the caller counts too.
  *
  * Ends with 1 where a call takes more, with 2 where one is refused.
  */
@@ -22,7 +23,9 @@ static unsigned char job[BARRIER_JOB_MAX];
 static size_t job_length;
 static unsigned char schedule[BARRIER_SCHEDULE_MAX];
 static barrier_reply planned, exact, counted;
+static barrier_quantities_reply priced;
 static barrier_record found;
+static uint64_t ranges[128];
 
 static void nothing(void)
 {
@@ -41,6 +44,11 @@ static void plan_exactly(void)
 static void quantity(void)
 {
     counted = barrier_quantity(schedule, planned.value, BARRIER_NC_1, 0, BARRIER_STATION_MAX);
+}
+
+static void quantities(void)
+{
+    priced = barrier_quantities(schedule, planned.value, BARRIER_NC_1, ranges, 128);
 }
 
 static void lookup(void)
@@ -84,8 +92,10 @@ static int done(const char *name, uint64_t number)
 
 int main(void)
 {
-    int well, all_done;
+    int well, all_done, i;
 
+    for (i = 0; i < 128; i++)
+        ranges[i] = BARRIER_STATION_MAX / 127 * (uint64_t)i;
     job_length = fread(job, 1, sizeof job, stdin);
     plan(); /* so that the loader's own work is done before it counts */
     if (!done("plan", planned.number))
@@ -93,9 +103,11 @@ int main(void)
     well = suffices("plan", plan);
     well &= suffices("plan with an output of exactly its length", plan_exactly);
     well &= suffices("quantity", quantity);
+    well &= suffices("quantities", quantities);
     well &= suffices("lookup", lookup);
     all_done = done("plan with an output of exactly its length", exact.number);
     all_done &= done("quantity", counted.number);
+    all_done &= done("quantities", priced.number);
     all_done &= done("lookup", found.number);
     if (!all_done)
         return 2;

@@ -1,10 +1,13 @@
 -- The C interface's structs for each answer of the calls.
 -- Assumes nothing.
 use Prim.Native.Nat.{ℕ, _+_}
+use mathlib.Core.List.{[]}
 use Rattle.refusal.specs.Answer.{Answer, accepted, refused}
 use Rattle.queries.specs.Lookup.{Found, found, nowhere}
+use Rattle.queries.specs.Ranges.{Counted, placesOf}
 use Rattle.barrier_engine.specs.declared.Reply.{Reply}
 use Rattle.barrier_engine.specs.declared.Record.{Record}
+use Rattle.barrier_engine.specs.declared.Quantities.{Quantities}
 
 abbrev pub reply : (number value : ℕ) → Reply
 reply number value = record { number = number; value = value }
@@ -19,3 +22,8 @@ unfoldable pub recordOf : Answer Found → Record
 recordOf (accepted (found p)) = record { number = 0; found = 1; start = p .at; end = p .at + p .len }
 recordOf (accepted nowhere) = record { number = 0; found = 0; start = 0; end = 0 }
 recordOf (refused number value) = record { number = number; found = 0; start = 0; end = 0 }
+
+-- The records read, a quantity for each range and zeros behind them; after a refusal zeros alone.
+unfoldable pub quantitiesOf : Answer Counted → Quantities
+quantitiesOf (accepted c) = record { number = 0; value = 0; records = c .records; quantities = placesOf (c .quantities) }
+quantitiesOf (refused number value) = record { number = number; value = value; records = 0; quantities = placesOf [] }

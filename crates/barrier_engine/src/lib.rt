@@ -1,6 +1,7 @@
 // The engine's C interface: numbers, slices as pointer and length, and replies as plain structs. include/barrier.h declares it.
 use queries::reply::Located;
 use queries::reply::Quantity;
+use refusal::Outcome;
 use refusal::Refusal;
 use schedule::reply::Plan;
 ghost use mathlib.Core.Path.{_≡_};
@@ -9,7 +10,8 @@ ghost use Rattle.refusal.specs.Refusal.{numberOf, valueOf};
 ghost use Rattle.schedule.specs.Plan.{plan, bytesWritten, outputAfter};
 ghost use Rattle.queries.specs.Quantity.{quantity};
 ghost use Rattle.queries.specs.Lookup.{lookup};
-ghost use Rattle.barrier_engine.specs.Interface.{replyOf, recordOf, reply};
+ghost use Rattle.queries.specs.Ranges.{quantities};
+ghost use Rattle.barrier_engine.specs.Interface.{replyOf, recordOf, reply, quantitiesOf};
 
 // Number 0: done, with the bytes written or the millimetres; else document 01's refusal number and what it returns.
 #[repr(C)]
@@ -25,6 +27,15 @@ pub struct Record {
     pub found: u64,
     pub start: u64,
     pub end: u64,
+}
+
+// Number 0: done, with the records read and a quantity for each range; else the refusal, and 0 in all the others.
+#[repr(C)]
+pub struct Quantities {
+    pub number: u64,
+    pub value: u64,
+    pub records: u64,
+    pub quantities: [u64; 64],
 }
 
 fn refused(refusal: Refusal) -> Reply
@@ -85,6 +96,30 @@ pub extern "C" fn barrier_lookup(right: &[u8], left: &[u8], side: u64, station: 
             found: 0,
             start: 0,
             end: 0,
+        },
+    }
+}
+
+#[no_mangle]
+pub extern "C" fn barrier_quantities(schedule: &[u8], level: u64, ranges: &[u64]) -> Quantities
+    ensures { λ r. ⌜ r ≡ quantitiesOf (quantities (now (schedule .entry)) level (now (ranges .entry))) ⌝ }
+{
+    let reply = queries::quantities::quantities(schedule, level, ranges);
+    let outcome = reply.outcome;
+    let records = reply.records;
+    let quantities = reply.quantities;
+    match outcome {
+        Outcome::Done => Quantities {
+            number: 0,
+            value: 0,
+            records,
+            quantities,
+        },
+        Outcome::Refused(refusal) => Quantities {
+            number: refusal::refusal_number(refusal),
+            value: refusal::refusal_value(refusal),
+            records,
+            quantities,
         },
     }
 }

@@ -17,6 +17,7 @@ use Rattle.runs.specs.Level.{NoShortGap, Has, InSet, Filled, Highest}
 use Rattle.runs.specs.RunList.{isRunList, IsRun}
 use Rattle.schedule.specs.Schedule.{writeSchedule, readSchedule}
 use Rattle.schedule.specs.Planned.{Accepted, Planned, scheduleLevel}
+use Rattle.queries.specs.Ranges.{mostRanges, quantities, replied}
 use Rattle.planning.specs.Required.{jobLevel, jobRuns}
 use Rattle.queries.specs.Lookup.{FoundRun, Found, found, nowhere, asked, lookup}
 use Rattle.schedule.specs.Plan.{outputAfter, plan}
@@ -134,3 +135,24 @@ Demand3-quantities =
     (s : List ℕ) (j : Job) (side : ℕ) (w : List ℕ) → Accepted s j → side ≤ 1 → Planned s side w
     → (v : ℕ) → 1 ≤ v → v ≤ 6 → (p : ℕ) (qs : List ℕ) → RisingStations p qs
     → lotsTotal w v p qs ≡ accepted (millimetres (jobLevel j side) v p (lastOf p qs))
+
+-- The lots of a list of stations as ranges, one from each station to the next.
+unfoldable pub lotsOf : (p : ℕ) → List ℕ → List ℕ
+lotsOf p [] = []
+lotsOf p (q ∷ qs) = p ∷ q ∷ lotsOf q qs
+
+unfoldable pub added : List ℕ → ℕ
+added [] = 0
+added (n ∷ ns) = n + added ns
+
+-- One call for a whole contract that is not refused: all places of its reply, added up.
+pub record OneCall (w : List ℕ) (v : ℕ) (numbers : List ℕ) (total : ℕ) : Type 0 where
+  pub done : replied (quantities w v numbers) .answer ≡ accepted tt
+  pub adds-up : added (replied (quantities w v numbers) .places) ≡ total
+
+-- Demand 3, quantities, with up to 64 lots in one call.
+abbrev pub Demand3-one-call : Type 0
+Demand3-one-call =
+    (s : List ℕ) (j : Job) (side : ℕ) (w : List ℕ) → Accepted s j → side ≤ 1 → Planned s side w
+    → (v : ℕ) → 1 ≤ v → v ≤ 6 → (p : ℕ) (qs : List ℕ) → RisingStations p qs → length qs ≤ mostRanges
+    → OneCall w v (lotsOf p qs) (millimetres (jobLevel j side) v p (lastOf p qs))

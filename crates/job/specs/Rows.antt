@@ -6,7 +6,7 @@ use mathlib.Core.Bool.{true, false}
 use mathlib.Core.List.{List, [], _∷_, _++_, List·Memᴰ}
 use lib.ListN.{length}
 use Rattle.refusal.specs.declared.Refusal.{Refusal}
-use Rattle.refusal.specs.declared.Refusal.the-variants.{Ended, Malformed, HeaderRange, HazardRange, NearBarrier, OffRoad, LeftOver, Argument, Room, Schedule}
+use Rattle.refusal.specs.declared.Refusal.the-variants.{Ended, Malformed, HeaderRange, HazardRange, NearBarrier, OffRoad, LeftOver, Argument, Room, Schedule, Ranges}
 use Rattle.number.specs.Number.{writeNumber, greatest}
 use Rattle.number.specs.Form.{EndsInside, IllFormed}
 use Rattle.job.specs.declared.Header.{Header}
@@ -110,3 +110,4 @@ ReadRow (OffRoad index) s = ⊥
 ReadRow Argument s = ⊥
 ReadRow (Room needed) s = ⊥
 ReadRow Schedule s = ⊥
+ReadRow Ranges s = ⊥

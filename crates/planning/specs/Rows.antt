@@ -8,7 +8,7 @@ use mathlib.Core.List.{List, _∷_, _++_, List·Memᴰ}
 use lib.ListN.{length}
 use Rattle.refusal.specs.Answer.{accepted}
 use Rattle.refusal.specs.declared.Refusal.{Refusal}
-use Rattle.refusal.specs.declared.Refusal.the-variants.{Ended, Malformed, HeaderRange, HazardRange, NearBarrier, OffRoad, LeftOver, Argument, Room, Schedule}
+use Rattle.refusal.specs.declared.Refusal.the-variants.{Ended, Malformed, HeaderRange, HazardRange, NearBarrier, OffRoad, LeftOver, Argument, Room, Schedule, Ranges}
 use Rattle.job.specs.declared.Header.{Header}
 use Rattle.job.specs.declared.Hazard.{Hazard}
 use Rattle.job.specs.Job.{Job, readJob}
@@ -46,7 +46,7 @@ pub record First (Fault : Header → Hazard → Type 0) (h : Header) (zs : List 
 abbrev pub FirstOf : (Fault : Header → Hazard → Type 0) (s : List ℕ) (index : ℕ) → Type 0
 FirstOf Fault s index = (j : Job) × (readJob s ≡ accepted j) × First Fault (j .header) (j .hazards) index
 
--- The table, row by row: 5 and 6 return the hazard index. The last three rows are not the job's.
+-- The table, row by row: 5 and 6 return the hazard index. Rows from 8 on are not the job's.
 abbrev pub JobRow : Refusal → (s : List ℕ) → Type 0
 JobRow (Ended at) s = ReadRow (Ended at) s
 JobRow (Malformed at) s = ReadRow (Malformed at) s
@@ -58,3 +58,4 @@ JobRow (LeftOver at) s = ReadRow (LeftOver at) s
 JobRow Argument s = ⊥
 JobRow (Room needed) s = ⊥
 JobRow Schedule s = ⊥
+JobRow Ranges s = ⊥

@@ -2,3 +2,6 @@ pub mod WalkLaws
 pub mod StepLaws
 pub mod QuantityLaws
 pub mod PlaceLaws
+pub mod RangeLaws
+pub mod QuantitiesLaws
+pub mod SumLaws

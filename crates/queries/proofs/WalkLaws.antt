@@ -25,7 +25,7 @@ use Rattle.runs.specs.declared.Stretch.{Stretch}
 use Rattle.runs.specs.RunList.{mayFollow, mostRuns, risingRuns, isRunList}
 use Rattle.runs.proofs.RunLaws.{Next, rising, rising-test}
 use Rattle.schedule.specs.Schedule.{Records, readRecords, orTen, readSchedule}
-use Rattle.queries.specs.Walk.{headAt, Passed, followingRun, recordAt, walkRecords}
+use Rattle.queries.specs.Walk.{headAt, Passed, followingRun, levelAt, recordAt, walkRecords}
 
 -- Where a `let` finds no number, by the tag that it tests.
 pub no-number : {B : Type 0} (at : ℕ) (f : Reading → Answer B) (r : Read) → OneOf (1 ∷ 2 ∷ []) (tagOf Read.the-type r) → orTen (readingOf at r >>= f) ≡ refused 10 0
@@ -61,12 +61,9 @@ run-refused e v gap len lev next n = go (mayFollow e v (runAfter e gap len lev))
 
 -- The level's byte
 
-abbrev levelled : (e v gap len : ℕ) → List ℕ → (at : ℕ) → Answer Passed
-levelled e v gap len s at = orTen (numberAt s at >>= λ lev. followingRun e v gap len (lev .value) (lev .next))
-
 module _ (e v gap len : ℕ) (s : List ℕ) (at : ℕ) where
-  pub level-ended : length s ≤ at → levelled e v gap len s at ≡ refused 10 0
-  unfolding numberAt
+  pub level-ended : length s ≤ at → levelAt e v gap len s at ≡ refused 10 0
+  unfolding levelAt numberAt
   level-ended h = rw (read-none s at h)
 
   or-ten-run : (lev next : ℕ) → orTen (followingRun e v gap len lev next) ≡ followingRun e v gap len lev next
@@ -82,14 +79,14 @@ module _ (e v gap len : ℕ) (s : List ℕ) (at : ℕ) where
   no-level-above lev next h = run-refused e v gap len lev next (λ n. omega (arith, n .top))
 
   -- The number that stands at an index is its byte, or has no level's value.
-  pub level-byte : Bytes s → at < length s → levelled e v gap len s at ≡ followingRun e v gap len (getD s at 0) (at + 1)
-  unfolding numberAt
+  pub level-byte : Bytes s → at < length s → levelAt e v gap len s at ≡ followingRun e v gap len (getD s at 0) (at + 1)
+  unfolding levelAt numberAt
   level-byte b there = go (decLt (getD s at 0) 128)
     where
       first : drop at s ≡ getD s at 0 ∷ drop (suc at) s
       first = drop-cons s at 0 there
 
-      go : Dec (getD s at 0 < 128) → levelled e v gap len s at ≡ followingRun e v gap len (getD s at 0) (at + 1)
+      go : Dec (getD s at 0 < 128) → levelAt e v gap len s at ≡ followingRun e v gap len (getD s at 0) (at + 1)
       go (yes h) = rw (read-one s at there h) (or-ten-run (getD s at 0) (at + 1))
       go (no h) = turn (readNumber s at) refl ∙ sym (no-level-above (getD s at 0) (at + 1) (omega arith))
         where

@@ -38,6 +38,10 @@ followingRun e v gap len lev next =
     unless-refuse (mayFollow e v r) 10 0 >>= λ _.
     accepted (record { run = r; next = next })
 
+-- The same from the index of the record's level on.
+unfoldable pub levelAt : (e v gap len : ℕ) → List ℕ → (at : ℕ) → Answer Passed
+levelAt e v gap len s at = orTen (numberAt s at >>= λ lev. followingRun e v gap len (lev .value) (lev .next))
+
 unfoldable pub recordAt : (e v : ℕ) → List ℕ → (at : ℕ) → Answer Passed
 recordAt e v s at = orTen (
     numberAt s at >>= λ gap.

@@ -1,6 +1,7 @@
-// The calls that read a schedule: quantity, lookup and its companion.
+// The calls that read a schedule: quantity, quantities, lookup and its companion.
 pub mod lookup;
+pub mod quantities;
 pub mod quantity;
-mod query; // one walk for both
+mod query; // one walk for the single queries
 pub mod reply;
 mod walk; // a schedule read record by record

@@ -36,7 +36,7 @@ fn greater(a: u64, b: u64) -> u64
 }
 
 // How many millimetres [start, end) and [p, q) have in common.
-fn overlap(start: u32, end: u32, p: u64, q: u64) -> u64
+pub fn overlap(start: u32, end: u32, p: u64, q: u64) -> u64
     ensures { λ r. ⌜ r ≡ min q end - max p start ⌝ }
 {
     let from = greater(p, start as u64);

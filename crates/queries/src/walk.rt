@@ -2,7 +2,7 @@
 use number::Read;
 use runs::Stretch;
 ghost use mathlib.Core.Path.{_≡_};
-ghost use Rattle.queries.specs.Walk.{headAt, headReply, followingRun, recordAt, recordReply};
+ghost use Rattle.queries.specs.Walk.{headAt, headReply, followingRun, levelAt, recordAt, recordReply};
 
 // What stands at the head of a schedule.
 pub enum Head {
@@ -65,6 +65,17 @@ fn following_run(end: u32, level: u32, gap: u32, length: u32, own: u32, next: us
     }
 }
 
+// The run of a record whose gap and length were read, its level at an index. A level is below 128, so it takes one byte; what takes
+// more is none.
+pub fn read_run(s: &[u8], at: usize, end: u32, level: u32, gap: u32, length: u32) -> Record
+    ensures { λ r. ⌜ recordReply r ≡ levelAt end level gap length (now (s .entry)) at ⌝ }
+{
+    if s.len() <= at {
+        return Record::Bad;
+    }
+    following_run(end, level, gap, length, s[at] as u32, at + 1)
+}
+
 // The record at an index, behind a run that ended at `end` with `level`.
 pub fn read_record(s: &[u8], at: usize, end: u32, level: u32) -> Record
     ensures { λ r. ⌜ recordReply r ≡ recordAt end level (now (s .entry)) at ⌝ }
@@ -83,9 +94,5 @@ pub fn read_record(s: &[u8], at: usize, end: u32, level: u32) -> Record
     else {
         return Record::Bad;
     };
-    // A level is below 128, so it takes one byte; what takes more is none.
-    if s.len() <= j {
-        return Record::Bad;
-    }
-    following_run(end, level, gap, length, s[j] as u32, j + 1)
+    read_run(s, j, end, level, gap, length)
 }

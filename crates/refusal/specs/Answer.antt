@@ -3,7 +3,7 @@
 use Prim.Native.Nat.{ℕ}
 use mathlib.Core.Bool.{Bool, true, false}
 
--- A value, or a refusal: its number in document 01's table, and what is returned with it.
+-- A value, or a refusal: its number in the table of refusals, and what is returned with it.
 pub data Answer (A : Type 0) : Type 0 where
   accepted : A → Answer A
   refused : (number value : ℕ) → Answer A

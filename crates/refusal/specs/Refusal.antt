@@ -1,8 +1,8 @@
--- Document 01's table of refusals: the number of each row, and what it returns.
+-- Document 01's table of refusals, and document 02's: the number of each row, and what it returns.
 -- Assumes nothing.
 use Prim.Native.Nat.{ℕ}
 use Rattle.refusal.specs.declared.Refusal.{Refusal}
-use Rattle.refusal.specs.declared.Refusal.the-variants.{Ended, Malformed, HeaderRange, HazardRange, NearBarrier, OffRoad, LeftOver, Argument, Room, Schedule}
+use Rattle.refusal.specs.declared.Refusal.the-variants.{Ended, Malformed, HeaderRange, HazardRange, NearBarrier, OffRoad, LeftOver, Argument, Room, Schedule, Ranges}
 use Rattle.refusal.specs.declared.Outcome.{Outcome}
 use Rattle.refusal.specs.declared.Outcome.the-variants.{Done, Refused}
 use Rattle.refusal.specs.Answer.{Answer, accepted, refused}
@@ -18,6 +18,7 @@ numberOf (LeftOver at) = 7
 numberOf Argument = 8
 numberOf (Room needed) = 9
 numberOf Schedule = 10
+numberOf Ranges = 11
 
 abbrev pub valueOf : Refusal → ℕ
 valueOf (Ended at) = at
@@ -30,6 +31,7 @@ valueOf (LeftOver at) = at
 valueOf Argument = 0
 valueOf (Room needed) = needed
 valueOf Schedule = 0
+valueOf Ranges = 0
 
 -- The refusal as an answer.
 abbrev pub refusal : {A : Type 0} → Refusal → Answer A

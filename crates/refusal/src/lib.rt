@@ -1,4 +1,4 @@
-// Document 01's table of refusals: one case for each row, with the value that the row returns.
+// Document 01's table of refusals, and document 02's: one case for each row, with the value that the row returns.
 ghost use mathlib.Core.Path.{_≡_};
 ghost use Rattle.refusal.specs.Refusal.{numberOf, valueOf};
 
@@ -23,6 +23,8 @@ pub enum Refusal {
     Room(usize),
     // A schedule that is not the writing of a run list.
     Schedule,
+    // More than 64 ranges.
+    Ranges,
 }
 
 // The row's number in the table.
@@ -40,6 +42,7 @@ pub fn refusal_number(refusal: Refusal) -> u64
         Refusal::Argument => 8,
         Refusal::Room(_) => 9,
         Refusal::Schedule => 10,
+        Refusal::Ranges => 11,
     }
 }
 
@@ -58,6 +61,7 @@ pub fn refusal_value(refusal: Refusal) -> u64
         Refusal::Argument => 0,
         Refusal::Room(needed) => needed as u64,
         Refusal::Schedule => 0,
+        Refusal::Ranges => 0,
     }
 }
 

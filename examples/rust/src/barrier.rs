@@ -1,4 +1,4 @@
-//! The engine's three calls, safe to use. include/barrier.h is their manual;
+//! The engine's calls, safe to use. include/barrier.h is their manual;
 //! copy this file to link the engine from Rust, edition 2021 or 2024.
 
 // A program need not use every name.
@@ -31,6 +31,7 @@ pub const JOB_LEFT_OVER: u64 = 7;
 pub const ARGUMENT: u64 = 8;
 pub const OUTPUT_SHORT: u64 = 9;
 pub const NO_SCHEDULE: u64 = 10;
+pub const TOO_MANY_RANGES: u64 = 11;
 
 /// The calls as C has them.
 pub mod c {
@@ -46,6 +47,14 @@ pub mod c {
         pub found: u64,
         pub start: u64,
         pub end: u64,
+    }
+
+    #[repr(C)]
+    pub struct QuantitiesReply {
+        pub number: u64,
+        pub value: u64,
+        pub records: u64,
+        pub quantities: [u64; 64],
     }
 
     unsafe extern "C" {
@@ -73,6 +82,14 @@ pub mod c {
             side: u64,
             station: u64,
         ) -> Record;
+
+        pub fn barrier_quantities(
+            schedule: *const u8,
+            schedule_len: usize,
+            level: u64,
+            ranges: *const u64,
+            ranges_len: usize,
+        ) -> QuantitiesReply;
     }
 }
 
@@ -129,5 +146,42 @@ pub fn lookup(
         (DONE, 0) => Ok(None),
         (DONE, _) => Ok(Some(record.start as usize..record.end as usize)),
         (number, _) => Err(Refusal { number, value: 0 }),
+    }
+}
+
+/// The quantities of the ranges, in their order, and the records read.
+#[derive(Clone, Debug, PartialEq, Eq)]
+pub struct Quantities {
+    pub records: u64,
+    pub quantities: Vec<u64>,
+}
+
+/// How many millimetres of each range [p, q) have exactly that level.
+pub fn quantities(
+    schedule: &[u8],
+    level: u64,
+    ranges: &[(u64, u64)],
+) -> Result<Quantities, Refusal> {
+    let numbers: Vec<u64> = ranges.iter().flat_map(|&(p, q)| [p, q]).collect();
+    // SAFETY: both pointers are good for as many bytes and numbers as are named
+    // with them.
+    let reply = unsafe {
+        c::barrier_quantities(
+            schedule.as_ptr(),
+            schedule.len(),
+            level,
+            numbers.as_ptr(),
+            numbers.len(),
+        )
+    };
+    match reply.number {
+        DONE => Ok(Quantities {
+            records: reply.records,
+            quantities: reply.quantities.into_iter().take(ranges.len()).collect(),
+        }),
+        number => Err(Refusal {
+            number,
+            value: reply.value,
+        }),
     }
 }

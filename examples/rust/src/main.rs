@@ -123,6 +123,7 @@ fn print_refusal(out: &mut impl Write, what: &str, refusal: Refusal) -> io::Resu
         }
         barrier::OUTPUT_SHORT => writeln!(out, "the schedule takes {value} bytes"),
         barrier::NO_SCHEDULE => writeln!(out, "these bytes are not a schedule"),
+        barrier::TOO_MANY_RANGES => writeln!(out, "more than 64 ranges"),
         _ => writeln!(out, "a number that barrier.h does not have"),
     }
 }
@@ -187,31 +188,40 @@ fn print_price(out: &mut impl Write, what: &str, millimetres: u64) -> io::Result
     writeln!(out, "  {what:<19} {millimetres:6} mm {whole:6}.{rest:02}")
 }
 
-/// One lot, [p, q). Returns its millimetres of NC-3.
-fn print_lot(out: &mut impl Write, right: &[u8], p: u64, q: u64) -> Result<u64, Stop> {
-    let name = format!("[{p}, {q})");
-    let answer = barrier::quantity(right, NC_3, p, q);
-    let millimetres = done(out, &name, answer)?;
-    print_price(out, &name, millimetres)?;
-    Ok(millimetres)
+/// One range, [p, q), and its millimetres of NC-3.
+fn print_range(out: &mut impl Write, (p, q): (u64, u64), millimetres: u64) -> io::Result<()> {
+    print_price(out, &format!("[{p}, {q})"), millimetres)
 }
 
-/// Two lots that share a boundary, their sum, and the road in one lot. A range
-/// does not have its end station, so nothing is counted in both lots. A lot
-/// that is refused has no millimetres to add, so there is no sum behind it.
+/// Two lots that share a boundary, in one call, and their sum. A range does not
+/// have its end station, so nothing is counted in both lots. Where the call is
+/// refused there are no millimetres to add, so there is no sum.
 fn print_lots(out: &mut impl Write, right: &[u8], boundary: u64) -> Result<(), Stop> {
-    let first = print_lot(out, right, 0, boundary)?;
-    let second = print_lot(out, right, boundary, ROAD_END)?;
-    print_price(out, "both lots", first + second)?;
-    print_lot(out, right, 0, ROAD_END)?;
+    let lots = [(0, boundary), (boundary, ROAD_END)];
+    let answer = barrier::quantities(right, NC_3, &lots);
+    let quantities = done(out, "lots", answer)?.quantities;
+    for (lot, millimetres) in lots.into_iter().zip(&quantities) {
+        print_range(out, lot, *millimetres)?;
+    }
+    print_price(out, "both lots", quantities.iter().sum())?;
+    Ok(())
+}
+
+/// The road in one lot.
+fn print_road(out: &mut impl Write, right: &[u8]) -> Result<(), Stop> {
+    let answer = barrier::quantity(right, NC_3, 0, ROAD_END);
+    let millimetres = done(out, "road", answer)?;
+    print_range(out, (0, ROAD_END), millimetres)?;
     Ok(())
 }
 
 fn print_prices(out: &mut impl Write, right: &[u8]) -> Result<(), Stop> {
     writeln!(out, "NC-3 by lots, the boundary inside the run")?;
     print_lots(out, right, 180_000)?;
+    print_road(out, right)?;
     writeln!(out, "NC-3 by lots, the boundary where the run begins")?;
-    print_lots(out, right, 155_773)
+    print_lots(out, right, 155_773)?;
+    print_road(out, right)
 }
 
 /// A call that has to be refused.

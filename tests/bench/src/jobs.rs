@@ -3,6 +3,8 @@
 
 use cases::Random;
 use cases::draft::Draft;
+use reference::Stretch;
+use reference::level::Run;
 
 #[derive(Clone, Copy, PartialEq, Eq)]
 pub enum Kind {
@@ -106,12 +108,38 @@ fn islands(random: &mut Random, hazards: u64) -> Vec<[u64; 6]> {
     list
 }
 
+/// A written schedule of 511 runs of one level. A plan has as many runs only
+/// where runs of different levels touch; these stand apart.
+pub fn schedule_of_one_level(level: u64) -> Vec<u8> {
+    let mut random = Random::new(511, "one level");
+    let mut run = |index: u64| {
+        let start = 1_000_000 + index * 3_800_000 + random.below(500_000);
+        let end = start + random.between(1, 3_000_000);
+        Run {
+            stretch: Stretch::new(start, end),
+            level,
+        }
+    };
+    let runs: Vec<Run> = (0..511).map(&mut run).collect();
+    reference::schedule::writing(&runs)
+}
+
+/// The road in as many lots as a contract may have, as p, q, p, q and so on.
+pub fn lots(schedule: &[u8]) -> Vec<u64> {
+    let end = runs(schedule)
+        .last()
+        .map_or(ROAD_END, |run| run.stretch.end);
+    let most = reference::calls::MOST_RANGES as u64;
+    let lot = |lot| [end * lot / most, end * (lot + 1) / most];
+    (0..most).flat_map(lot).collect()
+}
+
 /// The planned schedule of the right side.
 pub fn schedule(job: &[u8]) -> Vec<u8> {
     reference::planned(job, 0).expect("the job is accepted")
 }
 
-pub fn runs(schedule: &[u8]) -> Vec<reference::level::Run> {
+pub fn runs(schedule: &[u8]) -> Vec<Run> {
     let records = reference::schedule::read(schedule).expect("it is a schedule");
     records.into_iter().map(|record| record.run).collect()
 }

@@ -3,16 +3,19 @@
 
 use std::hint::black_box;
 
-use cases::calls::{record, reply};
+use cases::calls::{contract, record, reply};
 
 use crate::jobs::{self, Kind, Order, ROAD_END};
 
-pub const NAMES: [&str; 6] = [
+pub const NAMES: [&str; 9] = [
     "sparse-shuffled",
     "dense-shuffled",
     "runs511-shuffled",
     "runs511-ordered",
     "quantity-511",
+    "quantities-64-all",
+    "quantities-64-half",
+    "quantity-64-single-calls",
     "lookup-511-middle",
 ];
 
@@ -52,6 +55,9 @@ impl Single {
             "runs511-shuffled" => self.plan(Kind::Islands, Order::Shuffled),
             "runs511-ordered" => self.plan(Kind::Islands, Order::Station),
             "quantity-511" => self.quantity(),
+            "quantities-64-all" => self.quantities(&jobs::schedule_of_one_level(3), 3),
+            "quantities-64-half" => self.quantities(&schedule_511(), 1),
+            "quantity-64-single-calls" => self.single_calls(&jobs::schedule_of_one_level(3), 3),
             _ => self.lookup(),
         }
     }
@@ -76,6 +82,32 @@ impl Single {
                 Who::Engine => engine::quantity(schedule, 3, 0, ROAD_END),
                 Who::Reference => reply(reference::quantity(schedule, 3, 0, ROAD_END)),
             });
+        }
+    }
+
+    /// 64 lots in one call.
+    fn quantities(&self, schedule: &[u8], level: u64) {
+        let lots = jobs::lots(schedule);
+        for _ in 0..self.times {
+            let (schedule, lots) = (black_box(schedule), black_box(&lots));
+            black_box(match self.who {
+                Who::Engine => engine::quantities(schedule, level, lots),
+                Who::Reference => contract(reference::quantities(schedule, level, lots)),
+            });
+        }
+    }
+
+    /// The same 64 lots, one call for each; all of them count as one.
+    fn single_calls(&self, schedule: &[u8], level: u64) {
+        let lots = jobs::lots(schedule);
+        for _ in 0..self.times {
+            for lot in lots.chunks_exact(2) {
+                let schedule = black_box(schedule);
+                black_box(match self.who {
+                    Who::Engine => engine::quantity(schedule, level, lot[0], lot[1]),
+                    Who::Reference => reply(reference::quantity(schedule, level, lot[0], lot[1])),
+                });
+            }
         }
     }
 

@@ -3,7 +3,7 @@
 use std::hint::black_box;
 use std::process::ExitCode;
 
-use cases::calls::{record, reply};
+use cases::calls::{contract, record, reply};
 
 use crate::jobs::{self, Kind, Order, ROAD_END};
 use crate::time::{self, Pair, Times};
@@ -28,6 +28,7 @@ pub fn print() -> ExitCode {
     print_plan(&planned);
     print_growth(&planned);
     print_quantity();
+    print_contract();
     print_lookup();
     ExitCode::SUCCESS
 }
@@ -186,6 +187,55 @@ fn measure_quantity(schedule: &[u8], end: u64, lots: u64) -> Times {
         engine: times.engine / lots as f64,
         reference: times.reference / lots as f64,
     }
+}
+
+/// 64 lots in one call, beside one call for each.
+fn print_contract() {
+    println!("\nQuantities, ns for 64 lots over 511 runs:\n");
+    println!("| schedule | runs of the level | calls | engine | reference | engine/reference |");
+    println!("|---|---:|---:|---:|---:|---:|");
+    let all = jobs::schedule_of_one_level(3);
+    let half = jobs::schedule(&jobs::job(Kind::Islands, Order::Station, 256));
+    for (name, schedule, level) in [("written", all, 3), ("planned", half, 1)] {
+        let runs = jobs::runs(&schedule);
+        let of_level = runs.iter().filter(|run| run.level == level).count();
+        let lots = jobs::lots(&schedule);
+        let one = measure_contract(&schedule, level, &lots);
+        let each = measure_single_calls(&schedule, level, &lots);
+        for (calls, times) in [(1, one), (lots.len() / 2, each)] {
+            println!("| {name} | {of_level} | {calls} | {} |", columns(&times));
+        }
+    }
+}
+
+fn measure_contract(schedule: &[u8], level: u64, lots: &[u64]) -> Times {
+    let pair = Pair {
+        engine: Box::new(|| {
+            black_box(engine::quantities(black_box(schedule), level, lots));
+        }),
+        reference: Box::new(|| {
+            let given = reference::quantities(black_box(schedule), level, lots);
+            black_box(contract(given));
+        }),
+    };
+    pair.times()
+}
+
+fn measure_single_calls(schedule: &[u8], level: u64, lots: &[u64]) -> Times {
+    let pair = Pair {
+        engine: Box::new(|| {
+            for lot in lots.chunks_exact(2) {
+                black_box(engine::quantity(black_box(schedule), level, lot[0], lot[1]));
+            }
+        }),
+        reference: Box::new(|| {
+            for lot in lots.chunks_exact(2) {
+                let given = reference::quantity(black_box(schedule), level, lot[0], lot[1]);
+                black_box(reply(given));
+            }
+        }),
+    };
+    pair.times()
 }
 
 fn print_lookup() {

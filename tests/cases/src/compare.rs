@@ -4,7 +4,7 @@
 use std::fmt;
 use std::ops::Range;
 
-use crate::calls::{self, Calls, Record, Reply};
+use crate::calls::{self, Calls, Contract, Record, Reply};
 use crate::hex;
 use crate::tally::Tally;
 
@@ -26,6 +26,11 @@ pub enum Case {
         level: u64,
         p: u64,
         q: u64,
+    },
+    Quantities {
+        schedule: Vec<u8>,
+        level: u64,
+        ranges: Vec<u64>,
     },
     Lookup {
         right: Vec<u8>,
@@ -51,6 +56,14 @@ impl fmt::Display for Case {
                 p,
                 q,
             } => write!(f, "--quantity {} {level} {p} {q}", hex::write(schedule)),
+            Case::Quantities {
+                schedule,
+                level,
+                ranges,
+            } => {
+                let (schedule, ranges) = (hex::write(schedule), hex::write_numbers(ranges));
+                write!(f, "--quantities {schedule} {level} {ranges}")
+            }
             Case::Lookup {
                 right,
                 left,
@@ -203,6 +216,36 @@ impl Checker {
         Err(self.difference(case(), what, reply_text(expected), reply_text(got)))
     }
 
+    pub fn quantities(
+        &mut self,
+        schedule: &[u8],
+        level: u64,
+        ranges: &[u64],
+    ) -> Result<Contract, Box<Difference>> {
+        let case = || Case::Quantities {
+            schedule: schedule.to_vec(),
+            level,
+            ranges: ranges.to_vec(),
+        };
+        self.trace(case);
+        let mut lent = schedule.to_vec();
+        let mut lent_ranges = ranges.to_vec();
+        let expected = calls::contract(reference::quantities(schedule, level, ranges));
+        let got = (self.calls.quantities)(&mut lent, level, &mut lent_ranges);
+        self.tally.count(expected.number);
+
+        let mut what = Vec::new();
+        note_reply(&mut what, expected != got);
+        note_input(&mut what, "schedule", schedule, &lent);
+        if ranges != lent_ranges {
+            what.push("the ranges were changed".to_string());
+        }
+        if what.is_empty() {
+            return Ok(got);
+        }
+        Err(self.difference(case(), what, contract_text(expected), contract_text(got)))
+    }
+
     pub fn lookup(
         &mut self,
         right: &[u8],
@@ -248,6 +291,11 @@ impl Checker {
                 p,
                 q,
             } => self.quantity(schedule, *level, *p, *q).map(|_| ()),
+            Case::Quantities {
+                schedule,
+                level,
+                ranges,
+            } => self.quantities(schedule, *level, ranges).map(|_| ()),
             Case::Lookup {
                 right,
                 left,
@@ -317,6 +365,17 @@ fn reply_text(reply: Reply) -> String {
 
 fn reply_and_output(reply: Reply, output: &[u8]) -> String {
     format!("{}, output {}", reply_text(reply), hex::write(output))
+}
+
+fn contract_text(contract: Contract) -> String {
+    let Contract {
+        number,
+        value,
+        records,
+        quantities,
+    } = contract;
+    let quantities = hex::write_numbers(&quantities);
+    format!("number {number} value {value} records {records} quantities {quantities}")
 }
 
 fn record_text(record: Record) -> String {

@@ -29,6 +29,7 @@ pub const ALL: &[Family] = &[
     family("jobs cut at every byte", cut_jobs),
     family("schedules cut at every byte", cut_schedules),
     family("quantities over rising lists", rising_lists),
+    family("quantities for whole contracts", contracts),
     family("lookups at every run's ends", run_ends),
     family("run lists and nearly run lists", run_lists),
     family("jobs of 511 runs", most_runs),
@@ -399,12 +400,14 @@ fn changed_jobs(checker: &mut Checker, random: &mut Random) -> Outcome {
     Ok(())
 }
 
-/// Quantity and lookup of bytes that may be a schedule or not.
+/// Quantity, quantities and lookup of bytes that may be a schedule or not.
 fn ask(checker: &mut Checker, random: &mut Random, schedule: &[u8]) -> Outcome {
     let level = random.between(1, 6);
     let p = random.edgy(0, 2_000_000_001);
     checker.quantity(schedule, level, 0, u64::MAX)?;
-    checker.quantity(schedule, random.between(1, 6), p, random_end(random, p))?;
+    let q = random_end(random, p);
+    checker.quantity(schedule, random.between(1, 6), p, q)?;
+    checker.quantities(schedule, level, &[p, q, 0, u64::MAX, q, q])?;
     let other = if random.percent(50) { vec![0] } else { vec![1] };
     checker.lookup(schedule, &other, 0, p)?;
     checker.lookup(&other, schedule, 1, random.edgy(0, 600))?;
@@ -436,12 +439,10 @@ fn changed_schedules(checker: &mut Checker, random: &mut Random) -> Outcome {
         for other in 1..=255u8 {
             let mut changed = schedule.clone();
             changed[at] ^= other;
-            checker.quantity(
-                &changed,
-                random.between(1, 6),
-                0,
-                random.edgy(0, 3_000_000_000),
-            )?;
+            let level = random.between(1, 6);
+            let end = random.edgy(0, 3_000_000_000);
+            checker.quantity(&changed, level, 0, end)?;
+            checker.quantities(&changed, level, &[0, end, end, u64::MAX])?;
             let station = station_near(random, &runs);
             checker.lookup(&changed, &schedule, 0, station)?;
         }
@@ -583,8 +584,9 @@ fn count_required(required: &Required, level: u64, p: u64, q: u64) -> u64 {
     in_set(level) - in_set(level + 1)
 }
 
-/// Each lot compared; and the reference's lots have to add up to the millimetres
-/// at which the job requires the level, over the whole list.
+/// Each lot compared, alone and all in one contract; and the reference's lots
+/// have to add up to the millimetres at which the job requires the level, over
+/// the whole list.
 fn rising_lists(checker: &mut Checker, random: &mut Random) -> Outcome {
     for _ in 0..120 {
         let job = accepted(random, 1, 40).bytes();
@@ -614,6 +616,9 @@ fn add_up(checker: &mut Checker, random: &mut Random, job: &[u8], side: u64) -> 
             sum, expected,
             "the reference, level {level}, lots of {list:?}"
         );
+        let contract = checker.quantities(&schedule, level, &lots(&list))?;
+        let sum: u64 = contract.quantities.iter().sum();
+        assert_eq!((contract.records, sum), (runs.len() as u64, expected));
     }
     refused_quantities(checker, random, &schedule, &runs)
 }
@@ -645,6 +650,179 @@ fn refused_quantities(
     let bad = &schedule[..schedule.len() - 1];
     checker.quantity(bad, level, p, q)?;
     checker.quantity(bad, 1, p, q)?;
+    Ok(())
+}
+
+// Quantities for whole contracts.
+
+/// The lots of a rising list as ranges.
+fn lots(list: &[u64]) -> Vec<u64> {
+    list.windows(2).flatten().copied().collect()
+}
+
+fn contracts(checker: &mut Checker, random: &mut Random) -> Outcome {
+    for _ in 0..500 {
+        let runs = contract_runs(random);
+        let schedule = schedule::writing(&runs);
+        for _ in 0..4 {
+            let ranges = faulty_ranges(random, &runs);
+            checker.quantities(&schedule, contract_level(random, &runs), &ranges)?;
+        }
+        let ranges = faulty_ranges(random, &runs);
+        let level = contract_level(random, &runs);
+        checker.quantities(&damaged(random, &schedule), level, &ranges)?;
+    }
+    let (right, _) = schedules(random, 1, 12);
+    contract_refusals(checker, &right)?;
+    let many = jobs::islands(random, 0, 255).bytes();
+    let runs = random_runs(random, 511);
+    for schedule in [
+        planned(&many, 0).unwrap_or_default(),
+        schedule::writing(&runs),
+    ] {
+        for _ in 0..6 {
+            let ranges = ranges(random, &runs);
+            checker.quantities(&schedule, random.between(1, 6), &ranges)?;
+        }
+    }
+    Ok(())
+}
+
+/// The runs of a random job, or random runs.
+fn contract_runs(random: &mut Random) -> Vec<Run> {
+    match random.below(10) {
+        0..=5 => {
+            let job = accepted(random, 1, 40).bytes();
+            let of_side = required(&job, random.below(2)).map(|required| required.runs());
+            of_side.unwrap_or_default()
+        }
+        6..=8 => {
+            let count = random.below(9);
+            random_runs(random, count)
+        }
+        _ => {
+            let count = random.below(81);
+            random_runs(random, count)
+        }
+    }
+}
+
+/// A level of the runs more often than others, at times none that there is.
+fn contract_level(random: &mut Random, runs: &[Run]) -> u64 {
+    match random.below(10) {
+        0 => random.pick(&[0, 7, 8, 255, 256, 257, (1 << 32) + 1, u64::MAX]),
+        1..=6 if !runs.is_empty() => runs[random.index(runs.len())].level,
+        _ => random.between(1, 6),
+    }
+}
+
+/// 0 to 200 ranges, the limit and its neighbours more often than others:
+/// rising lots, or ranges in no order that overlap, repeat or are empty.
+fn ranges(random: &mut Random, runs: &[Run]) -> Vec<u64> {
+    let few = random.below(8) as usize;
+    let any = random.below(201) as usize;
+    let count = random.pick(&[0, 1, 2, few, few, few, 63, 64, 65, 66, 200, any]);
+    let mut stations: Vec<u64> = (0..=count).map(|_| station(random, runs)).collect();
+    let mut list: Vec<[u64; 2]> = Vec::new();
+    if random.percent(30) {
+        stations.sort();
+        list.extend(stations.windows(2).map(|lot| [lot[0], lot[1]]));
+    } else {
+        for _ in 0..count {
+            let (p, q) = (random.pick(&stations), random.pick(&stations));
+            list.push([p.min(q), p.max(q)]);
+        }
+    }
+    if random.percent(20) {
+        random.shuffle(&mut list);
+    }
+    if random.percent(20) && !list.is_empty() {
+        let again = list[random.index(list.len())];
+        let at = random.index(list.len());
+        list[at] = again;
+    }
+    list.concat()
+}
+
+/// On the road and off it.
+fn station(random: &mut Random, runs: &[Run]) -> u64 {
+    match random.below(20) {
+        0 => random.draw(),
+        1 => random.edgy(0, 2_000_000_000),
+        _ => station_near(random, runs),
+    }
+}
+
+/// At times with p > q in one range, or a number without its partner.
+fn faulty_ranges(random: &mut Random, runs: &[Run]) -> Vec<u64> {
+    let mut ranges = ranges(random, runs);
+    if random.percent(15) && !ranges.is_empty() {
+        let range = random.index(ranges.len() / 2);
+        turn(&mut ranges, range);
+    }
+    if random.percent(10) {
+        if random.percent(50) || ranges.is_empty() {
+            ranges.push(station(random, runs));
+        } else {
+            ranges.pop();
+        }
+    }
+    ranges
+}
+
+/// Makes p > q in one range.
+fn turn(ranges: &mut [u64], range: usize) {
+    let (p, q) = (ranges[2 * range], ranges[2 * range + 1]);
+    match p == q {
+        true => (ranges[2 * range], ranges[2 * range + 1]) = (p.max(1), p.max(1) - 1),
+        false => (ranges[2 * range], ranges[2 * range + 1]) = (q, p),
+    }
+}
+
+/// Cut, made longer, with a byte changed, or other bytes altogether.
+fn damaged(random: &mut Random, schedule: &[u8]) -> Vec<u8> {
+    let mut bytes = schedule.to_vec();
+    let at = random.index(bytes.len());
+    match random.below(8) {
+        0 => bytes.truncate(at),
+        1..=2 => bytes.truncate(bytes.len() - 1),
+        3 => bytes.push(random.draw() as u8),
+        4 => {
+            bytes = (0..random.below(30))
+                .map(|_| random.draw() as u8 & 0x87)
+                .collect()
+        }
+        _ => bytes[at] ^= random.between(1, 255) as u8,
+    }
+    bytes
+}
+
+/// Every count of ranges next to the limit, with a level that there is or not,
+/// with p > q in no range or in one, with a last number without its partner or
+/// not, over a schedule that is one or not: the order of 8, 11 and 10.
+fn contract_refusals(checker: &mut Checker, schedule: &[u8]) -> Outcome {
+    let cut = &schedule[..schedule.len() - 1];
+    for count in [0, 1, 2, 63, 64, 65, 66, 200] {
+        for level in [0, 1, 6, 7] {
+            for turned in [
+                None,
+                Some(0),
+                Some(count / 2),
+                Some(63),
+                Some(64),
+                Some(count),
+            ] {
+                let mut ranges: Vec<u64> = (0..2 * count as u64).map(|i| 10 * i).collect();
+                match turned {
+                    Some(range) if range < count => turn(&mut ranges, range),
+                    Some(_) => ranges.push(5),
+                    None => (),
+                }
+                checker.quantities(schedule, level, &ranges)?;
+                checker.quantities(cut, level, &ranges)?;
+            }
+        }
+    }
     Ok(())
 }
 

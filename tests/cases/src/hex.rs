@@ -1,4 +1,4 @@
-//! Bytes as text. No bytes at all are written as `-`.
+//! Bytes and lists of numbers as text. None at all are written as `-`.
 
 pub fn write(bytes: &[u8]) -> String {
     if bytes.is_empty() {
@@ -18,4 +18,20 @@ pub fn read(text: &str) -> Option<Vec<u8>> {
     pairs
         .map(|at| u8::from_str_radix(&text[at..at + 2], 16).ok())
         .collect()
+}
+
+/// Numbers in decimal, a comma between them.
+pub fn write_numbers(numbers: &[u64]) -> String {
+    if numbers.is_empty() {
+        return "-".to_string();
+    }
+    let texts: Vec<String> = numbers.iter().map(u64::to_string).collect();
+    texts.join(",")
+}
+
+pub fn read_numbers(text: &str) -> Option<Vec<u64>> {
+    if text == "-" {
+        return Some(Vec::new());
+    }
+    text.split(',').map(|number| number.parse().ok()).collect()
 }

@@ -11,7 +11,7 @@ pub mod jobs;
 pub mod tally;
 pub mod wrong;
 
-pub use calls::{Calls, Record, Reply};
+pub use calls::{Calls, Contract, Record, Reply};
 pub use compare::{Case, Checker, Difference};
 pub use reference::draft;
 pub use reference::random::Random;

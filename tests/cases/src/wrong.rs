@@ -4,12 +4,18 @@
 use std::ops::Range;
 
 use reference::approach::{fraction, whole};
+use reference::calls::MOST_RANGES;
 use reference::envelope::{self, Approach, Direction, Envelope, Lengthening};
 use reference::job::{self, Hazard, Job, Reader};
 use reference::level::{self, Required, Run};
-use reference::{Outcome, Refusal, Stretch, lookup, number, quantity, schedule};
+use reference::{
+    Outcome, Quantities, Refusal, Stretch, lookup, number, quantities, quantity, schedule,
+};
 
-use crate::calls::{Calls, PlanCall, QuantityCall, Record, Reply, record, reply, right};
+use crate::calls::{
+    Calls, Contract, PlanCall, QuantitiesCall, QuantityCall, Record, Reply, contract, record,
+    reply, right,
+};
 use crate::draft::number_bytes;
 
 /// Every wrong engine with the name of its slip.
@@ -20,6 +26,7 @@ pub fn all() -> Vec<(&'static str, Calls)> {
     list.extend(wrong_refusals());
     list.extend(wrong_memory());
     list.extend(wrong_quantities());
+    list.extend(wrong_contracts());
     list.extend(wrong_lookups());
     list.extend(wrong_readings());
     list
@@ -32,6 +39,13 @@ fn with_plan(plan: Box<PlanCall>) -> Calls {
 fn with_quantity(quantity: Box<QuantityCall>) -> Calls {
     Calls {
         quantity,
+        ..right()
+    }
+}
+
+fn with_quantities(quantities: Box<QuantitiesCall>) -> Calls {
+    Calls {
+        quantities,
         ..right()
     }
 }
@@ -893,6 +907,364 @@ fn whole_runs(schedule: &[u8], level: u64, p: u64, q: u64) -> Result<u64, Refusa
         .sum())
 }
 
+// Quantities for whole contracts.
+
+fn wrong_contracts() -> Vec<(&'static str, Calls)> {
+    let asked = |call: fn(&[u8], u64, &[u64]) -> Contract| {
+        with_quantities(Box::new(move |schedule, level, ranges| {
+            call(schedule, level, ranges)
+        }))
+    };
+    let changed = |change: fn(&mut Contract, &[u8], u64, &[u64])| {
+        with_quantities(Box::new(move |schedule, level, ranges| {
+            let mut reply = contract(quantities(schedule, level, ranges));
+            change(&mut reply, schedule, level, ranges);
+            reply
+        }))
+    };
+    let reading = |reading: Reading| {
+        with_quantities(Box::new(move |schedule, level, ranges| {
+            quantities_by(&reading, schedule, level, ranges)
+        }))
+    };
+    let mut list = vec![
+        (
+            "refusal 11 before 8",
+            changed(|reply, _, _, ranges| {
+                if reply.number == 8 && ranges.len() > 2 * MOST_RANGES {
+                    *reply = refused_contract(11);
+                }
+            }),
+        ),
+        (
+            "p above q behind the 64th range passed over",
+            changed(|reply, schedule, level, ranges| {
+                if reply.number == 8 && ranges.len() > 2 * MOST_RANGES && ranges.len() % 2 == 0 {
+                    let first = quantities(schedule, level, &ranges[..2 * MOST_RANGES]);
+                    *reply = match contract(first).number {
+                        8 => *reply,
+                        _ => refused_contract(11),
+                    };
+                }
+            }),
+        ),
+        (
+            "p above q looked for in the first range alone",
+            changed(|reply, schedule, level, ranges| {
+                if reply.number == 8 && ranges.len() % 2 == 0 && ranges.len() <= 2 * MOST_RANGES {
+                    let mut set_right = ranges.to_vec();
+                    for range in set_right.chunks_exact_mut(2).skip(1) {
+                        range[1] = range[1].max(range[0]);
+                    }
+                    *reply = contract(quantities(schedule, level, &set_right));
+                }
+            }),
+        ),
+        (
+            "refusal 10 before 11",
+            changed(|reply, schedule, _, _| {
+                if reply.number == 11 && schedule::read(schedule).is_none() {
+                    *reply = refused_contract(10);
+                }
+            }),
+        ),
+        (
+            "refusal 11 with the count of ranges",
+            changed(|reply, _, _, ranges| {
+                if reply.number == 11 {
+                    reply.value = ranges.len() as u64 / 2;
+                }
+            }),
+        ),
+        (
+            "a number without its partner passed over",
+            asked(|schedule, level, ranges| {
+                let whole = &ranges[..ranges.len() / 2 * 2];
+                contract(quantities(schedule, level, whole))
+            }),
+        ),
+        (
+            "a number without its partner counted as a range of 11",
+            changed(|reply, schedule, level, ranges| {
+                if ranges.len() % 2 == 1 && ranges.len() > 2 * MOST_RANGES {
+                    let mut partner = ranges.to_vec();
+                    partner.push(u64::MAX);
+                    *reply = contract(quantities(schedule, level, &partner));
+                }
+            }),
+        ),
+        (
+            "65 ranges taken",
+            asked(|schedule, level, ranges| {
+                let taken = match contract(quantities(schedule, level, ranges)).number {
+                    11 if ranges.len() == 2 * MOST_RANGES + 2 => &ranges[..2 * MOST_RANGES],
+                    _ => ranges,
+                };
+                contract(quantities(schedule, level, taken))
+            }),
+        ),
+        (
+            "64 ranges refused 11",
+            changed(|reply, _, _, ranges| {
+                if reply.number == 0 && ranges.len() == 2 * MOST_RANGES {
+                    *reply = refused_contract(11);
+                }
+            }),
+        ),
+        (
+            "no ranges refused 8",
+            changed(|reply, _, _, ranges| {
+                if ranges.is_empty() {
+                    *reply = refused_contract(8);
+                }
+            }),
+        ),
+        (
+            "no ranges, so no record read",
+            changed(|reply, _, _, ranges| {
+                if ranges.is_empty() {
+                    reply.records = 0;
+                }
+            }),
+        ),
+        (
+            "no ranges, so no schedule refused",
+            changed(|reply, _, _, ranges| {
+                if ranges.is_empty() && reply.number == 10 {
+                    *reply = refused_contract(0);
+                }
+            }),
+        ),
+        (
+            "an empty range refused",
+            changed(|reply, _, _, ranges| {
+                if ranges.chunks_exact(2).any(|range| range[0] == range[1]) {
+                    *reply = refused_contract(8);
+                }
+            }),
+        ),
+        (
+            "the end station given to both ranges",
+            asked(|schedule, level, ranges| {
+                let mut longer = ranges.to_vec();
+                if contract(quantities(schedule, level, ranges)).number == 0 {
+                    for range in longer.chunks_exact_mut(2) {
+                        range[1] = range[1].saturating_add(1);
+                    }
+                }
+                contract(quantities(schedule, level, &longer))
+            }),
+        ),
+        (
+            "records taken from the head of a damaged schedule",
+            changed(|reply, schedule, _, _| {
+                if let (10, Ok(head)) = (reply.number, number::read(schedule, 0)) {
+                    reply.records = head.value;
+                }
+            }),
+        ),
+        (
+            "records left after an argument refused",
+            changed(|reply, schedule, _, _| {
+                if let (8, Some(records)) = (reply.number, schedule::read(schedule)) {
+                    reply.records = records.len() as u64;
+                }
+            }),
+        ),
+        (
+            "records of the level alone",
+            changed(|reply, schedule, level, _| {
+                let records = schedule::read(schedule).unwrap_or_default();
+                let of_level = records.iter().filter(|record| record.run.level == level);
+                reply.records = reply.records.min(of_level.count() as u64);
+            }),
+        ),
+        (
+            "records up to the last range alone",
+            changed(|reply, schedule, _, ranges| {
+                let end = ranges.iter().max().copied().unwrap_or(u64::MAX);
+                let records = schedule::read(schedule).unwrap_or_default();
+                let walked = records.iter().filter(|r| r.run.stretch.start < end);
+                reply.records = reply.records.min(walked.count() as u64);
+            }),
+        ),
+        (
+            "quantities left after a damaged schedule is refused",
+            changed(|reply, schedule, level, ranges| {
+                if reply.number == 10 {
+                    reply.quantities = quantities_until_the_fault(schedule, level, ranges);
+                }
+            }),
+        ),
+        (
+            "quantities of the first 64 ranges left after refusal 11",
+            changed(|reply, schedule, level, ranges| {
+                if reply.number == 11 {
+                    let first = quantities(schedule, level, &ranges[..2 * MOST_RANGES]);
+                    reply.quantities = contract(first).quantities;
+                }
+            }),
+        ),
+        (
+            "quantities of the ranges before p above q left",
+            changed(|reply, schedule, level, ranges| {
+                if reply.number == 8 && ranges.len() <= 2 * MOST_RANGES {
+                    let mut pairs = ranges.chunks_exact(2);
+                    let whole = pairs.position(|range| range[0] > range[1]).unwrap_or(0);
+                    let before = quantities(schedule, level, &ranges[..2 * whole]);
+                    reply.quantities = contract(before).quantities;
+                }
+            }),
+        ),
+        (
+            "a quantity behind the last range",
+            changed(|reply, schedule, level, ranges| {
+                if let Some(place) = reply.quantities.get_mut(ranges.len() / 2) {
+                    *place = quantity(schedule, level, 0, u64::MAX).unwrap_or(0);
+                }
+            }),
+        ),
+        (
+            "the 64th quantity left out",
+            changed(|reply, _, _, _| reply.quantities[MOST_RANGES - 1] = 0),
+        ),
+        (
+            "ranges taken as lots that do not overlap",
+            asked(|schedule, level, ranges| {
+                let mut apart = ranges.to_vec();
+                let mut end = 0;
+                if contract(quantities(schedule, level, ranges)).number == 0 {
+                    for range in apart.chunks_exact_mut(2) {
+                        range[0] = range[0].max(end).min(range[1]);
+                        end = range[1];
+                    }
+                }
+                contract(quantities(schedule, level, &apart))
+            }),
+        ),
+        (
+            "quantities in the order of the stations",
+            asked(|schedule, level, ranges| {
+                contract(quantities(schedule, level, &in_order(ranges)))
+            }),
+        ),
+        (
+            "that level or higher counted in a contract",
+            changed(|reply, schedule, level, ranges| {
+                for higher in level..=level::HIGHEST {
+                    if higher > level && reply.number == 0 {
+                        let more = contract(quantities(schedule, higher, ranges));
+                        for (sum, quantity) in reply.quantities.iter_mut().zip(more.quantities) {
+                            *sum += quantity;
+                        }
+                    }
+                }
+            }),
+        ),
+        (
+            "ranges in 32 bits",
+            asked(|schedule, level, ranges| {
+                let mut cut = ranges.to_vec();
+                if contract(quantities(schedule, level, ranges)).number == 0 {
+                    for range in cut.chunks_exact_mut(2) {
+                        range[0] &= 0xFFFF_FFFF;
+                        range[1] = (range[1] & 0xFFFF_FFFF).max(range[0]);
+                    }
+                }
+                contract(quantities(schedule, level, &cut))
+            }),
+        ),
+        (
+            "the ranges put in order in the caller's memory",
+            with_quantities(Box::new(|schedule, level, ranges| {
+                let reply = contract(quantities(schedule, level, ranges));
+                let sorted = in_order(ranges);
+                ranges.copy_from_slice(&sorted);
+                reply
+            })),
+        ),
+        (
+            "the schedule's bytes changed by quantities",
+            with_quantities(Box::new(|schedule, level, ranges| {
+                let reply = contract(quantities(schedule, level, ranges));
+                if let Some(last) = schedule.last_mut() {
+                    *last ^= 1;
+                }
+                reply
+            })),
+        ),
+    ];
+    list.extend([
+        (
+            "512 runs read by quantities",
+            reading(Reading {
+                most_runs: 512,
+                ..STRICT
+            }),
+        ),
+        (
+            "touching runs of one level read by quantities",
+            reading(Reading {
+                touching: true,
+                ..STRICT
+            }),
+        ),
+        (
+            "bytes behind the last record read by quantities",
+            reading(Reading {
+                left_over: true,
+                ..STRICT
+            }),
+        ),
+        (
+            "non-shortest numbers accepted by quantities",
+            reading(Reading {
+                shortest_only: false,
+                ..STRICT
+            }),
+        ),
+    ]);
+    list
+}
+
+fn refused_contract(number: u64) -> Contract {
+    Contract {
+        number,
+        value: 0,
+        records: 0,
+        quantities: [0; MOST_RANGES],
+    }
+}
+
+/// The ranges by their stations; a last number without its partner stays.
+fn in_order(ranges: &[u64]) -> Vec<u64> {
+    let pairs = ranges.chunks_exact(2);
+    let rest = pairs.remainder();
+    let mut list: Vec<&[u64]> = pairs.collect();
+    list.sort();
+    list.push(rest);
+    list.concat()
+}
+
+/// What the records give that stand before the fault.
+fn quantities_until_the_fault(schedule: &[u8], level: u64, ranges: &[u64]) -> [u64; MOST_RANGES] {
+    let mut sums = [0; MOST_RANGES];
+    let mut at = number::read(schedule, 0).map_or(schedule.len(), |count| count.next);
+    let mut runs: Vec<Run> = Vec::new();
+    while let Some(values) = next_three(schedule, &mut at) {
+        let Some(run) = run_by(&STRICT, &runs, values) else {
+            break;
+        };
+        if run.level == level {
+            for (sum, range) in sums.iter_mut().zip(ranges.chunks_exact(2)) {
+                *sum += run.stretch.shared(&Stretch::new(range[0], range[1]));
+            }
+        }
+        runs.push(run);
+    }
+    sums
+}
+
 // Lookups.
 
 fn wrong_lookups() -> Vec<(&'static str, Calls)> {
@@ -1122,21 +1494,39 @@ fn quantity_by(
     if !(1..=level::HIGHEST).contains(&level) || p > q {
         return Err(Refusal::argument());
     }
+    let runs = read_by(reading, schedule).ok_or(Refusal::no_schedule())?;
+    Ok(shared_by(&runs, level, p, q))
+}
+
+/// The millimetres of [p, q) in the runs of this level.
+fn shared_by(runs: &[Run], level: u64, p: u64, q: u64) -> u64 {
+    let asked = Stretch::new(p, q);
+    let of_level = runs.iter().filter(|run| run.level == level);
+    of_level.map(|run| run.stretch.shared(&asked)).sum()
+}
+
+fn quantities_by(reading: &Reading, schedule: &[u8], level: u64, ranges: &[u64]) -> Contract {
+    // What does not hang on the schedule is refused before it is read.
+    let refused = contract(quantities(&[], level, ranges));
+    if refused.number != 10 {
+        return refused;
+    }
+    let Some(runs) = read_by(reading, schedule) else {
+        return refused;
+    };
+    let shared = |range: &[u64]| shared_by(&runs, level, range[0], range[1]);
+    contract(Ok(Quantities {
+        records: runs.len() as u64,
+        quantities: ranges.chunks_exact(2).map(shared).collect(),
+    }))
+}
+
+fn read_by(reading: &Reading, schedule: &[u8]) -> Option<Vec<Run>> {
     let again = match reading.shortest_only {
         true => None,
         false => shortest(schedule),
     };
     let bytes = again.as_deref().unwrap_or(schedule);
-    let runs = read_by(reading, bytes).ok_or(Refusal::no_schedule())?;
-    let asked = Stretch::new(p, q);
-    Ok(runs
-        .iter()
-        .filter(|run| run.level == level)
-        .map(|run| run.stretch.shared(&asked))
-        .sum())
-}
-
-fn read_by(reading: &Reading, bytes: &[u8]) -> Option<Vec<Run>> {
     let mut runs: Vec<Run> = Vec::new();
     let count = number::read(bytes, 0).ok()?;
     if count.value > reading.most_runs as u64 {
@@ -1144,16 +1534,22 @@ fn read_by(reading: &Reading, bytes: &[u8]) -> Option<Vec<Run>> {
     }
     let mut at = count.next;
     for _ in 0..count.value {
-        let mut values = [0; 3];
-        for value in &mut values {
-            let number = number::read(bytes, at).ok()?;
-            *value = number.value;
-            at = number.next;
-        }
+        let values = next_three(bytes, &mut at)?;
         let run = run_by(reading, &runs, values)?;
         runs.push(run);
     }
     (at == bytes.len() || reading.left_over).then_some(runs)
+}
+
+/// The three numbers of a record.
+fn next_three(bytes: &[u8], at: &mut usize) -> Option<[u64; 3]> {
+    let mut values = [0; 3];
+    for value in &mut values {
+        let number = number::read(bytes, *at).ok()?;
+        *value = number.value;
+        *at = number.next;
+    }
+    Some(values)
 }
 
 fn run_by(reading: &Reading, runs: &[Run], [distance, length, level]: [u64; 3]) -> Option<Run> {
@@ -1180,6 +1576,9 @@ mod tests {
         let calls = Calls {
             quantity: Box::new(|schedule, level, p, q| {
                 reply(quantity_by(&STRICT, schedule, level, p, q))
+            }),
+            quantities: Box::new(|schedule, level, ranges| {
+                quantities_by(&STRICT, schedule, level, ranges)
             }),
             ..by(RIGHT)
         };

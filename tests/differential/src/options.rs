@@ -13,6 +13,7 @@ options:
 one case alone, bytes in hex, no bytes as -:
   --plan JOB SIDE OUTPUT_LENGTH FILL
   --quantity SCHEDULE LEVEL P Q
+  --quantities SCHEDULE LEVEL P,Q,P,Q (no ranges as -)
   --lookup RIGHT LEFT SIDE STATION
 ";
 
@@ -41,9 +42,10 @@ pub fn read(arguments: &[String]) -> Option<Options> {
             "--rounds" => amount = Amount::Rounds(number(rest.next())?),
             "--seconds" => amount = Amount::Seconds(number(rest.next())?),
             "--trace" => trace = true,
-            "--plan" | "--quantity" | "--lookup" => {
-                let values = [rest.next()?, rest.next()?, rest.next()?, rest.next()?];
-                case = Some(read_case(option, values)?);
+            "--plan" | "--quantity" | "--quantities" | "--lookup" => {
+                let count = if option == "--quantities" { 3 } else { 4 };
+                let values: Vec<&str> = rest.by_ref().take(count).collect();
+                case = Some(read_case(option, &values)?);
             }
             _ => return None,
         }
@@ -73,9 +75,9 @@ fn number(text: Option<&str>) -> Option<u64> {
     text?.parse().ok()
 }
 
-fn read_case(option: &str, values: [&str; 4]) -> Option<Case> {
-    let value = |at: usize| number(Some(values[at]));
-    let bytes = |at: usize| hex::read(values[at]);
+fn read_case(option: &str, values: &[&str]) -> Option<Case> {
+    let value = |at: usize| number(values.get(at).copied());
+    let bytes = |at: usize| hex::read(values.get(at)?);
     Some(match option {
         "--plan" => Case::Plan {
             job: bytes(0)?,
@@ -88,6 +90,11 @@ fn read_case(option: &str, values: [&str; 4]) -> Option<Case> {
             level: value(1)?,
             p: value(2)?,
             q: value(3)?,
+        },
+        "--quantities" => Case::Quantities {
+            schedule: bytes(0)?,
+            level: value(1)?,
+            ranges: hex::read_numbers(values.get(2)?)?,
         },
         _ => Case::Lookup {
             right: bytes(0)?,

@@ -3,7 +3,7 @@
 
 use std::ops::Range;
 
-use cases::{Calls, Record, Reply};
+use cases::{Calls, Contract, Record, Reply};
 
 /// The shipped file itself, so that it is tested too.
 #[path = "../../../examples/rust/src/barrier.rs"]
@@ -29,6 +29,17 @@ impl From<c::Record> for Record {
     }
 }
 
+impl From<c::QuantitiesReply> for Contract {
+    fn from(reply: c::QuantitiesReply) -> Contract {
+        Contract {
+            number: reply.number,
+            value: reply.value,
+            records: reply.records,
+            quantities: reply.quantities,
+        }
+    }
+}
+
 pub fn plan(job: &[u8], side: u64, out: &mut [u8]) -> Reply {
     // SAFETY: both pointers are good for as many bytes as are named with them,
     // and `out` is lent to this call alone.
@@ -38,6 +49,15 @@ pub fn plan(job: &[u8], side: u64, out: &mut [u8]) -> Reply {
 pub fn quantity(schedule: &[u8], level: u64, p: u64, q: u64) -> Reply {
     // SAFETY: the pointer is good for as many bytes as are named with it.
     unsafe { c::barrier_quantity(schedule.as_ptr(), schedule.len(), level, p, q).into() }
+}
+
+/// The ranges are p, q, p, q and so on.
+pub fn quantities(schedule: &[u8], level: u64, ranges: &[u64]) -> Contract {
+    let (schedule_len, ranges_len) = (schedule.len(), ranges.len());
+    let (schedule, ranges) = (schedule.as_ptr(), ranges.as_ptr());
+    // SAFETY: both pointers are good for as many bytes and numbers as are named
+    // with them.
+    unsafe { c::barrier_quantities(schedule, schedule_len, level, ranges, ranges_len).into() }
 }
 
 pub fn lookup(right: &[u8], left: &[u8], side: u64, station: u64) -> Record {
@@ -66,6 +86,14 @@ pub fn calls() -> Calls {
             // SAFETY: as in `quantity`.
             unsafe { c::barrier_quantity(schedule.as_mut_ptr(), schedule_len, level, p, q).into() }
         }),
+        quantities: Box::new(|schedule, level, ranges| {
+            let (schedule_len, ranges_len) = (schedule.len(), ranges.len());
+            let (schedule, ranges) = (schedule.as_mut_ptr(), ranges.as_mut_ptr());
+            // SAFETY: as in `quantities`.
+            unsafe {
+                c::barrier_quantities(schedule, schedule_len, level, ranges, ranges_len).into()
+            }
+        }),
         lookup: Box::new(|right, left, side, station| {
             let (right_len, left_len) = (right.len(), left.len());
             let (right, left) = (right.as_mut_ptr(), left.as_mut_ptr());
@@ -93,10 +121,44 @@ pub fn shipped_calls() -> Calls {
             reply(written.map(|written| written as u64))
         }),
         quantity: Box::new(|schedule, level, p, q| reply(barrier::quantity(schedule, level, p, q))),
+        quantities: Box::new(|schedule, level, ranges| shipped_quantities(schedule, level, ranges)),
         lookup: Box::new(|right, left, side, station| {
             record(barrier::lookup(right, left, side, station))
         }),
     }
+}
+
+/// The shipped call takes pairs; a number without its partner is none, and is
+/// asked through the pointers.
+fn shipped_quantities(schedule: &[u8], level: u64, ranges: &[u64]) -> Contract {
+    if ranges.len() % 2 == 1 {
+        return quantities(schedule, level, ranges);
+    }
+    let pairs = ranges.chunks_exact(2).map(|range| (range[0], range[1]));
+    let pairs: Vec<(u64, u64)> = pairs.collect();
+    contract(barrier::quantities(schedule, level, &pairs), pairs.len())
+}
+
+/// As many quantities are wanted as there are ranges.
+fn contract(answer: Result<barrier::Quantities, Refusal>, ranges: usize) -> Contract {
+    let mut contract = Contract {
+        number: 0,
+        value: 0,
+        records: 0,
+        quantities: [0; 64],
+    };
+    match answer {
+        Ok(answer) => {
+            assert_eq!(answer.quantities.len(), ranges, "quantities and ranges");
+            contract.records = answer.records;
+            contract.quantities[..ranges].copy_from_slice(&answer.quantities);
+        }
+        Err(Refusal { number, value }) => {
+            contract.number = number;
+            contract.value = value;
+        }
+    }
+    contract
 }
 
 fn reply(answer: Result<u64, Refusal>) -> Reply {

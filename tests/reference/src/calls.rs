@@ -1,4 +1,4 @@
-//! The calls: plan, quantity and lookup.
+//! The calls: plan, quantity, quantities and lookup.
 
 use crate::envelope::{self, Envelope};
 use crate::job;
@@ -58,6 +58,43 @@ pub fn quantity(schedule: &[u8], level: u64, p: u64, q: u64) -> Result<u64, Refu
     Ok(of_level
         .map(|record| record.run.stretch.shared(&asked))
         .sum())
+}
+
+/// What quantities gives: the count of records read, and a quantity for each
+/// range, in the order of the ranges.
+#[derive(Clone, Debug, PartialEq, Eq)]
+pub struct Quantities {
+    pub records: u64,
+    pub quantities: Vec<u64>,
+}
+
+/// A contract has at most this many ranges.
+pub const MOST_RANGES: usize = 64;
+
+/// How many millimetres of each range have exactly that level. The ranges are
+/// p, q, p, q and so on; they may overlap. 8 is for every range, also for
+/// those behind the 64th, and comes before 11; 10 comes last.
+pub fn quantities(schedule: &[u8], level: u64, ranges: &[u64]) -> Result<Quantities, Refusal> {
+    let bad_level = !(1..=HIGHEST).contains(&level);
+    let without_partner = ranges.len() % 2 == 1;
+    let turned = ranges.chunks_exact(2).any(|range| range[0] > range[1]);
+    if bad_level || without_partner || turned {
+        return Err(Refusal::argument());
+    }
+    if ranges.len() / 2 > MOST_RANGES {
+        return Err(Refusal::too_many_ranges());
+    }
+    let records = schedule::read(schedule).ok_or(Refusal::no_schedule())?;
+    let mut quantities = vec![0; ranges.len() / 2];
+    for record in records.iter().filter(|record| record.run.level == level) {
+        for (quantity, range) in quantities.iter_mut().zip(ranges.chunks_exact(2)) {
+            *quantity += record.run.stretch.shared(&Stretch::new(range[0], range[1]));
+        }
+    }
+    Ok(Quantities {
+        records: records.len() as u64,
+        quantities,
+    })
 }
 
 /// What the companion call of lookup gives.

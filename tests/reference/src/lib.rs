@@ -1,6 +1,7 @@
-//! A plain reading of document 01, to hold the engine against.
+//! A plain reading of document 01 and of document 02's requests, to hold the
+//! engine against.
 //!
-//! Every part follows the paper's own words and is written for reading. The
+//! Every part follows the papers' own words and is written for reading. The
 //! parts are public, so that a test can exchange one of them and see whether
 //! it finds the slip. Two modules are helpers for tests, said once for all of
 //! them: `draft` and `random`.
@@ -18,6 +19,6 @@ pub mod refusal;
 pub mod schedule;
 pub mod stretch;
 
-pub use calls::{Lookup, Outcome, lookup, plan, planned, quantity};
+pub use calls::{Lookup, Outcome, Quantities, lookup, plan, planned, quantities, quantity};
 pub use refusal::Refusal;
 pub use stretch::Stretch;

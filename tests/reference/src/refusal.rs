@@ -1,4 +1,4 @@
-//! The refusal table of document 01.
+//! The refusal table of document 01, and the numbers that document 02 adds.
 
 /// What a refused call returns: the number of the refusal and its value.
 #[derive(Clone, Copy, Debug, PartialEq, Eq)]
@@ -43,7 +43,7 @@ impl Refusal {
         refusal(7, begin as u64)
     }
 
-    /// 8: side above 1, level not 1 to 6, or p > q.
+    /// 8: side above 1, level not 1 to 6, p > q, or a p without its q.
     pub fn argument() -> Refusal {
         refusal(8, 0)
     }
@@ -56,6 +56,11 @@ impl Refusal {
     /// 10: the schedule is not the writing of a run list.
     pub fn no_schedule() -> Refusal {
         refusal(10, 0)
+    }
+
+    /// 11: more than 64 ranges.
+    pub fn too_many_ranges() -> Refusal {
+        refusal(11, 0)
     }
 }
 

@@ -2,7 +2,7 @@
 
 use reference::draft::printed;
 use reference::random::Random;
-use reference::{lookup, plan, program, quantity};
+use reference::{lookup, plan, program, quantities, quantity};
 
 /// Bytes among which short numbers are frequent.
 fn bytes(random: &mut Random) -> Vec<u8> {
@@ -25,6 +25,8 @@ fn any_bytes_return() {
         let side = random.below(3);
         let _ = plan(&any, side, &mut [0; 9]);
         let _ = quantity(&any, random.between(1, 6), 0, u64::MAX);
+        let ranges = [random.draw(), random.draw(), 0, u64::MAX];
+        let _ = quantities(&any, random.between(1, 6), &ranges[random.index(5)..]);
         let _ = lookup(&any, &other, side, random.draw());
         assert!(program::text(&any).ends_with('\n'));
     }

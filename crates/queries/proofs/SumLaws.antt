@@ -1,0 +1,183 @@
+-- Laws of the sums that a walk over many ranges keeps, and that they are the quantities.
+-- Assumes nothing.
+use Prim.Native.Nat.{ℕ, _+_, _-_, _*_, _/_, _≤_, _<_}
+use native.Mathlib.Omega.{arith}
+use native.Mathlib.Decide.{decLt, ℕ-discrete}
+use mathlib.Core.Path.{_≡_, refl, sym, ap, ap₂, _∙_}
+use mathlib.Core.List.{List, map}
+use lib.ListN.{length, getD, set, replicate, length-map}
+use lib.Seq.{ext-getD, getD-set-same, getD-set-other}
+use borrow.Author.Tests.{eq-eqb, ne-eqb}
+use Rattle.refusal.specs.Answer.{Answer, accepted, refused, _>>=_}
+use Rattle.number.specs.Number.{Reading}
+use Rattle.number.proofs.NumberLaws.{Bytes}
+use Rattle.runs.specs.declared.Stretch.{Stretch}
+use Rattle.runs.proofs.RunLaws.{Next}
+use Rattle.runs.proofs.SweptLaws.{zeros}
+use Rattle.schedule.specs.Schedule.{readSchedule}
+use Rattle.queries.specs.Walk.{Passed, headAt, recordAt, walkRecords, overlap, overlapAt, overlaps, overlapSum}
+use Rattle.queries.specs.Ranges.{mostRanges, rangesOf, quantities, placesOf, replied}
+use Rattle.queries.specs.Sums.{Sums, Grown, runCount, Tallied}
+use Rattle.queries.specs.declared.quantities.Tally.the-variants as Tally
+use Rattle.queries.proofs.StepLaws.{thenRuns, walk-passed, walk-start, head-refused, walk-refused, walk-over, walk-left-over}
+use Rattle.queries.proofs.QuantityLaws.{millimetres-overlaps}
+use Rattle.queries.proofs.QuantityLaws.{sum-turn, overlap-most, read-rising}
+use Rattle.queries.proofs.RangeLaws.{rangeAt, ranges-count, places-count, places-in, places-behind}
+use Rattle.queries.proofs.QuantitiesLaws.{AllRanged, priced, priced-at, quantities-none, quantities-accepted}
+
+-- One run
+
+-- The sums before the place i have grown by their shares, and none from there on.
+pub record Partly (share : ℕ → ℕ) (i : ℕ) (old new : List ℕ) : Type 0 where
+  pub done : (k : ℕ) → k < i → getD new k 0 ≡ getD old k 0 + share k
+  pub left : (k : ℕ) → i ≤ k → getD new k 0 ≡ getD old k 0
+
+pub partly-none : (share : ℕ → ℕ) (old : List ℕ) → Partly share 0 old old
+partly-none share old = record { done = λ k h. absurd (omega arith); left = λ k h. refl }
+
+pub partly-turn : (share : ℕ → ℕ) (i v : ℕ) (old new : List ℕ) → i < length new → v ≡ getD new i 0 + share i → Partly share i old new → Partly share (i + 1) old (set new i v)
+partly-turn share i v old new there e p = record {
+  done = λ k h. first k h (ℕ-discrete k i);
+  left = λ k h. getD-set-other new i k v 0 (λ q. omega arith) ∙ p .left k (omega arith);
+}
+  where
+    first : (k : ℕ) → k < i + 1 → Dec (k ≡ i) → getD (set new i v) k 0 ≡ getD old k 0 + share k
+    first k h (yes q) = rw q (getD-set-same new i v 0 there ∙ e ∙ ap (λ (x : ℕ). x + share i) (p .left i (omega arith)))
+    first k h (no q) = getD-set-other new i k v 0 q ∙ p .done k (omega arith)
+
+-- A run of the level, and one of another.
+pub grown-here : (numbers old new : List ℕ) (r : Stretch) (v : ℕ) → r .level ≡ v → Grown numbers (overlap r) old new → Grown numbers (overlapAt r v) old new
+grown-here numbers old new r v e g = record { places = g .places; ranges = λ i h. rw (eq-eqb (r .level) v e) (g .ranges i h); behind = g .behind }
+
+pub grown-none : (numbers old : List ℕ) (r : Stretch) (v : ℕ) → (r .level ≡ v → ⊥) → Grown numbers (overlapAt r v) old old
+grown-none numbers old r v n = record { places = refl; ranges = λ i h. rw (ne-eqb (r .level) v n) (omega arith); behind = λ i h. refl }
+
+-- The walk
+
+pub sums-none : (numbers : List ℕ) → length numbers ≤ 128 → Sums numbers (replicate 64 0) 0
+sums-none numbers h = record { few = h; places = refl; fit = λ i. omega (arith, zeros 64 i) }
+
+-- What a walk knows between two records: the sums are at most the last run's end, those behind the ranges are 0, and the answers are what was
+-- found so far and what the rest of the walk finds.
+pub record Between (s : List ℕ) (level : ℕ) (numbers sums : List ℕ) (count records at end last : ℕ) : Type 0 where
+  pub kept : Sums numbers sums end
+  pub behind : (i : ℕ) → length numbers / 2 ≤ i → getD sums i 0 ≡ 0
+  pub within : records ≤ count
+  pub counts : runCount s ≡ thenRuns (walkRecords (count - records) end last s at) (λ rs. records + length rs)
+  pub ranges : (i : ℕ) → i < length numbers / 2
+      → let p = getD numbers (2 * i) 0 in let q = getD numbers (2 * i + 1) 0 in
+      overlapSum s level p q ≡ thenRuns (walkRecords (count - records) end last s at) (λ rs. getD sums i 0 + overlaps rs level p q)
+
+pub between-start : (s : List ℕ) (level : ℕ) (numbers sums : List ℕ) (n : Reading) → headAt s ≡ accepted n → Sums numbers sums 0
+    → Between s level numbers sums (n .value) 0 (n .next) 0 0
+unfolding runCount overlapSum
+between-start s level numbers sums n h z =
+    let all : n .value - 0 ≡ n .value = omega arith in
+    record {
+      kept = z;
+      behind = λ i w. omega (arith, z .fit i);
+      within = omega arith;
+      counts = rw all (walk-start (λ rs. length rs) (λ rs. 0 + length rs) s n h (λ rs e. omega arith));
+      ranges = λ i w. rw all (walk-start (λ rs. overlaps rs level _ _) (λ rs. getD sums i 0 + overlaps rs level _ _) s n h (λ rs e. omega (arith, z .fit i)));
+    }
+
+pub between-turn : (s : List ℕ) (level : ℕ) (numbers sums sums′ : List ℕ) (count records at end last : ℕ) (p : Passed)
+    → records < count → recordAt end last s at ≡ accepted p → Next end last (p .run) → Grown numbers (overlapAt (p .run) level) sums sums′
+    → Between s level numbers sums count records at end last
+    → Between s level numbers sums′ count (records + 1) (p .next) (p .run .end) (p .run .level)
+between-turn s level numbers sums sums′ count records at end last p some read next grown b =
+    let one-less : count - (records + 1) ≡ count - records - 1 = omega arith in
+    let more : 0 < count - records = omega arith in
+    record {
+      kept = record {
+        few = b .kept .few;
+        places = grown .places ∙ b .kept .places;
+        fit = λ i. fits i (decLt i (length numbers / 2));
+      };
+      behind = λ i h. grown .behind i h ∙ b .behind i h;
+      within = omega arith;
+      counts = b .counts ∙ rw one-less (walk-passed (λ rs. records + length rs) (λ rs. records + 1 + length rs) (count - records) end last s at p more read (λ rs. omega arith));
+      ranges = λ i h. b .ranges i h ∙ rw one-less (sum-turn level _ _ (getD sums i 0) (getD sums′ i 0) (count - records) end last s at p more read (grown .ranges i h));
+    }
+  where
+    fits : (i : ℕ) → Dec (i < length numbers / 2) → getD sums′ i 0 ≤ p .run .end
+    fits i (yes h) = omega (arith, grown .ranges i h, b .kept .fit i, overlap-most end last (p .run) next level (getD numbers (2 * i) 0) (getD numbers (2 * i + 1) 0))
+    fits i (no h) = omega (arith, grown .behind i (omega arith), b .kept .fit i, next .after, next .long)
+
+-- The end of a walk: no schedule, or all records passed and nothing left over.
+tallied-bad : (s : List ℕ) (level : ℕ) (numbers sums : List ℕ) (most : ℕ) → readSchedule s ≡ refused 10 0 → Sums numbers sums most
+    → ((i : ℕ) → length numbers / 2 ≤ i → getD sums i 0 ≡ 0) → Tallied s level numbers sums Tally.Bad
+unfolding runCount overlapSum
+tallied-bad s level numbers sums most e z behind = record { count = rw e; places = z .places; ranges = λ i h. rw e; behind = behind }
+
+pub tallied-head : (s : List ℕ) (level : ℕ) (numbers sums : List ℕ) → headAt s ≡ refused 10 0 → Sums numbers sums 0 → Tallied s level numbers sums Tally.Bad
+tallied-head s level numbers sums e z = tallied-bad s level numbers sums 0 (head-refused s e) z (λ i h. omega (arith, z .fit i))
+
+module _ (s : List ℕ) (level : ℕ) (numbers sums : List ℕ) (count records at end last : ℕ) (b : Between s level numbers sums count records at end last) where
+  -- What is left of a walk is refused, so the schedule is.
+  rest-refused : walkRecords (count - records) end last s at ≡ refused 10 0 → Tallied s level numbers sums Tally.Bad
+  unfolding runCount
+  rest-refused e = tallied-bad s level numbers sums end (go (readSchedule s) refl (rw e at (b .counts))) (b .kept) (b .behind)
+    where
+      go : (a : Answer (List Stretch)) → readSchedule s ≡ a → thenRuns a (λ rs. length rs) ≡ refused 10 0 → readSchedule s ≡ refused 10 0
+      go (accepted rs) p q = let z : _≡_ {A = ℕ} 0 1 = cc in absurd (omega arith)
+      go (refused x y) p q = let k : x ≡ 10 = cc in let v : y ≡ 0 = cc in p ∙ ap₂ refused k v
+
+  pub tallied-record : records < count → recordAt end last s at ≡ refused 10 0 → Tallied s level numbers sums Tally.Bad
+  tallied-record some e = rest-refused (walk-refused (count - records) end last s at (omega arith) e)
+
+  pub tallied-left-over : count ≤ records → (at ≡ length s → ⊥) → Tallied s level numbers sums Tally.Bad
+  tallied-left-over all n = let none : count - records ≡ 0 = omega arith in rest-refused (rw none (walk-left-over end last s at n))
+
+  pub tallied-over : count ≤ records → at ≡ length s → Tallied s level numbers sums (Tally.Over records)
+  unfolding overlaps
+  tallied-over all over =
+      let none : count - records ≡ 0 = omega arith in
+      let walked = walk-over end last s at over in
+      record {
+        count = sym (b .counts ∙ rw (none, walked) (ap accepted (omega arith)));
+        places = b .kept .places;
+        ranges = λ i h. sym (b .ranges i h ∙ rw (none, walked) (ap accepted (omega arith)));
+        behind = b .behind;
+      }
+
+-- The sums are the quantities
+
+module _ (s : List ℕ) (v : ℕ) (l sums : List ℕ) (b : Bytes s) (a : AllRanged v l) (few : length (rangesOf l) ≤ mostRanges) where
+  pub quantities-bad : Tallied s v l sums Tally.Bad → replied (quantities s v l) ≡ replied (refused 10 0)
+  unfolding runCount
+  quantities-bad w = ap replied (go (readSchedule s) refl (w .count))
+    where
+      go : (r : Answer (List Stretch)) → readSchedule s ≡ r → refused 10 0 ≡ (r >>= λ rs. accepted (length rs)) → quantities s v l ≡ refused 10 0
+      go (accepted rs) e q = let z : _≡_ {A = ℕ} 0 1 = cc in absurd (omega arith)
+      go (refused x y) e q = let k : x ≡ 10 = cc in let z : y ≡ 0 = cc in quantities-none s v l a few (e ∙ ap₂ refused k z)
+
+  sums-priced : (rs : List Stretch) → readSchedule s ≡ accepted rs → (n : ℕ) → Tallied s v l sums (Tally.Over n) → sums ≡ placesOf (map (priced rs v) (rangesOf l))
+  unfolding overlapSum
+  sums-priced rs e n w = ext-getD 0 sums (placesOf got) (w .places ∙ sym (places-count got (omega (arith, got-length)))) (λ i h. at i (decLt i (length (rangesOf l))))
+    where
+      got : List ℕ
+      got = map (priced rs v) (rangesOf l)
+
+      got-length : length got ≡ length (rangesOf l)
+      got-length = length-map (rangesOf l) (priced rs v)
+
+      sum-at : (i : ℕ) → i < length (rangesOf l) → getD sums i 0 ≡ priced rs v (rangeAt l i)
+      sum-at i h =
+          let q = rw e at (w .ranges i (omega (arith, ranges-count l))) in
+          let same : getD sums i 0 ≡ overlaps rs v (rangeAt l i .p) (rangeAt l i .q) = cc in
+          same ∙ sym (millimetres-overlaps rs (read-rising s rs b e) v (rangeAt l i .p) (rangeAt l i .q) (a .0) (a .2 .ordered i h))
+
+      at : (i : ℕ) → Dec (i < length (rangesOf l)) → getD sums i 0 ≡ getD (placesOf got) i 0
+      at i (yes h) = sum-at i h ∙ sym (places-in got i (omega (arith, got-length)) ∙ priced-at (priced rs v) l i h)
+      at i (no h) = w .behind i (omega (arith, ranges-count l)) ∙ sym (places-behind got i (omega (arith, got-length)))
+
+  pub quantities-over : (n : ℕ) → Tallied s v l sums (Tally.Over n) → replied (quantities s v l) ≡ record { answer = accepted tt; records = n; places = sums }
+  unfolding runCount replied
+  quantities-over n w = go (readSchedule s) refl (w .count)
+    where
+      go : (r : Answer (List Stretch)) → readSchedule s ≡ r → accepted n ≡ (r >>= λ rs. accepted (length rs)) → replied (quantities s v l) ≡ record { answer = accepted tt; records = n; places = sums }
+      go (accepted rs) e q =
+          let same : n ≡ length rs = cc in
+          ap replied (quantities-accepted s v l a few rs e) ∙ rw (same, sums-priced rs e n w)
+      go (refused x y) e q = let z : _≡_ {A = ℕ} 0 1 = cc in absurd (omega arith)
