@@ -61,7 +61,8 @@
  *      9     D     deflection allowance                     1 to 5000
  *     10     a     flare: b across for a along; here a      1 to 100
  *     11     b     flare, b; 0 means no flare               0 to 10
- *     12     T     straight barrier before the flare        0 to 100000
+ *     12     T     straight barrier before the flare,
+ *                  measured upstream from the hazard        0 to 100000
  *     13     G     continuity limit                         0 to 200000
  *     14     h     hazard count                             0 to 256
  *
@@ -95,9 +96,18 @@
  *
  *     L * (a * R + b * T - a * m) / (b * L + a * R)
  *
- * rounded up to the next whole millimetre if not whole.  The envelope of a
- * reached hazard is [s, e), lengthened by each approach length at the end that
- * this traffic approaches.  A hazard that nobody reaches has no envelope.
+ * rounded up to the next whole millimetre if not whole.  Where the same with
+ * b = 0 is at most T, the barrier ends in its straight part, before the flare
+ * begins, and that is the approach length: it is tested for each traffic with
+ * its own L, R and m.  So no approach is longer than its runout length.
+ *
+ *     L 101000, R 9000, m 3000, flare 1 across for 15 along:
+ *     without flare 67334; with T = 13340 the barrier flares, length 44227;
+ *     with T = 67334 or more it does not, length 67334
+ *
+ * The envelope of a reached hazard is [s, e), lengthened by each approach
+ * length at the end that this traffic approaches.  A hazard that nobody
+ * reaches has no envelope.
  *
  * For each side and level v, take the millimetres in envelopes of level v or
  * higher, and add every gap between them that is shorter than G.  The required
@@ -209,7 +219,7 @@ extern "C" {
 #endif
 
 /* The version of the engine that this header belongs to. */
-#define BARRIER_VERSION "0.2.0"
+#define BARRIER_VERSION "0.3.0"
 
 /*
  * CONSTANTS

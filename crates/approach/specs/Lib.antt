@@ -1,1 +1,2 @@
 pub mod Approach
+pub mod Steps

@@ -1,16 +1,45 @@
-// The approach length of document 01, exact over its whole domain: the promise that planning, schedule and program cite.
+// The approach length, exact over its whole domain: the promise that planning, schedule and program cite.
 ghost use mathlib.Core.Path.{_≡_};
-ghost use Rattle.approach.specs.Approach.{approachLength, Domain};
+ghost use Rattle.approach.specs.Approach.{formulaLength, approachLength, Domain};
+ghost use Rattle.approach.specs.Steps.{flareAcross};
 
 // The formula, rounded up; no step of it leaves 64 bits.
-fn whole_length(along: u64, across: u64, straight: u64, runout: u64, reach: u64, offset: u64) -> u64
+fn formula_length(
+    along: u64,
+    across: u64,
+    straight: u64,
+    runout: u64,
+    reach: u64,
+    offset: u64,
+) -> u64
     requires { ⌜ Domain along across straight runout reach offset ⌝ }
-    ensures { λ r. ⌜ r ≡ approachLength along across straight runout reach offset ⌝ }
+    ensures { λ r. ⌜ r ≡ formulaLength along across straight runout reach offset ⌝ }
 {
     let along_reach = along * reach;
     let dividend = runout * (along_reach + across * straight - along * offset);
     let divisor = across * runout + along_reach;
     (dividend + (divisor - 1)) / divisor
+}
+
+// No flare where the length without one is at most the straight part, which is tested with no division.
+fn flare_across(along: u64, across: u64, straight: u64, runout: u64, reach: u64, offset: u64) -> u64
+    requires { ⌜ Domain along across straight runout reach offset ⌝ }
+    ensures { λ r. ⌜ r ≡ flareAcross across straight runout reach offset ⌝ }
+{
+    if runout * (reach - offset) <= straight * reach {
+        0
+    } else {
+        across
+    }
+}
+
+// The formula, with flare or without.
+fn whole_length(along: u64, across: u64, straight: u64, runout: u64, reach: u64, offset: u64) -> u64
+    requires { ⌜ Domain along across straight runout reach offset ⌝ }
+    ensures { λ r. ⌜ r ≡ approachLength along across straight runout reach offset ⌝ }
+{
+    let flare = flare_across(along, across, straight, runout, reach, offset);
+    formula_length(along, flare, straight, runout, reach, offset)
 }
 
 // The same in 32 bits. Flare `across` for `along` (b for a) after a straight part T; runout length L, hazard reach R and barrier offset m.

@@ -1,4 +1,4 @@
--- What the program prints goes by approach's promise: upstream of each hazard, every millimetre that is nearer to it than the formula's
+-- What the program prints goes by approach's promise: upstream of each hazard, every millimetre that is nearer to it than the approach
 -- length lies in a run that is printed.
 -- Assumes nothing.
 use Prim.Native.Nat.{ℕ, zero, suc, _≤_, _<_}
@@ -16,7 +16,7 @@ use Rattle.runs.specs.Level.{Has}
 use Rattle.runs.proofs.RunLaws.{ShownRun, shown-run}
 use Rattle.approach.specs.Approach.{approachLength}
 use Rattle.approach.proofs.ApproachLaws.{approach-below, divisor-some}
-use Rattle.planning.specs.Envelope.{Traffic, runout, reaches, reachOf, offsetOf, Upstream, BelowFormula, acceptJob}
+use Rattle.planning.specs.Envelope.{Traffic, runout, reaches, reachOf, offsetOf, Upstream, BelowApproach, acceptJob}
 use Rattle.planning.specs.Required.{jobRuns}
 use Rattle.planning.proofs.EnvelopeLaws.{accepted-fits, domain-of}
 use Rattle.planning.proofs.FormulaLaws.{formula-level}
@@ -90,10 +90,10 @@ module _ (s : List ℕ) (j : Job) (a : acceptJob s ≡ accepted j) (v t : ℕ) w
   printed (suc zero) l w h = left-printed w h
   printed (suc (suc n)) l w h = absurd (omega arith)
 
--- For every accepted job: upstream of a hazard, a millimetre whose end towards it is nearer than the formula's length lies in a printed run
+-- For every accepted job: upstream of a hazard, a millimetre whose end towards it is nearer than the approach length before rounding lies in a printed run
 -- of the hazard's level or a higher one.
 pub printed-formula : (s : List ℕ) (j : Job) → acceptJob s ≡ accepted j → (z : Hazard) → List·Memᴰ z (j .hazards) → (traffic : Traffic) → reaches (j .header) z traffic ≡ true
-    → (d t : ℕ) → Upstream traffic z d t → BelowFormula (j .header) z traffic d → PrintedRun s (sideWord (z .side)) (z .level) t
+    → (d t : ℕ) → Upstream traffic z d t → BelowApproach (j .header) z traffic d → PrintedRun s (sideWord (z .side)) (z .level) t
 printed-formula s j a z m traffic r d t u l =
     let fits = accepted-fits s j a in
     let own = fits .fits .hazards .each z m in
@@ -102,7 +102,7 @@ printed-formula s j a z m traffic r d t u l =
     let w = shown-run (jobRuns j (z .side)) t (omega (arith, own .level-low)) in
     printed s j a (z .level) t (z .side) (own .side) w (omega (arith, w .level))
 
--- The same by the length that crate approach promises: a whole number of millimetres below it is below the formula.
+-- The same by the length that crate approach promises: a whole number of millimetres below it is below the length before rounding.
 pub printed-length : (s : List ℕ) (j : Job) → acceptJob s ≡ accepted j → (z : Hazard) → List·Memᴰ z (j .hazards) → (traffic : Traffic) → reaches (j .header) z traffic ≡ true
     → (d t : ℕ) → Upstream traffic z d t
     → let h = j .header in d < approachLength (h .along) (h .across) (h .straight) (runout h traffic) (reachOf h z traffic) (offsetOf h z traffic)

@@ -12,7 +12,7 @@ use Rattle.job.specs.declared.Header.{Header}
 use Rattle.job.specs.declared.Hazard.{Hazard}
 use Rattle.job.specs.Job.{Job}
 use Rattle.runs.specs.declared.Stretch.{Stretch}
-use Rattle.planning.specs.Envelope.{Traffic, envelope, reached, reaches, sideEnvelopes, Upstream, BelowFormula}
+use Rattle.planning.specs.Envelope.{Traffic, envelope, reached, reaches, sideEnvelopes, Upstream, BelowApproach}
 use Rattle.runs.specs.Level.{NoShortGap, Has, InSet, Filled, Highest}
 use Rattle.runs.specs.RunList.{isRunList, IsRun}
 use Rattle.schedule.specs.Schedule.{writeSchedule, readSchedule}
@@ -48,13 +48,14 @@ pub record LeastCovering (j : Job) (side : ℕ) (w : List ℕ) : Type 0 where
 abbrev pub Demand2 : Type 0
 Demand2 = (s : List ℕ) (j : Job) (side : ℕ) (w : List ℕ) → Accepted s j → side ≤ 1 → Planned s side w → LeastCovering j side w
 
--- Demand 2, "built in document 01 from the published length-of-need formula": the formula itself, multiplied out, with no rounding and no division.
--- Each millimetre whose end towards the hazard is nearer to it than the formula's length is covered.
+-- Demand 2, "built in document 01 from the published length-of-need formula", with document 02's rule for the straight part: formula and rule
+-- themselves, multiplied out, with no rounding and no division. Each millimetre whose end towards the hazard is nearer to it than the
+-- approach length before rounding is covered.
 abbrev pub Demand2-formula : Type 0
 Demand2-formula =
     (s : List ℕ) (j : Job) (side : ℕ) (w : List ℕ) → Accepted s j → side ≤ 1 → Planned s side w
     → (z : Hazard) → List·Memᴰ z (j .hazards) → z .side ≡ side → (traffic : Traffic) → reaches (j .header) z traffic ≡ true
-    → (d t : ℕ) → Upstream traffic z d t → BelowFormula (j .header) z traffic d
+    → (d t : ℕ) → Upstream traffic z d t → BelowApproach (j .header) z traffic d
     → z .level ≤ scheduleLevel w t
 
 -- What lookup finds at t in the schedule of a job that requires a level there: the record of a run of that level that has t, or nothing where the level is 0.

@@ -1,17 +1,22 @@
--- The formula of document 01 and the envelope: what lies upstream of a hazard by less than the formula's length, through approach's promise.
+-- Formula and rule and the envelope: an envelope has exactly the hazard's own millimetres and those upstream of it by less than the length
+-- before rounding, through approach's promise.
 -- Assumes nothing.
-use Prim.Native.Nat.{ℕ, _≤_, _<_}
+use Prim.Native.Nat.{ℕ, _+_, _-_, _≤_, _<_}
 use native.Mathlib.Omega.{arith}
+use native.Mathlib.Decide.{decLt}
 use mathlib.Core.Path.{_≡_, refl}
-use mathlib.Core.Bool.{true}
+use mathlib.Core.Logic.{_↔_}
+use mathlib.Core.Bool.{Bool, true, false}
 use mathlib.Core.List.{List·Memᴰ}
+use Rattle.refusal.specs.Choice.{if_then_else_}
 use Rattle.refusal.proofs.TestLaws.{or-left, or-right}
+use Rattle.approach.specs.Approach.{approachLength}
 use Rattle.approach.proofs.ApproachLaws.{approach-below, divisor-some}
 use Rattle.job.specs.declared.Hazard.{Hazard}
 use Rattle.job.specs.Job.{Job}
 use Rattle.runs.specs.Level.{Has}
 use Rattle.runs.proofs.GapLaws.{required-covers}
-use Rattle.planning.specs.Envelope.{Traffic, forward, opposite, reaches, reached, lengthening, envelope, Upstream, BelowFormula, sideEnvelopes}
+use Rattle.planning.specs.Envelope.{Traffic, forward, opposite, runout, reaches, reached, reachOf, offsetOf, lengthening, envelope, Upstream, BelowApproach, Asked, beside, upstream, sideEnvelopes}
 use Rattle.planning.specs.Required.{jobLevel}
 use Rattle.planning.proofs.EnvelopeLaws.{AcceptedFits, domain-of, to-envelope, side-levelled}
 
@@ -21,10 +26,20 @@ module _ (j : Job) (fits : AcceptedFits j) (z : Hazard) (m : List·Memᴰ z (j .
   is-reached forward r = or-left (reaches (j .header) z opposite) r
   is-reached opposite r = or-right (reaches (j .header) z forward) r
 
-  -- A distance below the formula's quotient is below the lengthening.
-  nearer : (t : Traffic) → reaches (j .header) z t ≡ true → (d : ℕ) → BelowFormula (j .header) z t d → d < lengthening (j .header) z t
+  -- A distance below the approach length before rounding is below the lengthening, and no other is.
+  nearer : (t : Traffic) → reaches (j .header) z t ≡ true → (d : ℕ) → BelowApproach (j .header) z t d → d < lengthening (j .header) z t
   unfolding lengthening
-  nearer t r d h = rw r (approach-below _ _ _ _ _ _ (divisor-some _ _ _ _ _ _ (domain-of j fits z m t r)) d .1 h)
+  nearer t r d below = rw r (approach-below _ _ _ _ _ _ (divisor-some _ _ _ _ _ _ (domain-of j fits z m t r)) d .1 below)
+
+  lengthened : (t : Traffic) (d : ℕ) → d < lengthening (j .header) z t → (reaches (j .header) z t ≡ true) × BelowApproach (j .header) z t d
+  unfolding lengthening
+  lengthened t d l = go (reaches (j .header) z t) refl l
+    where
+      go : (b : Bool) → reaches (j .header) z t ≡ b
+          → d < (if b then approachLength (j .header .along) (j .header .across) (j .header .straight) (runout (j .header) t) (reachOf (j .header) z t) (offsetOf (j .header) z t) else 0)
+          → (reaches (j .header) z t ≡ true) × BelowApproach (j .header) z t d
+      go true r k = (r, approach-below _ _ _ _ _ _ (divisor-some _ _ _ _ _ _ (domain-of j fits z m t r)) d .0 k)
+      go false r k = absurd (omega arith)
 
   -- A station upstream by less than the lengthening is in the envelope.
   upstream-has : (t : Traffic) (d x : ℕ) → Upstream t z d x → d < lengthening (j .header) z t → Has (envelope (j .header) z) x
@@ -32,12 +47,23 @@ module _ (j : Job) (fits : AcceptedFits j) (z : Hazard) (m : List·Memᴰ z (j .
   upstream-has forward d x u l = let long = fits .fits .hazards .each z m .long in (omega arith, omega arith)
   upstream-has opposite d x u l = let long = fits .fits .hazards .each z m .long in (omega arith, omega arith)
 
-  formula-has : (traffic : Traffic) → reaches (j .header) z traffic ≡ true → (d t : ℕ) → Upstream traffic z d t → BelowFormula (j .header) z traffic d → Has (envelope (j .header) z) t
-  formula-has traffic r d t u l = upstream-has traffic d t u (nearer traffic r d l)
+  -- "A reached hazard's envelope is [s, e), lengthened by each reaching traffic's approach length at the end that it approaches."
+  pub envelope-exactly : (t : ℕ) → Has (envelope (j .header) z) t ↔ Asked (j .header) z t
+  unfolding envelope
+  envelope-exactly t = (λ h. to (decLt t (z .start)) (decLt t (z .end)) h, from)
+    where
+      to : Dec (t < z .start) → Dec (t < z .end) → Has (envelope (j .header) z) t → Asked (j .header) z t
+      to (yes a) b h = let w = lengthened forward (z .start - t - 1) (omega arith) in upstream forward (w .0) (z .start - t - 1) (omega arith) (w .1)
+      to (no a) (yes b) h = beside (omega arith) b
+      to (no a) (no b) h = let w = lengthened opposite (t - z .end) (omega arith) in upstream opposite (w .0) (t - z .end) (omega arith) (w .1)
+
+      from : Asked (j .header) z t → Has (envelope (j .header) z) t
+      from (beside a b) = (omega arith, omega arith)
+      from (upstream traffic r d u l) = upstream-has traffic d t u (nearer traffic r d l)
 
   -- There the hazard's level or a higher one is required.
-  pub formula-level : (traffic : Traffic) → reaches (j .header) z traffic ≡ true → (d t : ℕ) → Upstream traffic z d t → BelowFormula (j .header) z traffic d → z .level ≤ jobLevel j (z .side) t
+  pub formula-level : (traffic : Traffic) → reaches (j .header) z traffic ≡ true → (d t : ℕ) → Upstream traffic z d t → BelowApproach (j .header) z traffic d → z .level ≤ jobLevel j (z .side) t
   unfolding jobLevel envelope
   formula-level traffic r d t u l =
       required-covers (sideEnvelopes j (z .side)) (j .header .continuity) (side-levelled j (z .side) fits) (envelope (j .header) z)
-      (to-envelope (j .header) (z .side) m refl (is-reached traffic r)) t (formula-has traffic r d t u l)
+      (to-envelope (j .header) (z .side) m refl (is-reached traffic r)) t (envelope-exactly t .1 (upstream traffic r d u l))

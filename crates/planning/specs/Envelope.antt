@@ -1,13 +1,13 @@
 -- Which traffic reaches a hazard, its envelope, and refusals 5 and 6.
 -- Assumes nothing.
-use Prim.Native.Nat.{ℕ, _+_, _-_, min, _*_, _<_}
+use Prim.Native.Nat.{ℕ, _+_, _-_, min, _≤_, _<_}
 use mathlib.Core.Path.{_≡_}
 use mathlib.Core.Bool.{Bool, true, _&&_, _||_, not}
 use mathlib.Core.List.{List, [], _∷_}
 use lib.Dec.{ltb, eqb}
 use Rattle.refusal.specs.Choice.{if_then_else_}
 use Rattle.refusal.specs.Answer.{Answer, accepted, _>>=_, unless-refuse}
-use Rattle.approach.specs.Approach.{approachLength}
+use Rattle.approach.specs.Approach.{approachLength, BelowRule}
 use Rattle.job.specs.declared.Header.{Header}
 use Rattle.job.specs.declared.Hazard.{Hazard}
 use Rattle.job.specs.Job.{Job, readJob}
@@ -71,13 +71,15 @@ abbrev pub Upstream : Traffic → Hazard → (d t : ℕ) → Type 0
 Upstream forward z d t = t + d + 1 ≡ z .start
 Upstream opposite z d t = t ≡ z .end + d
 
--- A distance below the published formula's length, multiplied out: no rounding and no division.
-abbrev pub BelowFormula : Header → Hazard → Traffic → (d : ℕ) → Type 0
-BelowFormula h z traffic d =
-    let L = runout h traffic in
-    let R = reachOf h z traffic in
-    let m = offsetOf h z traffic in
-    d * (h .across * L + h .along * R) < L * (h .along * R + h .across * h .straight - h .along * m)
+-- A distance below a traffic's approach length before rounding, multiplied out: no division.
+abbrev pub BelowApproach : Header → Hazard → Traffic → (d : ℕ) → Type 0
+BelowApproach h z t d = BelowRule (h .along) (h .across) (h .straight) (runout h t) (reachOf h z t) (offsetOf h z t) d
+
+-- What an envelope is to have, by formula and rule themselves: the hazard's own millimetres, and upstream of it those whose end towards it is
+-- nearer than a reaching traffic's length before rounding.
+pub data Asked (h : Header) (z : Hazard) (t : ℕ) : Type 0 where
+  beside : z .start ≤ t → t < z .end → Asked h z t
+  upstream : (traffic : Traffic) → reaches h z traffic ≡ true → (d : ℕ) → Upstream traffic z d t → BelowApproach h z traffic d → Asked h z t
 
 -- The envelopes of a side. "A hazard that nobody reaches has none."
 unfoldable pub envelopes : Header → (side : ℕ) → List Hazard → List Stretch

@@ -9,7 +9,7 @@ use lib.ListN.{length, length-append}
 use Rattle.refusal.specs.Choice.{someOf, keep}
 use Rattle.refusal.specs.Answer.{Answer, accepted, refused}
 use Rattle.number.specs.Number.{writeIn, writeNumber, scan, readNumber, numberAt}
-use Rattle.approach.specs.Approach.{ceilDiv, approachLength}
+use Rattle.approach.specs.Approach.{ceilDiv, formulaLength, approachLength}
 use Rattle.job.specs.Writing.{writeNumbers}
 use Rattle.job.specs.Job.{Job, headerRanges, hazardRanges, readFields, readHeader, readHazards, readJob, readRest}
 use Rattle.runs.specs.declared.Stretch.{Stretch}
@@ -105,5 +105,5 @@ report-fits s = go (acceptJob s) refl
 -- The job on paper
 
 pub printed-report : reported (writeNumbers printedJob) ≡ printedText
-unfolding writeNumbers printedJob printedText someOf keep writeIn writeNumber scan readNumber numberAt ceilDiv approachLength headerRanges hazardRanges readFields readHeader readHazards readRest readJob farther reachOf offsetOf reaches reached lengthening envelope envelopes testHazard testHazards acceptJob filled highest requiredLevel insertStation endPoints put runsBetween requiredRuns jobRuns digitsIn decimal fields line runLines covered runsReport reported
+unfolding writeNumbers printedJob printedText someOf keep writeIn writeNumber scan readNumber numberAt ceilDiv formulaLength approachLength headerRanges hazardRanges readFields readHeader readHazards readRest readJob farther reachOf offsetOf reaches reached lengthening envelope envelopes testHazard testHazards acceptJob filled highest requiredLevel insertStation endPoints put runsBetween requiredRuns jobRuns digitsIn decimal fields line runLines covered runsReport reported
 printed-report = refl

@@ -104,7 +104,8 @@ fn schedules(random: &mut Random, least: usize, most: usize) -> (Vec<u8>, Vec<u8
 
 // The paper's own cases.
 
-/// K1 to K10 with both halves, and each on the left side too.
+/// K1 to K10 with both halves, headwalls protected before the flare begins and
+/// just not, and each on the left side too.
 fn paper_jobs() -> Vec<Draft> {
     let k2 = printed().with(FLARE_B, 0);
     let k4 = k2.clone().with(LO, 101_000).with(W, 3_500);
@@ -130,6 +131,16 @@ fn paper_jobs() -> Vec<Draft> {
         worked_example_3(),
         PRINTED,
     ];
+    // Without flare 67,333 and a third; far traffic 28,055 and five ninths.
+    let two_way = printed().with(LO, 101_000).with(W, 3_500);
+    for straight in [28_055, 28_056, 67_333, 67_334, 80_000] {
+        list.push(printed().with(T, straight));
+        list.push(two_way.clone().with(T, straight));
+    }
+    // 28,000 without flare.
+    for straight in [27_999, 28_000, 28_001] {
+        list.push(worked_example_3().with(T, straight));
+    }
     let left: Vec<Draft> = list.iter().map(on_the_left).collect();
     list.extend(left);
     list

@@ -1,6 +1,8 @@
 //! Random jobs, most of them accepted.
 
-use reference::envelope::{self, Envelope};
+use reference::approach::formula;
+use reference::envelope::{self, Approach, Envelope};
+use reference::job::Job;
 use reference::{Stretch, job, level};
 
 use crate::Random;
@@ -64,6 +66,9 @@ fn job_in(world: &World, random: &mut Random, count: u64) -> Draft {
     for _ in 0..count {
         let hazard = hazard(&draft.header, world, random);
         draft.hazards.push(hazard);
+    }
+    if random.percent(50) {
+        set_straight(&mut draft, random);
     }
     if random.percent(60) {
         bring_together(&mut draft, random);
@@ -143,10 +148,10 @@ fn hazard(header: &[u64; 13], world: &World, random: &mut Random) -> [u64; FIELD
     [random.below(2), start, end, near, far, level]
 }
 
-/// No approach length is above the greatest of LF, LO and T, so a hazard that
-/// keeps away from the road's ends by that much stays on it.
+/// No approach length is above the greater of LF and LO, so a hazard that keeps
+/// away from the road's ends by that much stays on it.
 fn margin(header: &[u64; 13]) -> u64 {
-    header[LF].max(header[LO]).max(header[T])
+    header[LF].max(header[LO])
 }
 
 fn hazard_stations(header: &[u64; 13], world: &World, random: &mut Random) -> (u64, u64) {
@@ -185,6 +190,43 @@ fn near_offset(header: &[u64; 13], random: &mut Random) -> u64 {
         _ => random.edgy(least, clear.saturating_sub(1)),
     };
     near.min(60_000)
+}
+
+/// Sets T to the length without flare of one approach, next to it, or somewhere
+/// between those of the two traffics that reach one hazard.
+fn set_straight(draft: &mut Draft, random: &mut Random) {
+    let count = draft.hazards.len();
+    let Ok(job) = job::read(&draft.bytes()) else {
+        return;
+    };
+    if count == 0 {
+        return;
+    }
+    let hazard = &job.hazards[random.index(count)];
+    let lengths: Vec<u64> = envelope::approaches(&job, hazard)
+        .iter()
+        .map(|approach| without_flare(&job, approach))
+        .collect();
+    let straight = match lengths[..] {
+        [adjacent, far] if random.percent(40) => {
+            random.between(adjacent.min(far), adjacent.max(far))
+        }
+        [] => return,
+        _ => {
+            let length = random.pick(&lengths);
+            let near = [length, length + 1, length.saturating_sub(1)];
+            let other = random.between(length / 2, 2 * length);
+            random.pick(&[near[0], near[0], near[1], near[2], near[2], other])
+        }
+    };
+    draft.header[T] = straight.min(100_000);
+}
+
+/// The length of an approach without flare.
+pub fn without_flare(job: &Job, approach: &Approach) -> u64 {
+    let runout = envelope::runout(job, approach.direction);
+    let flare = envelope::flare(job).without();
+    formula(runout, approach.reach, approach.offset, flare)
 }
 
 /// Moves some hazards so that their envelopes touch another envelope of their

@@ -3,7 +3,7 @@
 
 use std::ops::Range;
 
-use reference::approach::{fraction, whole};
+use reference::approach::{Flare, formula, fraction, whole};
 use reference::calls::MOST_RANGES;
 use reference::envelope::{self, Approach, Direction, Envelope, Lengthening};
 use reference::job::{self, Hazard, Job, Reader};
@@ -22,6 +22,7 @@ use crate::draft::number_bytes;
 pub fn all() -> Vec<(&'static str, Calls)> {
     let mut list = drawing_practice();
     list.extend(wrong_envelopes());
+    list.extend(wrong_straight_parts());
     list.extend(wrong_levels());
     list.extend(wrong_refusals());
     list.extend(wrong_memory());
@@ -249,14 +250,28 @@ fn down_and_one_more(job: &Job, approach: &Approach) -> u64 {
     down(job, approach) + 1
 }
 
+/// The fraction of the length that the rule chooses.
 fn parts(job: &Job, approach: &Approach) -> (u128, u128) {
+    let flare = envelope::flare(job);
+    let chosen = match without_flare(job, approach) <= job.straight {
+        true => flare.without(),
+        false => flare,
+    };
     let runout = envelope::runout(job, approach.direction);
-    fraction(
-        runout,
-        approach.reach,
-        approach.offset,
-        envelope::flare(job),
-    )
+    fraction(runout, approach.reach, approach.offset, chosen)
+}
+
+fn without_flare(job: &Job, approach: &Approach) -> u64 {
+    by_formula(job, approach, envelope::flare(job).without())
+}
+
+fn with_flare(job: &Job, approach: &Approach) -> u64 {
+    by_formula(job, approach, envelope::flare(job))
+}
+
+fn by_formula(job: &Job, approach: &Approach, flare: Flare) -> u64 {
+    let runout = envelope::runout(job, approach.direction);
+    formula(runout, approach.reach, approach.offset, flare)
 }
 
 /// Far traffic without W in whether it reaches, in R, or in m.
@@ -270,6 +285,7 @@ fn far_without(job: &Job, hazard: &Hazard, reaches: bool, r: bool, m: bool) -> V
     {
         list.push(Approach {
             direction,
+            far: true,
             reach: (hazard.far + w(r)).min(c),
             offset: job.barrier_offset + w(m),
         });
@@ -412,6 +428,89 @@ fn straight_always(job: &Job, approach: &Approach) -> u64 {
     match job.flare_across {
         0 => length.max(job.straight),
         _ => length,
+    }
+}
+
+// Approaches that end in the straight part.
+
+fn wrong_straight_parts() -> Vec<(&'static str, Calls)> {
+    let length = |length| by(Rules { length, ..RIGHT });
+    vec![
+        ("the formula with flare always", length(with_flare)),
+        ("the formula without flare always", length(without_flare)),
+        (
+            "the straight part for adjacent traffic alone",
+            length(|job, approach| match approach.far {
+                true => with_flare(job, approach),
+                false => envelope::length(job, approach),
+            }),
+        ),
+        (
+            "the straight part for far traffic alone",
+            length(|job, approach| match approach.far {
+                true => envelope::length(job, approach),
+                false => with_flare(job, approach),
+            }),
+        ),
+        (
+            "the straight part of far traffic asked with adjacent traffic's m",
+            length(|job, approach| {
+                let asked = Approach {
+                    offset: job.barrier_offset,
+                    ..*approach
+                };
+                where_straight(job, approach, without_flare(job, &asked) <= job.straight)
+            }),
+        ),
+        (
+            "at most twice T",
+            length(|job, approach| {
+                let straight = without_flare(job, approach) <= 2 * job.straight;
+                where_straight(job, approach, straight)
+            }),
+        ),
+        (
+            "at most half of T",
+            length(|job, approach| {
+                let straight = 2 * without_flare(job, approach) <= job.straight;
+                where_straight(job, approach, straight)
+            }),
+        ),
+        (
+            "the runout length at most T",
+            length(|job, approach| {
+                let runout = envelope::runout(job, approach.direction);
+                where_straight(job, approach, runout <= job.straight)
+            }),
+        ),
+        (
+            "the whole straight part built",
+            length(|job, approach| match without_flare(job, approach) {
+                without if without <= job.straight && job.flare_across > 0 => job.straight,
+                _ => envelope::length(job, approach),
+            }),
+        ),
+        (
+            "a length in the straight part rounded down",
+            length(|job, approach| match without_flare(job, approach) {
+                without if without <= job.straight => down(job, approach).max(1),
+                _ => envelope::length(job, approach),
+            }),
+        ),
+        (
+            "a length with flare rounded down",
+            length(|job, approach| match without_flare(job, approach) {
+                without if without <= job.straight => without,
+                _ => down(job, approach).max(1),
+            }),
+        ),
+    ]
+}
+
+fn where_straight(job: &Job, approach: &Approach, straight: bool) -> u64 {
+    match straight {
+        true => without_flare(job, approach),
+        false => with_flare(job, approach),
     }
 }
 

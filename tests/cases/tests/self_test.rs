@@ -2,7 +2,7 @@
 //! finds every wrong engine, and finds nothing where nothing is wrong.
 
 use cases::{Checker, Random, SEED, calls, jobs, round, wrong};
-use reference::planned;
+use reference::{envelope, job, planned};
 
 /// The comparison may not find a difference where both are the same.
 #[test]
@@ -22,7 +22,7 @@ fn the_reference_passes_and_every_row_is_seen() {
 #[test]
 fn every_wrong_engine_is_found() {
     // As many as README.md says.
-    assert_eq!(wrong::all().len(), 111);
+    assert_eq!(wrong::all().len(), 122);
     for (name, calls) in wrong::all() {
         let mut checker = Checker::new(calls);
         let Err(found) = round(&mut checker, SEED) else {
@@ -60,5 +60,45 @@ fn most_random_jobs_are_accepted() {
         for job in [dense, sparse, islands] {
             assert!(planned(&job, 0).is_ok());
         }
+    }
+}
+
+/// With a flare, lengths without flare of T, next to T and on both sides of it,
+/// and hazards of which one traffic alone ends in the straight part.
+#[test]
+fn random_jobs_meet_both_sides_of_the_straight_part() {
+    for make in [jobs::small, jobs::wide] {
+        let mut random = Random::new(SEED, "straight");
+        let [mut below, mut at, mut next, mut above] = [0; 4];
+        let [mut far_alone, mut adjacent_alone] = [0; 2];
+        for _ in 0..2_000 {
+            let Ok(job) = job::read(&make(&mut random).bytes()) else {
+                continue;
+            };
+            if job.flare_across == 0 || envelope::envelopes(&job).is_err() {
+                continue;
+            }
+            for hazard in &job.hazards {
+                let approaches = envelope::approaches(&job, hazard);
+                let length = |approach| jobs::without_flare(&job, approach);
+                let straight: Vec<bool> = approaches
+                    .iter()
+                    .map(|approach| length(approach) <= job.straight)
+                    .collect();
+                for approach in &approaches {
+                    below += u64::from(length(approach) < job.straight);
+                    at += u64::from(length(approach) == job.straight);
+                    next += u64::from(length(approach) == job.straight + 1);
+                    above += u64::from(length(approach) > job.straight + 1);
+                }
+                far_alone += u64::from(straight == [false, true]);
+                adjacent_alone += u64::from(straight == [true, false]);
+            }
+        }
+        println!("{below} below T, {at} at T, {next} next to T, {above} above T");
+        println!("{far_alone} far traffic alone, {adjacent_alone} adjacent traffic alone");
+        assert!([below, above].iter().all(|count| *count > 1_000));
+        assert!([at, next].iter().all(|count| *count > 100));
+        assert!([far_alone, adjacent_alone].iter().all(|count| *count > 50));
     }
 }

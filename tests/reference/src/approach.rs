@@ -11,13 +11,32 @@ pub struct Flare {
     pub straight: u64,
 }
 
-/// L × (a × R + b × T − a × m) / (b × L + a × R), for runout length L, hazard
-/// reach R and barrier offset m, rounded up to the next whole millimetre if
-/// not whole.
+impl Flare {
+    /// The same barrier without its flare: b = 0.
+    pub fn without(self) -> Flare {
+        Flare { across: 0, ..self }
+    }
+}
+
+/// The approach length for runout length L, hazard reach R and barrier offset
+/// m. Where the length without flare is at most T, the barrier ends in its
+/// straight part and that length is the approach length; otherwise the formula
+/// with flare stands.
+pub fn length(runout: u64, reach: u64, offset: u64, flare: Flare) -> u64 {
+    let straight = formula(runout, reach, offset, flare.without());
+    if straight <= flare.straight {
+        straight
+    } else {
+        formula(runout, reach, offset, flare)
+    }
+}
+
+/// L × (a × R + b × T − a × m) / (b × L + a × R), rounded up to the next whole
+/// millimetre if not whole.
 ///
 /// A hazard that is reached and not refused under 5 has R > m, so the
 /// numerator and the divisor are above 0 wherever the planning asks.
-pub fn length(runout: u64, reach: u64, offset: u64, flare: Flare) -> u64 {
+pub fn formula(runout: u64, reach: u64, offset: u64, flare: Flare) -> u64 {
     let (numerator, divisor) = fraction(runout, reach, offset, flare);
     whole(numerator.div_ceil(divisor))
 }
@@ -76,6 +95,63 @@ mod tests {
     }
 
     #[test]
+    fn headwalls_before_the_flare_begins() {
+        // The first worked example: 67,333 and a third without flare.
+        let at = |straight| length(101_000, 9_000, 3_000, flare(15, 1, straight));
+        assert_eq!(at(60_000), 64_195, "with flare");
+        assert_eq!(
+            at(67_333),
+            67_334,
+            "with flare: the straight part is a third too short"
+        );
+        assert_eq!(at(67_334), 67_334, "in the straight part");
+        assert_eq!(
+            at(80_000),
+            67_334,
+            "in the straight part; with flare 72,755"
+        );
+        assert_eq!(at(100_000), 67_334);
+        let with_flare = |straight| formula(101_000, 9_000, 3_000, flare(15, 1, straight));
+        assert_eq!(with_flare(80_000), 72_755);
+        // The third: 28,000 exactly without flare.
+        let at = |straight| length(46_000, 4_600, 1_800, flare(21, 1, straight));
+        assert_eq!(at(27_999), 28_000);
+        assert_eq!(at(28_000), 28_000);
+        assert_eq!(at(28_001), 28_000);
+        assert_eq!(at(27_000), 27_678);
+    }
+
+    #[test]
+    fn the_two_lengths_meet_at_the_straight_part() {
+        // The formula with flare lies between T and the length without flare.
+        // So the rule gives the lesser of both lengths, and it makes no
+        // difference whether it asks before or behind the rounding, for "at
+        // most" or for "below", of the one length or of the other.
+        let mut random = Random::new(7, "straight");
+        for _ in 0..20_000 {
+            let runout = random.between(1, 200_000);
+            let offset = random.below(40_000);
+            let reach = offset + random.between(1, 30_000);
+            let along = random.between(1, 100);
+            let mut shape = flare(along, random.below(11), random.below(100_001));
+            let without = formula(runout, reach, offset, shape.without());
+            if random.percent(50) {
+                shape.straight = without.saturating_sub(random.below(3)) + random.below(2);
+            }
+            let with = formula(runout, reach, offset, shape);
+            assert_eq!(length(runout, reach, offset, shape), with.min(without));
+            let straight = shape.straight;
+            assert!(with >= without.min(straight) && with <= without.max(straight));
+            let (numerator, divisor) = fraction(runout, reach, offset, shape.without());
+            let unrounded = numerator <= divisor * u128::from(straight);
+            assert_eq!(unrounded, without <= straight);
+            if without == straight {
+                assert_eq!(with, straight);
+            }
+        }
+    }
+
+    #[test]
     fn whole_lengths_stay() {
         // 100 × (10 − 5) / 10 = 50 exactly, then one part more.
         assert_eq!(length(100, 10, 5, flare(1, 0, 0)), 50);
@@ -85,7 +161,8 @@ mod tests {
 
     #[test]
     fn between_its_two_lengths() {
-        // The length is the least whole one at or above the fraction.
+        // A length is the least whole one at or above its fraction, and never
+        // above the runout length.
         let mut random = Random::new(7, "lengths");
         for _ in 0..20_000 {
             let runout = random.between(1, 200_000);
@@ -93,11 +170,14 @@ mod tests {
             let reach = offset + random.between(1, 30_000);
             let along = random.between(1, 100);
             let shape = flare(along, random.below(11), random.below(100_001));
-            let x = u128::from(length(runout, reach, offset, shape));
-            let (numerator, divisor) = fraction(runout, reach, offset, shape);
-            assert!(x * divisor >= numerator);
-            assert!((x - 1) * divisor < numerator);
-            assert!(x <= 200_000);
+            for shape in [shape, shape.without()] {
+                let x = u128::from(formula(runout, reach, offset, shape));
+                let (numerator, divisor) = fraction(runout, reach, offset, shape);
+                assert!(x * divisor >= numerator);
+                assert!((x - 1) * divisor < numerator);
+            }
+            let length = length(runout, reach, offset, shape);
+            assert!(1 <= length && length <= runout);
         }
     }
 

@@ -25,6 +25,8 @@ pub enum Direction {
 #[derive(Clone, Copy, Debug, PartialEq, Eq)]
 pub struct Approach {
     pub direction: Direction,
+    /// Whether it is the far traffic of the hazard's side.
+    pub far: bool,
     /// R
     pub reach: u64,
     /// m
@@ -66,6 +68,7 @@ pub fn approaches(job: &Job, hazard: &Hazard) -> Vec<Approach> {
     if hazard.near < c {
         list.push(Approach {
             direction: adjacent(job, hazard.side),
+            far: false,
             reach: hazard.far.min(c),
             offset: job.barrier_offset,
         });
@@ -75,6 +78,7 @@ pub fn approaches(job: &Job, hazard: &Hazard) -> Vec<Approach> {
     {
         list.push(Approach {
             direction,
+            far: true,
             reach: (hazard.far + w).min(c),
             offset: job.barrier_offset + w,
         });

@@ -109,3 +109,67 @@ fn row_11_after_8_and_before_10() {
         }
     }
 }
+
+// 2: headwalls protected before the flare begins.
+
+/// K1 with another straight part.
+fn k1_with(straight: u64) -> Draft {
+    printed().with(T, straight)
+}
+
+#[test]
+fn a_headwall_in_the_straight_part() {
+    // Without flare 67,333 and a third, rounded up.
+    assert_eq!(k1_with(13_340).right(), [(200_000 - 44_227, 210_000, 3)]);
+    assert_eq!(k1_with(60_000).right(), [(200_000 - 64_195, 210_000, 3)]);
+    for straight in [67_333, 67_334, 67_335, 80_000, 100_000] {
+        let run = (200_000 - 67_334, 210_000, 3);
+        assert_eq!(k1_with(straight).right(), [run], "{straight}");
+    }
+}
+
+/// K4 with K1's flare: both traffics, each with its own R and m.
+fn two_way(straight: u64) -> Draft {
+    k1_with(straight).with(LO, 101_000).with(W, 3_500)
+}
+
+#[test]
+fn each_traffic_by_itself() {
+    // Far traffic: 28,055 and five ninths without flare.
+    let ends = |straight| {
+        let right = two_way(straight).right();
+        let left = two_way(straight).with_hazard(SIDE, 1).runs(1).unwrap();
+        let (start, end, _) = right[0];
+        let (mirrored_start, mirrored_end, _) = left[0];
+        let lengths = (200_000 - start, end - 210_000);
+        assert_eq!((mirrored_end - 210_000, 200_000 - mirrored_start), lengths);
+        lengths
+    };
+    assert_eq!(ends(13_340), (44_227, 21_758), "neither");
+    assert_eq!(ends(28_055), (50_524, 28_056), "neither");
+    assert_eq!(ends(28_056), (50_524, 28_056), "far traffic");
+    assert_eq!(
+        ends(30_000),
+        (51_356, 28_056),
+        "far traffic; 28,888 with flare"
+    );
+    assert_eq!(ends(67_333), (67_334, 28_056), "far traffic");
+    assert_eq!(ends(67_334), (67_334, 28_056), "both");
+    assert_eq!(ends(100_000), (67_334, 28_056), "both");
+}
+
+#[test]
+fn a_straight_approach_keeps_the_job_on_the_road() {
+    // With flare the approach would be 72,755 long and leave the road.
+    let begins_at_0 = k1_with(80_000).with_hazard(S, 67_334);
+    assert_eq!(begins_at_0.right(), [(0, 210_000, 3)]);
+    assert_eq!(k1_with(80_000).with_hazard(S, 67_333).refused(), (6, 0));
+}
+
+#[test]
+fn without_flare_the_straight_part_changes_nothing() {
+    for straight in [0, 67_333, 67_334, 100_000] {
+        let k2 = k1_with(straight).with(FLARE_B, 0);
+        assert_eq!(k2.right(), [(200_000 - 67_334, 210_000, 3)]);
+    }
+}

@@ -1,32 +1,14 @@
--- `approach::whole_length` meets its contract: its steps are the formula's, none of which leaves 64 bits in the domain.
+-- `approach::whole_length` meets its contract: the formula with the chosen b is the rule.
 -- Assumes nothing.
-use native.Mathlib.Omega.{arith}
-use mathlib.Core.Path.{refl}
-use Rattle.approach.specs.Approach.{ceilDiv, approachLength}
-use Rattle.approach.proofs.ApproachLaws.{Sizes, sizes}
+use mathlib.Core.Path.{_∙_}
+use Rattle.approach.proofs.ApproachLaws.{flare-domain, flare-length}
 use Rattle.approach.proofs.whole_length.Statement.{statement}
 use Rattle.approach.proofs.whole_length.Tie as tie
-
-known : (c : tie.Start) → Sizes (c .args .along) (c .args .across) (c .args .straight) (c .args .runout) (c .args .reach) (c .args .offset)
-known c = sizes _ _ _ _ _ _ (c .pre)
-
-returns : tie.Need-returns
-unfolding approachLength ceilDiv
-returns c = refl
 
 pub whole-length-spec : {M : Type 1} → statement M
 whole-length-spec =
     tie.close
     (tie.spec
-    (λ c. omega (arith, known c))
-    (λ c. omega (arith, known c))
-    (λ c. omega (arith, known c))
-    (λ c. omega (arith, known c))
-    (λ c. omega (arith, known c))
-    (λ c. omega (arith, known c))
-    (λ c. omega (arith, known c))
-    (λ c. omega (arith, known c))
-    (λ c. omega (arith, known c))
-    (λ c. omega (arith, known c))
-    (λ c. omega (arith, known c))
-    returns)
+    (λ c κs. c .pre)
+    (λ c κs. rw (c .flare-across .ensures) (flare-domain _ _ _ _ _ _ (c .before .pre)))
+    (λ c. c .formula-length .ensures ∙ rw (c .before .flare-across .ensures) (flare-length _ _ _ _ _ _ (c .before .before .pre))))
