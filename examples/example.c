@@ -92,6 +92,9 @@ static void print_refusal(const char *what, barrier_reply reply)
     case BARRIER_TOO_MANY_RANGES:
         printf("more than %d ranges\n", BARRIER_RANGES_MAX);
         break;
+    case BARRIER_NAME:
+        printf("the name %" PRIu64 " stands already, or does not stand\n", value);
+        break;
     default:
         printf("a number that barrier.h does not have\n");
     }

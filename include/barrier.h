@@ -3,23 +3,28 @@
  *
  * A job goes in: one straight road and its roadside hazards.  A schedule comes
  * out: the runs of safety barrier along one side of the road, each with its
- * containment level.  There are four calls:
+ * containment level.  There are eight calls:
  *
- *     barrier_plan        writes the schedule of one side of a job
- *     barrier_quantity    counts the millimetres of one level in a range
- *     barrier_quantities  the same for all lots of a contract, in one walk
- *     barrier_lookup      finds the record of the run at a station
+ *     barrier_plan           writes the schedule of one side of a job
+ *     barrier_quantity       counts the millimetres of one level in a range
+ *     barrier_quantities     the same for all lots of a contract, in one walk
+ *     barrier_lookup         finds the record of the run at a station
+ *     barrier_open           opens a job whose hazards come and go
+ *     barrier_add            adds a hazard to an open job
+ *     barrier_withdraw       withdraws a hazard from an open job
+ *     barrier_open_schedule  writes the schedule of one side of an open job
  *
- * This file is the manual; examples/example.c is a first program.
+ * This file is the manual; examples/example.c is a first program, and
+ * examples/open_job.c one with an open job.
  *
  * CONTENTS
  *
- *     Stations and ranges          Memory
- *     The number form              Threads
- *     The job                      Linking
- *     What is planned              Constants
- *     The schedule                 The calls
- *     Refusals, and their order
+ *     Stations and ranges          Refusals, and their order
+ *     The number form              Memory
+ *     The job                      Threads
+ *     What is planned              Linking
+ *     The schedule                 Constants
+ *     Open jobs                    The calls
  *
  * ---------------------------------------------------------------------------
  * STATIONS AND RANGES
@@ -131,6 +136,46 @@
  * side, byte for byte; so schedules can be compared with memcmp.
  *
  * ---------------------------------------------------------------------------
+ * OPEN JOBS
+ *
+ * A controller meets the hazards one by one, as the rod reaches them.  For it
+ * a job can stay open: a header, and up to 256 hazards that come and go, each
+ * under a name from 0 to 255.
+ *
+ *     barrier_open_job job;
+ *     barrier_open(&job, bytes, bytes_len);         a header, no hazard
+ *     barrier_add(&job, 7, headwall);               it stands under 7
+ *     barrier_add(&job, 20, tree);
+ *     barrier_withdraw(&job, 7);                    7 is free again
+ *     barrier_open_schedule(&job, BARRIER_RIGHT, out, out_len);
+ *
+ * (each of them with its reply looked at).  Opening takes the bytes of a job
+ * with hazard count 0.  After whatever list of calls, the schedule is, byte
+ * for byte, the one that barrier_plan writes for a job of the same header and
+ * the hazards added and not withdrawn since, in any order.
+ *
+ *   - A name stands once.  A withdrawn name can be added again, with the same
+ *     hazard or another.  One hazard may stand under two names.
+ *   - A hazard is tested when it is added, so that what stands is always an
+ *     accepted job.  With 256 hazards every name stands.
+ *   - A refused call alters nothing, neither the open job nor the output.
+ *   - Opening memory that has an open job already starts anew.
+ *
+ * An open job lies in memory of yours, a barrier_open_job.  It has unsigned
+ * integers alone, no padding and no pointer: it may be copied, moved and
+ * compared with memcmp.  Two open jobs are equal, byte for byte, exactly
+ * if their headers are equal and the same hazards stand under the same names,
+ * however they came there.
+ *
+ * The memory may hold anything when a call gets it.  barrier_open does not
+ * look at what it held.  Every other call tests all of it first, and refuses
+ * it with 3 and 0 where it is not an open job: a header number outside its
+ * range, a name twice, out of order or above 255, a hazard that an add would
+ * refuse with 4, 5 or 6, or anything but 0 in a place where no hazard stands.
+ * So memory that was never opened, or written over since, is refused; or it
+ * happens to be what some calls would have left, and is taken for that.
+ *
+ * ---------------------------------------------------------------------------
  * REFUSALS, AND THEIR ORDER
  *
  * A call is done (number 0) or refused.  A refusal has a number and a value:
@@ -141,11 +186,15 @@
  *      2      byte index where the      a number's fifth byte has the top bit
  *             number begins             set, or its value is above 4294967295,
  *                                       or it is not in shortest form
- *      3      header number, 1 to 14    header number outside its range
- *      4      hazard index from 0       hazard field outside its range
- *      5      hazard index from 0       reached hazard with n < M + D: the
+ *      3      header number, 1 to 14    header number outside its range; when
+ *                                       opening, 14 also for a hazard count
+ *                                       above 0
+ *             0                         the memory is not an open job
+ *      4      hazard index from 0, or   hazard field outside its range
+ *             the name (add)
+ *      5      the same                  reached hazard with n < M + D: the
  *                                       barrier has no room to deflect
- *      6      hazard index from 0       its envelope begins before A or ends
+ *      6      the same                  its envelope begins before A or ends
  *                                       after B
  *      7      index of the first        bytes behind the last hazard
  *             byte left over
@@ -155,16 +204,25 @@
  *     10      0                         the bytes are not a schedule, that is,
  *                                       not the writing of a run list
  *     11      0                         more than 64 ranges
+ *     12      the name                  it stands already (add), or does not
+ *                                       stand (withdraw)
  *
  * The first that holds is returned, in this order:
  *
- *     barrier_plan        8; then the job's numbers as they stand, each for 1,
- *                         for 2 and for its range (3 or 4) before the next is
- *                         read; then 7; then the hazards by index, those of
- *                         both sides, each for 5 and then for 6; then 9
- *     barrier_quantity    8, then 10
- *     barrier_quantities  8, then 11, then 10
- *     barrier_lookup      8, then 10, of the asked side's schedule
+ *     barrier_plan           8; then the job's numbers as they stand, each for
+ *                            1, for 2 and for its range (3 or 4) before the
+ *                            next is read; then 7; then the hazards by index,
+ *                            those of both sides, each for 5 and then for 6;
+ *                            then 9
+ *     barrier_quantity       8, then 10
+ *     barrier_quantities     8, then 11, then 10
+ *     barrier_lookup         8, then 10, of the asked side's schedule
+ *     barrier_open           the header's numbers as barrier_plan reads them,
+ *                            the hazard count's range being 0 alone; then 7
+ *     barrier_add            3 with 0, then 12, then the hazard for 4, for 5
+ *                            and for 6
+ *     barrier_withdraw       3 with 0, then 12
+ *     barrier_open_schedule  3 with 0, then 8, then 9
  *
  * A job to which none of 1 to 7 applies is accepted, on both sides alike.
  *
@@ -177,17 +235,22 @@
  * MEMORY
  *
  * A call reads the bytes and the ranges that it is given with their length,
- * and never changes them.  Only barrier_plan writes, and only to its output:
+ * and never changes them.  barrier_plan and barrier_open_schedule write to
+ * their output, barrier_open, barrier_add and barrier_withdraw to the open
+ * job; nothing else is written:
  *
- *   - Done: the complete schedule stands from the output's first byte on; the
- *     bytes behind it stay as they were.
- *   - Refused: every byte of the output stays as it was.
+ *   - Done: the complete schedule stands from the output's first byte on, and
+ *     the bytes behind it stay as they were; or the open job is changed.
+ *   - Refused: every byte of the output and of the open job stays as it was.
  *
  * Each pointer has to be good for as many bytes as its length says, or
  * numbers for ranges, and the output for writing too.  A pointer may be NULL
- * where its length is 0.  The output must not overlap the job; buffers that
- * are only read may overlap.  Ranges are aligned as C aligns uint64_t; bytes
- * need no alignment.  The engine keeps no pointer behind a call.
+ * where its length is 0.  A pointer to an open job is never NULL; it is good
+ * for a whole barrier_open_job, for writing too but in barrier_open_schedule.
+ * The output and an open job may overlap nothing else that is lent to the
+ * call; buffers that are only read may overlap.  Ranges and an open job are
+ * aligned as C aligns their types; bytes need no alignment.  The engine keeps
+ * no pointer behind a call.
  *
  * ---------------------------------------------------------------------------
  * THREADS
@@ -195,9 +258,11 @@
  * The engine has no state, allocates nothing, opens nothing, prints nothing
  * and sets no errno.  Every call returns, whatever bytes it is given.  Any
  * call may run on any thread at any time, several at once too, as long as no
- * thread changes a buffer that another call is using.  One call of
- * barrier_plan takes less than 23 KiB of stack, each of the others less than
- * 2 KiB.
+ * thread changes a buffer that another call is using.  So on one open job only
+ * one call at a time may open, add or withdraw, and no other call with it;
+ * calls on different open jobs do not touch each other.  One call of
+ * barrier_plan takes less than 23 KiB of stack, each of those on an open job
+ * less than 40 KiB, each of the others less than 2 KiB.
  *
  * ---------------------------------------------------------------------------
  * LINKING
@@ -205,7 +270,7 @@
  * `pkg-config --cflags --libs barrier_engine` prints the flags; they name this
  * header's folder and the archive libbarrier_engine.a.  The archive is for
  * x86-64, position independent, so that it links into programs and shared
- * libraries alike, exports the four calls alone, and asks the C library for
+ * libraries alike, exports the eight calls alone, and asks the C library for
  * nothing but block copies and fills (memcpy, memset and their kin).
  */
 #ifndef BARRIER_H
@@ -219,7 +284,7 @@ extern "C" {
 #endif
 
 /* The version of the engine that this header belongs to. */
-#define BARRIER_VERSION "0.3.0"
+#define BARRIER_VERSION "0.4.0"
 
 /*
  * CONSTANTS
@@ -235,17 +300,20 @@ extern "C" {
  * calls take jobs of any length, and refuse a longer one for what is wrong
  * with it.
  *
- * BARRIER_STACK_MAX bytes of stack suffice for each call.  This is measured of
- * the archive, as part of its test, and not proved.
+ * BARRIER_OPEN_STACK_MAX bytes of stack suffice for each call on an open job,
+ * BARRIER_STACK_MAX for each of the others.  This is measured of the archive,
+ * as part of its test, and not proved.
  */
 #define BARRIER_SCHEDULE_MAX 5623
 #define BARRIER_JOB_MAX 8192
 #define BARRIER_JOB_LONGEST 4646
 #define BARRIER_HAZARDS_MAX 256
+#define BARRIER_NAME_MAX 255
 #define BARRIER_RUNS_MAX 511
 #define BARRIER_RANGES_MAX 64
 #define BARRIER_STATION_MAX 2000000000
 #define BARRIER_STACK_MAX 24576
+#define BARRIER_OPEN_STACK_MAX 40960
 
 /* The sides of the road.  Forward traffic runs beside the right one. */
 enum barrier_side {
@@ -276,21 +344,24 @@ enum barrier_number {
     BARRIER_ARGUMENT = 8,
     BARRIER_OUTPUT_SHORT = 9,
     BARRIER_NO_SCHEDULE = 10,
-    BARRIER_TOO_MANY_RANGES = 11
+    BARRIER_TOO_MANY_RANGES = 11,
+    BARRIER_NAME = 12
 };
 
 /*
  * THE CALLS
  *
- * Sides, levels and stations are passed in 64 bits, so that a number that is
- * too great is refused and never cut down to one that is not.
+ * Sides, levels, stations and a hazard's numbers are passed in 64 bits, so
+ * that a number that is too great is refused and never cut down to one that is
+ * not.
  */
 
 /*
- * What barrier_plan and barrier_quantity reply.
+ * What barrier_plan, barrier_quantity and the calls on an open job reply.
  *
  *     number    BARRIER_DONE, or the refusal's number
- *     value     done: bytes written (plan) or millimetres (quantity);
+ *     value     done: bytes written (plan, open_schedule), millimetres
+ *               (quantity) or 0 (open, add, withdraw);
  *               refused: the refusal's value
  */
 typedef struct {
@@ -410,6 +481,109 @@ barrier_quantities_reply barrier_quantities(const uint8_t *schedule, size_t sche
 barrier_record barrier_lookup(const uint8_t *right, size_t right_len,
                               const uint8_t *left, size_t left_len,
                               uint64_t side, uint64_t station);
+
+/*
+ * A hazard as barrier_add takes it: the six numbers of the hazard table, in
+ * its order.
+ */
+typedef struct {
+    uint64_t side;
+    uint64_t start;
+    uint64_t end;
+    uint64_t near_offset;
+    uint64_t far_offset;
+    uint64_t level;
+} barrier_hazard;
+
+/*
+ * A place of an open job.  Its fields are the engine's: they are declared so
+ * that room can be made for them, and may be others in a later version.
+ */
+typedef struct {
+    uint32_t start;
+    uint32_t end;
+    uint32_t near_offset;
+    uint32_t far_offset;
+    uint16_t name;
+    uint8_t side;
+    uint8_t level;
+} barrier_place;
+
+/*
+ * An open job: 5176 bytes, aligned to 4, without padding.  Its fields are the
+ * engine's, as a place's are: the header's numbers in the header table's
+ * order, then 256 places.  The hazards stand in the first `count` of them, in
+ * rising order of their names; every other place is 0.
+ */
+typedef struct {
+    uint32_t kind;
+    uint32_t begin;
+    uint32_t end;
+    uint32_t forward;
+    uint32_t opposite;
+    uint32_t zone;
+    uint32_t way;
+    uint32_t offset;
+    uint32_t deflection;
+    uint32_t along;
+    uint32_t across;
+    uint32_t straight;
+    uint32_t continuity;
+    uint32_t count;
+    barrier_place hazards[BARRIER_HAZARDS_MAX];
+} barrier_open_job;
+
+/*
+ * Open: makes an open job of a header, with no hazard.
+ *
+ *     job                 the open job; what it held does not matter
+ *     bytes, bytes_len    the bytes of a job with hazard count 0
+ *
+ * Done: value is 0, and the whole of the open job is written.
+ * Refused: 1, 2, 3 or 7.  The open job stays as it was.
+ *
+ * A hazard count above 0 is refused 3 with 14, at that number: nothing behind
+ * it is read.
+ */
+barrier_reply barrier_open(barrier_open_job *job, const uint8_t *bytes, size_t bytes_len);
+
+/*
+ * Add: puts a hazard into an open job, under a name.
+ *
+ *     job       the open job
+ *     name      0 to BARRIER_NAME_MAX, under which no hazard stands
+ *     hazard    its six numbers
+ *
+ * Done: value is 0.
+ * Refused: 3 with 0, 12, 4, 5 or 6; the last four with the name.  The open job
+ * stays as it was.
+ */
+barrier_reply barrier_add(barrier_open_job *job, uint8_t name, barrier_hazard hazard);
+
+/*
+ * Withdraw: takes the hazard under a name out of an open job.
+ *
+ *     job     the open job
+ *     name    the name under which the hazard stands
+ *
+ * Done: value is 0, and the name can be added again.
+ * Refused: 3 with 0, or 12 with the name.  The open job stays as it was.
+ */
+barrier_reply barrier_withdraw(barrier_open_job *job, uint8_t name);
+
+/*
+ * Schedule of an open job: writes that of one side to the start of the output,
+ * as barrier_plan does for a job of the hazards that stand.
+ *
+ *     job             the open job, which is only read
+ *     side            BARRIER_RIGHT or BARRIER_LEFT
+ *     out, out_len    the output lent to the call
+ *
+ * Done: value is the count of bytes written, 1 to BARRIER_SCHEDULE_MAX.
+ * Refused: 3 with 0, 8 or 9.  Nothing is written.
+ */
+barrier_reply barrier_open_schedule(const barrier_open_job *job, uint64_t side,
+                                    uint8_t *out, size_t out_len);
 
 #ifdef __cplusplus
 }

@@ -5,6 +5,7 @@
  */
 #include <barrier.h>
 #include <stdio.h>
+#include <string.h>
 
 /* The printed example's schedules; the left side has no runs. */
 static const uint8_t right[8] = {0x01, 0xFD, 0xC0, 0x09, 0xD3, 0xA7, 0x03, 0x03};
@@ -86,11 +87,27 @@ static void lookups(void)
     record_is("lookup, neither, no such side", barrier_lookup(NULL, 0, NULL, 0, 2, 5), BARRIER_ARGUMENT);
 }
 
+static void open_jobs(void)
+{
+    static barrier_open_job open_job;
+    unsigned char before[sizeof open_job];
+
+    memset(&open_job, 0xA5, sizeof open_job);
+    memcpy(before, &open_job, sizeof open_job);
+    reply_is("open, no bytes", barrier_open(&open_job, NULL, 0), BARRIER_JOB_ENDED, 0);
+    expect("open, no bytes: the memory is changed", memcmp(before, &open_job, sizeof open_job) == 0);
+    reply_is("schedule, broken memory, no output", barrier_open_schedule(&open_job, BARRIER_RIGHT, NULL, 0), BARRIER_HEADER_RANGE, 0);
+    reply_is("open", barrier_open(&open_job, job, sizeof job), BARRIER_DONE, 0);
+    reply_is("schedule, no output", barrier_open_schedule(&open_job, BARRIER_RIGHT, NULL, 0), BARRIER_OUTPUT_SHORT, 1);
+    reply_is("schedule, no output, no such side", barrier_open_schedule(&open_job, 2, NULL, 0), BARRIER_ARGUMENT, 0);
+}
+
 int main(void)
 {
     plans();
     quantities();
     contracts();
     lookups();
+    open_jobs();
     return wrong;
 }

@@ -1,6 +1,7 @@
 #!/bin/sh
-# The first program prints the stored text, in C and in Rust, and ends with 1
-# where its output cannot be written or a call is refused that should not be.
+# The first program and the open job print the stored text, in C and in Rust,
+# and end with 1 where their output cannot be written or a call is refused that
+# should not be.
 set -eu
 tmp=$(mktemp -d)
 trap 'rm -rf "$tmp"' EXIT
@@ -18,31 +19,38 @@ ends_with() {
     [ "$status" -eq "$wanted" ] || fail "$* ends with $status, not $wanted: $(cat "$tmp/said")"
 }
 
-for program in "$BUILD/example" "$BUILD/rust/release/example"; do
-    ends_with 0 "$program" >"$tmp/printed"
-    diff examples/example.out "$tmp/printed"
-    ends_with 1 "$program" >/dev/full
-    grep -qx 'example: standard output cannot be written' "$tmp/said" || fail "$program, output full: $(cat "$tmp/said")"
+for name in example open_job; do
+    for program in "$BUILD/$name" "$BUILD/rust/release/$name"; do
+        ends_with 0 "$program" >"$tmp/printed"
+        diff "examples/$name.out" "$tmp/printed"
+        ends_with 1 "$program" >/dev/full
+        grep -qx "$name: standard output cannot be written" "$tmp/said" || fail "$program, output full: $(cat "$tmp/said")"
+    done
 done
-echo "examples: C and Rust print examples/example.out, and end with 1 where the output is full"
+echo "examples: C and Rust print examples/example.out and open_job.out, and end with 1 where the output is full"
 
-# Both examples linked with calls that refuse; C and Rust have to say the same.
-# Arguments: the call that is refused, and the last line printed.
+# The examples linked with calls that refuse; C and Rust have to say the same.
+# Arguments: the call that is refused, the program, and the last line printed.
 refused() {
-    mkdir "$tmp/$1"
+    mkdir -p "$tmp/$1"
     $CC -std=c99 -Wall -Wextra -Werror -pedantic -fPIC -Iinclude -DREFUSED="$1" -c tests/vendor/refusing.c -o "$tmp/$1/refusing.o"
     ar rcs "$tmp/$1/libbarrier_engine.a" "$tmp/$1/refusing.o"
-    $CC -std=c99 -Iinclude examples/example.c -L"$tmp/$1" -lbarrier_engine -o "$tmp/$1/example"
+    $CC -std=c99 -Iinclude "examples/$2.c" -L"$tmp/$1" -lbarrier_engine -o "$tmp/$1/$2"
     BARRIER_LIB_DIR="$tmp/$1" cargo build --quiet --locked --manifest-path examples/rust/Cargo.toml --target-dir "$tmp/rust"
-    ends_with 1 "$tmp/$1/example" >"$tmp/$1/c"
-    ends_with 1 "$tmp/rust/debug/example" >"$tmp/$1/rust"
+    ends_with 1 "$tmp/$1/$2" >"$tmp/$1/c"
+    ends_with 1 "$tmp/rust/debug/$2" >"$tmp/$1/rust"
     diff "$tmp/$1/c" "$tmp/$1/rust"
     last=$(tail -n 1 "$tmp/$1/c")
-    [ "$last" = "$2" ] || fail "$1 refused: the last line is '$last'"
+    [ "$last" = "$3" ] || fail "$1 refused: the last line is '$last'"
 }
-refused plan '  plan: refused 1 with 34, the job ends before or inside the number at byte 34'
-refused lookup '  lookup: refused 10 with 0, these bytes are not a schedule'
-refused quantities '  lots: refused 10 with 0, these bytes are not a schedule'
-refused quantity '  road: refused 10 with 0, these bytes are not a schedule'
-refused nothing '  near offset 3999: done, but it should be refused'
+refused plan example '  plan: refused 1 with 34, the job ends before or inside the number at byte 34'
+refused lookup example '  lookup: refused 10 with 0, these bytes are not a schedule'
+refused quantities example '  lots: refused 10 with 0, these bytes are not a schedule'
+refused quantity example '  road: refused 10 with 0, these bytes are not a schedule'
+refused nothing example '  near offset 3999: done, but it should be refused'
+refused open open_job '  open: refused 1 with 22'
+refused add open_job '  add 7: refused 4 with 7'
+refused withdraw open_job '  withdraw 7: refused 12 with 7'
+refused open_schedule open_job '  schedule: refused 3 with 0'
+refused nothing open_job '  add 7: done'
 echo "examples: C and Rust end with 1 at the first call refused, and at one that is not and should be"

@@ -6,7 +6,7 @@
 #include <barrier.h>
 #include <string.h>
 
-enum { nothing, plan, lookup, quantity, quantities };
+enum { nothing, plan, lookup, quantity, quantities, open, add, withdraw, open_schedule };
 
 barrier_reply barrier_plan(const uint8_t *job, size_t job_len, uint64_t side, uint8_t *out,
                            size_t out_len)
@@ -61,4 +61,50 @@ barrier_record barrier_lookup(const uint8_t *right, size_t right_len, const uint
     (void)side;
     (void)station;
     return REFUSED == lookup ? refused : none;
+}
+
+barrier_reply barrier_open(barrier_open_job *job, const uint8_t *bytes, size_t bytes_len)
+{
+    const barrier_reply done = {BARRIER_DONE, 0};
+    const barrier_reply refused = {BARRIER_JOB_ENDED, bytes_len};
+    (void)job;
+    (void)bytes;
+    return REFUSED == open ? refused : done;
+}
+
+/* The example's third add has to be refused, or the later calls are not made. */
+barrier_reply barrier_add(barrier_open_job *job, uint8_t name, barrier_hazard hazard)
+{
+    static int adds = 0;
+    const barrier_reply done = {BARRIER_DONE, 0};
+    const barrier_reply refused = {BARRIER_HAZARD_RANGE, name};
+    const barrier_reply stands = {BARRIER_NAME, name};
+    (void)job;
+    (void)hazard;
+    adds++;
+    if (REFUSED == add)
+        return refused;
+    return REFUSED != nothing && adds == 3 ? stands : done;
+}
+
+barrier_reply barrier_withdraw(barrier_open_job *job, uint8_t name)
+{
+    const barrier_reply done = {BARRIER_DONE, 0};
+    const barrier_reply refused = {BARRIER_NAME, name};
+    (void)job;
+    return REFUSED == withdraw ? refused : done;
+}
+
+barrier_reply barrier_open_schedule(const barrier_open_job *job, uint64_t side, uint8_t *out,
+                                    size_t out_len)
+{
+    const barrier_reply done = {BARRIER_DONE, 1};
+    const barrier_reply refused = {BARRIER_HEADER_RANGE, 0};
+    (void)job;
+    (void)side;
+    if (REFUSED == open_schedule)
+        return refused;
+    if (out_len > 0)
+        out[0] = 0;
+    return done;
 }

@@ -3,12 +3,14 @@
  * was painted before, and the paint that is left shows how deep it went. A job
  * comes from standard input; BARRIER_STACK_MAX bytes have to suffice for
  * planning it, into a large output and into one of exactly its schedule's
- * length, where the bytes needed are counted first, and for the queries. Where
- * a reply is large, its room in the caller counts too.
+ * length, where the bytes needed are counted first, for the queries, and for an
+ * open job to which the job's hazards are added one by one. Where a reply is
+ * large, its room in the caller counts too.
  *
  * Ends with 1 where a call takes more, with 2 where one is refused.
  */
 #define _XOPEN_SOURCE 600
+#include "../../examples/number_form.h"
 #include <barrier.h>
 #include <stdio.h>
 #include <string.h>
@@ -25,6 +27,12 @@ static unsigned char schedule[BARRIER_SCHEDULE_MAX];
 static barrier_reply planned, exact, counted;
 static barrier_quantities_reply priced;
 static barrier_record found;
+static barrier_open_job open_job, whole_job;
+static unsigned char header[64];
+static size_t header_length;
+static barrier_hazard last;
+static uint8_t last_name;
+static barrier_reply opened, added, withdrawn, scheduled;
 static uint64_t ranges[128];
 
 static void nothing(void)
@@ -56,6 +64,26 @@ static void lookup(void)
     found = barrier_lookup(schedule, planned.value, NULL, 0, BARRIER_RIGHT, BARRIER_STATION_MAX);
 }
 
+static void open_empty(void)
+{
+    opened = barrier_open(&open_job, header, header_length);
+}
+
+static void add_last(void)
+{
+    added = barrier_add(&open_job, last_name, last);
+}
+
+static void withdraw_last(void)
+{
+    withdrawn = barrier_withdraw(&open_job, last_name);
+}
+
+static void schedule_open(void)
+{
+    scheduled = barrier_open_schedule(&whole_job, BARRIER_RIGHT, schedule, sizeof schedule);
+}
+
 static size_t depth(void (*call)(void))
 {
     size_t left = 0;
@@ -73,12 +101,12 @@ static size_t depth(void (*call)(void))
 }
 
 /* What the call takes beyond a function that does nothing; 0 where too much. */
-static int suffices(const char *name, void (*call)(void))
+static int suffices(const char *name, void (*call)(void), size_t most)
 {
     size_t bytes = depth(call) - depth(nothing);
 
     printf("stack: %s takes %zu bytes\n", name, bytes);
-    return bytes <= BARRIER_STACK_MAX;
+    return bytes <= most;
 }
 
 /* A call that is refused early takes little stack: its figure means nothing. */
@@ -88,6 +116,40 @@ static int done(const char *name, uint64_t number)
         return 1;
     printf("stack: %s is refused %llu\n", name, (unsigned long long)number);
     return 0;
+}
+
+static barrier_hazard hazard_at(size_t *at)
+{
+    barrier_hazard hazard;
+
+    hazard.side = get_number(job, at);
+    hazard.start = get_number(job, at);
+    hazard.end = get_number(job, at);
+    hazard.near_offset = get_number(job, at);
+    hazard.far_offset = get_number(job, at);
+    hazard.level = get_number(job, at);
+    return hazard;
+}
+
+/* The planned job's header, then each of its hazards under its index. The last
+   one is left for the call that is measured. */
+static void open_planned_job(void)
+{
+    size_t at = 0, i;
+    uint64_t hazards;
+
+    for (i = 0; i < 13; i++)
+        header_length += put_number(header + header_length, get_number(job, &at));
+    header[header_length++] = 0;
+    hazards = get_number(job, &at);
+    open_empty();
+    for (i = 0; i < hazards; i++) {
+        last = hazard_at(&at);
+        last_name = (uint8_t)i;
+        added = barrier_add(&open_job, last_name, last);
+    }
+    whole_job = open_job;
+    withdraw_last();
 }
 
 int main(void)
@@ -100,15 +162,24 @@ int main(void)
     plan(); /* so that the loader's own work is done before it counts */
     if (!done("plan", planned.number))
         return 2;
-    well = suffices("plan", plan);
-    well &= suffices("plan with an output of exactly its length", plan_exactly);
-    well &= suffices("quantity", quantity);
-    well &= suffices("quantities", quantities);
-    well &= suffices("lookup", lookup);
+    well = suffices("plan", plan, BARRIER_STACK_MAX);
+    well &= suffices("plan with an output of exactly its length", plan_exactly, BARRIER_STACK_MAX);
+    well &= suffices("quantity", quantity, BARRIER_STACK_MAX);
+    well &= suffices("quantities", quantities, BARRIER_STACK_MAX);
+    well &= suffices("lookup", lookup, BARRIER_STACK_MAX);
+    open_planned_job();
+    well &= suffices("add", add_last, BARRIER_OPEN_STACK_MAX);
+    well &= suffices("withdraw", withdraw_last, BARRIER_OPEN_STACK_MAX);
+    well &= suffices("schedule of an open job", schedule_open, BARRIER_OPEN_STACK_MAX);
+    well &= suffices("open", open_empty, BARRIER_OPEN_STACK_MAX);
     all_done = done("plan with an output of exactly its length", exact.number);
     all_done &= done("quantity", counted.number);
     all_done &= done("quantities", priced.number);
     all_done &= done("lookup", found.number);
+    all_done &= done("add", added.number);
+    all_done &= done("withdraw", withdrawn.number);
+    all_done &= done("schedule of an open job", scheduled.number);
+    all_done &= done("open", opened.number);
     if (!all_done)
         return 2;
     return well ? 0 : 1;

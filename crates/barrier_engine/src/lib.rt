@@ -1,4 +1,6 @@
 // The engine's C interface: numbers, slices as pointer and length, and replies as plain structs. include/barrier.h declares it.
+pub mod open; // the calls on an open job
+
 use queries::reply::Located;
 use queries::reply::Quantity;
 use refusal::Outcome;

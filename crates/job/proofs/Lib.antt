@@ -6,3 +6,4 @@ pub mod RestLaws
 pub mod WritingLaws
 pub mod StandLaws
 pub mod RowLaws
+pub mod OpeningLaws

@@ -4,24 +4,25 @@ use Prim.Native.Nat.{ℕ, suc, _+_, _-_, _≤_, _<_}
 use native.Mathlib.Nat.{sub-zero}
 use native.Mathlib.Omega.{arith}
 use mathlib.Core.Path.{_≡_, refl, sym, ap, _∙_}
-use mathlib.Core.List.{List, [], _∷_, _++_}
-use lib.ListN.{length, set, replicate, length-append, length-set}
+use mathlib.Core.List.{List, [], _∷_, _++_, map, map-append}
+use lib.ListN.{length, set, take, replicate, length-append, length-map, length-set}
 use lib.Seq.{take-at}
 use borrow.Author.Tests.{le-leb, lt-leb}
 use Rattle.refusal.specs.Answer.{Answer, accepted, refused, _>>=_}
 use Rattle.refusal.specs.Refusal.{refusal}
-use Rattle.refusal.specs.Stored.{acceptedOr}
+use Rattle.refusal.specs.Stored.{padded, acceptedOr}
 use Rattle.refusal.specs.declared.Refusal.{Refusal}
 use Rattle.refusal.specs.declared.Outcome.the-variants.{Done, Refused}
 use Rattle.refusal.proofs.StoredLaws.{padded-more}
 use Rattle.job.specs.declared.Header.{Header}
 use Rattle.job.specs.declared.Hazard.{Hazard}
+use Rattle.job.specs.declared.NamedHazard.{NamedHazard}
 use Rattle.job.specs.declared.StoredJob.{StoredJob}
 use Rattle.job.specs.declared.read.JobRead.{JobRead}
 use Rattle.job.specs.declared.hazard_fields.HazardRead.{HazardRead}
 use Rattle.job.specs.declared.hazard_fields.HazardRead.the-variants as HazardRead
-use Rattle.job.specs.Job.{Job, hazardOf, nextInHazard, readFields, readHeader, readHazards, readRest, readJob}
-use Rattle.job.specs.Reply.{headerReading, headerAt, hazardReading, hazardAt, hazardAnswer, noJob, storedJob, jobAnswer}
+use Rattle.job.specs.Job.{Job, named, unnamed, jobOf, hazardOf, nextInHazard, readFields, readHeader, readHazards, readRest, readJob}
+use Rattle.job.specs.Reply.{headerReading, headerAt, hazardReading, hazardAt, hazardAnswer, unused, noJob, storedJob, jobAnswer}
 use Rattle.job.proofs.FieldLaws.{bind-assoc}
 
 -- The job is the header and what follows it.
@@ -36,6 +37,17 @@ unfolding readRest readHazards hazardAt
 hazards-step h k got s at =
     let m = readFields (nextInHazard h) 4 (λ _. length got) 6 [] s at in
     bind-assoc m (λ f. readHazards h k (got ++ hazardOf (f .numbers) ∷ []) s (f .next)) _ ∙ sym (bind-assoc m (λ f. accepted (hazardReading f)) (λ z. readRest h k (got ++ z .hazard ∷ []) s (z .next)))
+
+-- A hazard stored behind others.
+stored-more : (got : List Hazard) (z : Hazard) → length got < 256 → set (padded 256 unused (map (named 0) got)) (length got) (named 0 z) ≡ padded 256 unused (map (named 0) (got ++ z ∷ []))
+stored-more got z few =
+    let same = length-map got (named 0) in
+    rw (map-append (named 0) got (z ∷ []), sym same) (padded-more 256 unused (map (named 0) got) (named 0 z) (omega arith))
+
+-- Stored hazards are those that were stored.
+unnamed-all : (zs : List Hazard) → map unnamed (map (named 0) zs) ≡ zs
+unnamed-all [] = refl
+unnamed-all (z ∷ zs) = ap (_∷_ z) (unnamed-all zs)
 
 -- The first i of the hazards are stored, and the others are left from index `at` on.
 pub record HazardsLeft (h : Header) (s : List ℕ) (first : ℕ) (job : StoredJob) (at i : ℕ) : Type 0 where
@@ -67,16 +79,17 @@ module _ {h : Header} {s : List ℕ} {first : ℕ} {job : StoredJob} {at i : ℕ
         ∙ hazards-step h (h .count - (i + 1)) (left .got) s at
         ∙ rw (left .number, sym read)
 
-    pub hazard-stored : {z : Hazard} {n : ℕ} → r ≡ HazardRead.Hazard z n → HazardsLeft h s first (record { header = job .header; hazards = set (job .hazards) i z }) n (i + 1)
-    hazard-stored {z} {n} e =
-        record {
+    pub hazard-stored : {z : Hazard} {n : ℕ} {p : NamedHazard} → r ≡ HazardRead.Hazard z n → p ≡ named 0 z → HazardsLeft h s first (record { header = job .header; hazards = set (job .hazards) i p }) n (i + 1)
+    hazard-stored {z} {n} {p} e same =
+        rw same
+        (record {
           got = left .got ++ z ∷ [];
           number = omega (arith, length-append (left .got) (z ∷ []));
           most = omega arith;
-          room = length-set (job .hazards) i z ∙ left .room;
-          whole = rw (left .whole, sym (left .number)) (cc (padded-more 256 (hazardOf []) (left .got) z (omega arith)));
+          room = length-set (job .hazards) i (named 0 z) ∙ left .room;
+          whole = rw (left .whole, sym (left .number)) (cc (stored-more (left .got) z (omega arith)));
           same = left-next ∙ rw e;
-        }
+        })
 
     pub rest-refused : {x : Refusal} → r ≡ HazardRead.Refused x → refusal x ≡ readRest h (h .count) [] s first
     rest-refused {x} e = sym (left-next ∙ rw e)
@@ -97,5 +110,6 @@ module _ {h : Header} {s : List ℕ} {first : ℕ} {job : StoredJob} {at i : ℕ
 
     pub replies-done : length s ≤ at → Replies (record { outcome = Done; job = job }) (readRest h (h .count) [] s first)
     replies-done end =
-        let own = take-at (left .got) (replicate (256 - length (left .got)) (hazardOf [])) (h .count) (omega arith) in
-        rw (rest-read end, left .whole) (cc, refl)
+        let kept = map (named 0) (left .got) in
+        let own : take (h .count) (padded 256 unused kept) ≡ kept = take-at kept (replicate (256 - length kept) unused) (h .count) (omega (arith, length-map (left .got) (named 0))) in
+        rw (rest-read end, left .whole) (cc (ap (map unnamed) own ∙ unnamed-all (left .got)), refl)

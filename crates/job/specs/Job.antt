@@ -2,22 +2,30 @@
 -- Assumes nothing.
 use Prim.Native.Nat.{ℕ, zero, suc, _+_, _-_}
 use mathlib.Core.Bool.{Bool, _&&_}
-use mathlib.Core.List.{List, [], _∷_, _++_}
+use mathlib.Core.List.{List, [], _∷_, _++_, map}
 use lib.ListN.{length, getD, take}
 use lib.Dec.{leb}
 use Rattle.refusal.specs.Answer.{Answer, accepted, _>>=_, unless-refuse}
 use Rattle.number.specs.Number.{numberAt}
 use Rattle.job.specs.declared.Header.{Header}
 use Rattle.job.specs.declared.Hazard.{Hazard}
+use Rattle.job.specs.declared.NamedHazard.{NamedHazard}
 use Rattle.job.specs.declared.StoredJob.{StoredJob}
 
 pub record Job : Type 0 where
   pub header : Header
   pub hazards : List Hazard
 
+-- A hazard stored with a name, and without it.
+abbrev pub named : (name : ℕ) → Hazard → NamedHazard
+named name z = record { start = z .start; end = z .end; near = z .near; far = z .far; name = name; side = z .side; level = z .level }
+
+abbrev pub unnamed : NamedHazard → Hazard
+unnamed z = record { start = z .start; end = z .end; near = z .near; far = z .far; side = z .side; level = z .level }
+
 -- The job that is stored: the header's count says how many of the hazards are its own.
 abbrev pub jobOf : StoredJob → Job
-jobOf j = record { header = j .header; hazards = take (j .header .count) (j .hazards) }
+jobOf j = record { header = j .header; hazards = map unnamed (take (j .header .count) (j .hazards)) }
 
 -- The tables
 

@@ -1,7 +1,8 @@
 -- What each reading function answers, and the part of the job's reading that it answers for.
 -- Assumes nothing.
 use Prim.Native.Nat.{ℕ}
-use mathlib.Core.List.{List, []}
+use mathlib.Core.List.{List, [], map}
+use lib.Dec.{eqb}
 use Rattle.refusal.specs.Answer.{Answer, accepted, _>>=_, unless-refuse}
 use Rattle.refusal.specs.Refusal.{numberOf, valueOf, refusal, outcome}
 use Rattle.refusal.specs.Stored.{padded}
@@ -9,6 +10,7 @@ use Rattle.refusal.specs.declared.Refusal.{Refusal}
 use Rattle.number.specs.Number.{Reading, numberAt}
 use Rattle.job.specs.declared.Header.{Header}
 use Rattle.job.specs.declared.Hazard.{Hazard}
+use Rattle.job.specs.declared.NamedHazard.{NamedHazard}
 use Rattle.job.specs.declared.StoredJob.{StoredJob}
 use Rattle.job.specs.declared.field.Field.{Field}
 use Rattle.job.specs.declared.field.Field.the-variants as Field
@@ -17,7 +19,9 @@ use Rattle.job.specs.declared.header_fields.HeaderRead.the-variants as H
 use Rattle.job.specs.declared.hazard_fields.HazardRead.{HazardRead}
 use Rattle.job.specs.declared.hazard_fields.HazardRead.the-variants as HazardRead
 use Rattle.job.specs.declared.read.JobRead.{JobRead}
-use Rattle.job.specs.Job.{Job, jobOf, Range, within, Fields, nextInHazard, readFields, readHeader, headerOf, hazardOf}
+use Rattle.job.specs.declared.read.Opening.{Opening}
+use Rattle.job.specs.declared.read.Opening.the-variants as Opening
+use Rattle.job.specs.Job.{Job, named, jobOf, Range, within, Fields, nextInHazard, readFields, readHeader, headerOf, hazardOf, readJob}
 
 -- One number, for 1, 2 and its range; out of range is the refusal `outside`.
 unfoldable pub fieldAt : Range → (outside : Refusal) (s : List ℕ) (at : ℕ) → Answer Reading
@@ -66,10 +70,26 @@ hazardAnswer (HazardRead.Refused r) = refusal r
 abbrev pub noJob : Job
 noJob = record { header = headerOf []; hazards = [] }
 
--- A job as it is stored: its hazards in 256 places, every number behind them 0.
+-- A place in which no hazard is stored.
+abbrev pub unused : NamedHazard
+unused = named 0 (hazardOf [])
+
+-- A job as it is stored: its hazards in 256 places, every name and every number behind them 0.
 abbrev pub storedJob : Job → StoredJob
-storedJob j = record { header = j .header; hazards = padded 256 (hazardOf []) (j .hazards) }
+storedJob j = record { header = j .header; hazards = padded 256 unused (map (named 0) (j .hazards)) }
 
 -- The job that was read, or the refusal.
 abbrev pub jobAnswer : JobRead → Answer Job
 jobAnswer r = outcome (r .outcome) (jobOf (r .job))
+
+-- The header of the job that the bytes are.
+unfoldable pub jobHeader : (s : List ℕ) → Answer Header
+jobHeader s = readJob s >>= λ j. accepted (j .header)
+
+-- Job bytes that carry no hazard, read as a job is: a hazard count above 0 is 3, at that number.
+unfoldable pub readOpening : (s : List ℕ) → Answer Header
+readOpening s = headerAt s >>= λ x. unless-refuse (eqb (x .header .count) 0) 3 14 >>= λ _. jobHeader s
+
+abbrev pub openingAnswer : Opening → Answer Header
+openingAnswer (Opening.Header h) = accepted h
+openingAnswer (Opening.Refused r) = refusal r

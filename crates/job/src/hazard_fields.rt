@@ -46,12 +46,12 @@ pub fn read_hazard(s: &[u8], first: usize, header: Header, index: usize) -> Haza
     };
     HazardRead::Hazard {
         hazard: Hazard {
-            side: side.value as u16,
+            side: side.value as u8,
             start: start.value,
             end: end.value,
             near: near.value,
             far: far.value,
-            level: level.value as u16,
+            level: level.value as u8,
         },
         next: level.next,
     }

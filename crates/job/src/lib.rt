@@ -4,7 +4,11 @@ mod header_fields; // the header
 mod hazard_fields; // a hazard
 pub mod read; // the job
 
+ghost use mathlib.Core.Path.{_≡_};
+ghost use Rattle.job.specs.Job as specs;
+
 // The header, in the paper's order.
+#[repr(C)]
 pub struct Header {
     pub kind: u32,
     // A and B: the road is [begin, end).
@@ -32,19 +36,58 @@ pub struct Header {
     pub count: u32,
 }
 
-// A hazard [start, end) between a near and a far offset, on a side (0 right, 1 left), with its containment level. The two small
-// numbers share a word, so that 256 hazards take no more than 5 KiB of a call's stack.
+// A hazard [start, end) between a near and a far offset, on a side (0 right, 1 left), with its containment level.
 pub struct Hazard {
     pub start: u32,
     pub end: u32,
     pub near: u32,
     pub far: u32,
-    pub side: u16,
-    pub level: u16,
+    pub side: u8,
+    pub level: u8,
+}
+
+// A hazard as it is stored, with a name: 20 bytes without a gap. In a job that was read from bytes every name is 0.
+#[repr(C)]
+pub struct NamedHazard {
+    pub start: u32,
+    pub end: u32,
+    pub near: u32,
+    pub far: u32,
+    pub name: u16,
+    pub side: u8,
+    pub level: u8,
 }
 
 // A job's numbers as stored: the first `count` hazards are the job's.
+#[repr(C)]
 pub struct StoredJob {
     pub header: Header,
-    pub hazards: [Hazard; 256],
+    pub hazards: [NamedHazard; 256],
+}
+
+pub fn named(name: u16, z: Hazard) -> NamedHazard
+    ensures { λ r. ⌜ r ≡ specs.named name z ⌝ }
+{
+    NamedHazard {
+        start: z.start,
+        end: z.end,
+        near: z.near,
+        far: z.far,
+        name,
+        side: z.side,
+        level: z.level,
+    }
+}
+
+pub fn unnamed(z: NamedHazard) -> Hazard
+    ensures { λ r. ⌜ r ≡ specs.unnamed z ⌝ }
+{
+    Hazard {
+        start: z.start,
+        end: z.end,
+        near: z.near,
+        far: z.far,
+        side: z.side,
+        level: z.level,
+    }
 }

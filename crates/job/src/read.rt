@@ -1,12 +1,13 @@
 // A job read from its bytes.
-use super::Hazard;
 use super::Header;
+use super::NamedHazard;
 use super::StoredJob;
 use super::hazard_fields::HazardRead;
 use super::hazard_fields::read_hazard;
 use super::header_fields::HeaderRead;
 use super::header_fields::header_of;
 use super::header_fields::read_header;
+use super::named;
 use refusal::Outcome;
 use refusal::Refusal;
 ghost use mathlib.Core.Path.{_≡_};
@@ -15,7 +16,7 @@ ghost use Prim.Native.Nat.{_<_, _≤_};
 ghost use Rattle.refusal.specs.Stored.{acceptedOr};
 ghost use Rattle.refusal.specs.declared.Outcome.the-variants.{Refused};
 ghost use Rattle.job.specs.Job.{readRest, readJob};
-ghost use Rattle.job.specs.Reply.{jobAnswer, noJob, storedJob};
+ghost use Rattle.job.specs.Reply.{jobAnswer, noJob, storedJob, jobHeader, readOpening, openingAnswer};
 
 // The outcome, and beside it the job where it is Done, else zeros.
 pub struct JobRead {
@@ -23,16 +24,24 @@ pub struct JobRead {
     pub job: StoredJob,
 }
 
+// What opening reads.
+pub enum Opening {
+    // The header of job bytes that carry no hazard.
+    Header(Header),
+    Refused(Refusal),
+}
+
 // A job with no hazard stored.
 fn unfilled(header: Header) -> StoredJob
     ensures { λ r. ⌜ r ≡ storedJob (record { header = header; hazards = [] }) ⌝ }
 {
-    let none = Hazard {
-        side: 0,
+    let none = NamedHazard {
         start: 0,
         end: 0,
         near: 0,
         far: 0,
+        name: 0,
+        side: 0,
         level: 0,
     };
     let hazards = [none; 256];
@@ -63,7 +72,7 @@ fn read_rest(s: &[u8], first: usize, header: Header) -> JobRead
     while i < count {
         match read_hazard(s, at, header, i) {
             HazardRead::Hazard { hazard, next } => {
-                job.hazards[i] = hazard;
+                job.hazards[i] = named(0, hazard);
                 at = next;
             }
             HazardRead::Refused(refusal) => return refused(refusal),
@@ -87,5 +96,36 @@ pub fn read_job(s: &[u8]) -> JobRead
     match read_header(s) {
         HeaderRead::Header { header, next } => read_rest(s, next, header),
         HeaderRead::Refused(refusal) => refused(refusal),
+    }
+}
+
+// The header of the job that the bytes are.
+fn read_to_end(s: &[u8]) -> Opening
+    ensures { λ r. ⌜ openingAnswer r ≡ jobHeader (now (s .entry)) ⌝ }
+{
+    let read = read_job(s);
+    let outcome = read.outcome;
+    match outcome {
+        Outcome::Done => {
+            let job = read.job;
+            let header = job.header;
+            Opening::Header(header)
+        }
+        Outcome::Refused(refusal) => Opening::Refused(refusal),
+    }
+}
+
+// Job bytes that carry no hazard are read as a job is; a hazard count above 0 is 3.
+pub fn read_opening(s: &[u8]) -> Opening
+    ensures { λ r. ⌜ openingAnswer r ≡ readOpening (now (s .entry)) ⌝ }
+{
+    match read_header(s) {
+        HeaderRead::Header { header, next: _ } => {
+            if 0 < header.count {
+                return Opening::Refused(Refusal::HeaderRange(14));
+            }
+            read_to_end(s)
+        }
+        HeaderRead::Refused(refusal) => Opening::Refused(refusal),
     }
 }

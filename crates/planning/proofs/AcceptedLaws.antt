@@ -28,7 +28,7 @@ not-failed false t h = refl
 neither : {a b : Bool} → a ≡ false → b ≡ false → (a || b) ≡ false
 neither {a} {b} p q = rw (p, q)
 
-hazard-passes : (h : Header) (i : ℕ) (z : Hazard) → Passed h z → testHazard h i z ≡ accepted tt
+pub hazard-passes : (h : Header) (i : ℕ) (z : Hazard) → Passed h z → testHazard h i z ≡ accepted tt
 unfolding testHazard
 hazard-passes h i z p =
     let five : not (reached h z && ltb (z .near) (h .offset + h .deflection)) ≡ true = not-failed (reached h z) _ (λ r. le-ltb _ _ (p .clear r)) in

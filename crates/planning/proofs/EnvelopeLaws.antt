@@ -170,10 +170,10 @@ pub record EnvelopesFit (es : List Stretch) : Type 0 where
   pub levelled : Levelled es
   pub ends : EndsBy lastStation es
 
-pub tested-fit : (j : Job) (side : ℕ) (es : List Stretch) → JobFits j → testedEnvelopes j side ≡ accepted es → EnvelopesFit es
+pub tested-fit : (j : Job) (first side : ℕ) (es : List Stretch) → JobFits j → testedEnvelopes j first side ≡ accepted es → EnvelopesFit es
 unfolding testedEnvelopes
-tested-fit j side es f e =
-    let b = bound (testHazards (j .header) 0 (j .hazards)) (λ _. accepted (sideEnvelopes j side)) es e in
+tested-fit j first side es f e =
+    let b = bound (testHazards (j .header) first (j .hazards)) (λ _. accepted (sideEnvelopes j side)) es e in
     let same : sideEnvelopes j side ≡ es = cc in
-    let fits : AcceptedFits j = record { fits = f; passed = hazards-passed (j .header) 0 (j .hazards) (b .first) (b .taken) } in
+    let fits : AcceptedFits j = record { fits = f; passed = hazards-passed (j .header) first (j .hazards) (b .first) (b .taken) } in
     subst EnvelopesFit same (record { few = side-count j side fits; proper = side-proper j side fits; levelled = side-levelled j side fits; ends = side-ends j side fits })

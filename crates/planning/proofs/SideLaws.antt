@@ -1,25 +1,30 @@
 -- The runs of a side, step by step: reading, then the tests and envelopes, then the runs.
 -- Assumes nothing.
 use Prim.Native.Nat.{ℕ, _≤_}
-use mathlib.Core.Path.{_≡_, refl, sym, _∙_}
-use mathlib.Core.List.{List}
+use native.Mathlib.Omega.{arith}
+use mathlib.Core.Path.{_≡_, refl, sym, ap, _∙_}
+use mathlib.Core.List.{List, []}
 use Rattle.refusal.specs.Answer.{Answer, accepted, refused, _>>=_}
 use Rattle.refusal.specs.Refusal.{refusal}
+use Rattle.refusal.specs.Stored.{acceptedOr}
 use Rattle.refusal.specs.declared.Refusal.{Refusal}
 use Rattle.refusal.specs.declared.Outcome.the-variants.{Done, Refused}
 use Rattle.job.specs.Job.{Job, readJob}
 use Rattle.job.proofs.JobLaws.{JobFits}
+use Rattle.runs.specs.declared.Stretch.{Stretch}
+use Rattle.runs.specs.declared.Envelopes.{Envelopes}
 use Rattle.runs.specs.RunList.{envelopesOf}
 use Rattle.runs.specs.Stored.{StoredEnvelopes}
 use Rattle.runs.specs.Required.{requiredRuns}
 use Rattle.planning.specs.Envelope.{sideEnvelopes, testHazards, acceptJob}
 use Rattle.planning.specs.Required.{jobRuns}
-use Rattle.planning.specs.Reply.{testedEnvelopes, testedRuns, acceptedRuns, sideAnswer}
+use Rattle.planning.specs.Reply.{testedEnvelopes, testedRuns, acceptedRuns, storedEnvelopes}
 use Rattle.planning.specs.declared.accept.SideEnvelopes.{SideEnvelopes}
 use Rattle.planning.proofs.EnvelopeLaws.{tested-fit}
+use Rattle.planning.proofs.AcceptLaws.{Replies}
 
 -- The runs of a tested job are those of its envelopes.
-runs-tested : (j : Job) (side : ℕ) → testedRuns j side ≡ (testedEnvelopes j side >>= λ es. accepted (requiredRuns es (j .header .continuity)))
+runs-tested : (j : Job) (side : ℕ) → testedRuns j side ≡ (testedEnvelopes j 0 side >>= λ es. accepted (requiredRuns es (j .header .continuity)))
 unfolding testedRuns testedEnvelopes jobRuns
 runs-tested j side = go (testHazards (j .header) 0 (j .hazards))
   where
@@ -41,22 +46,25 @@ runs-read s side = job (readJob s)
     job (refused k v) = refl
 
 -- What `side_envelopes` answers, by its outcome.
-module _ (j : Job) (side : ℕ) (r : SideEnvelopes) (tested : sideAnswer r ≡ testedEnvelopes j side) where
-  envelopes-done : r .outcome ≡ Done → testedEnvelopes j side ≡ accepted (envelopesOf (r .envelopes))
-  envelopes-done e = sym tested ∙ rw e
+module _ (j : Job) (first side : ℕ) (r : SideEnvelopes) (reply : Replies r (testedEnvelopes j first side)) where
+  pub envelopes-done : r .outcome ≡ Done → testedEnvelopes j first side ≡ accepted (envelopesOf (r .envelopes))
+  envelopes-done e = sym (reply .0) ∙ rw e
 
-  pub stored-envelopes : JobFits j → r .envelopes .count ≤ 256 → r .outcome ≡ Done → StoredEnvelopes (r .envelopes)
-  stored-envelopes fits few e =
-      let f = tested-fit j side (envelopesOf (r .envelopes)) fits (envelopes-done e) in
-      record { count = few; long = f .proper; levels = f .levelled; ends = f .ends }
+  pub envelopes-refused : {x : Refusal} → r .outcome ≡ Refused x → testedEnvelopes j first side ≡ refusal x
+  envelopes-refused e = sym (reply .0) ∙ rw e
 
+  pub stored-envelopes : JobFits j → r .outcome ≡ Done → StoredEnvelopes (r .envelopes)
+  stored-envelopes fits e =
+      let f = tested-fit j first side (envelopesOf (r .envelopes)) fits (envelopes-done e) in
+      let whole : r .envelopes ≡ storedEnvelopes (envelopesOf (r .envelopes)) = reply .1 ∙ ap (λ (a : Answer (List Stretch)). storedEnvelopes (acceptedOr [] a)) (envelopes-done e) in
+      record { count = omega (arith, f .few, ap (λ (es : Envelopes). es .count) whole); long = f .proper; levels = f .levelled; ends = f .ends }
+
+module _ (j : Job) (side : ℕ) (r : SideEnvelopes) (reply : Replies r (testedEnvelopes j 0 side)) where
   pub runs-done : r .outcome ≡ Done → testedRuns j side ≡ accepted (requiredRuns (envelopesOf (r .envelopes)) (j .header .continuity))
-  runs-done e = runs-tested j side ∙ rw (envelopes-done e)
+  runs-done e = runs-tested j side ∙ rw (envelopes-done j 0 side r reply e)
 
   pub runs-refused : {x : Refusal} → r .outcome ≡ Refused x → testedRuns j side ≡ refusal x
-  runs-refused {x} e =
-      let t : testedEnvelopes j side ≡ refusal x = sym tested ∙ rw e in
-      runs-tested j side ∙ rw t
+  runs-refused e = runs-tested j side ∙ rw (envelopes-refused j 0 side r reply e)
 
 -- And by how the job was read.
 pub runs-of-job : (s : List ℕ) (side : ℕ) {j : Job} → readJob s ≡ accepted j → acceptedRuns s side ≡ testedRuns j side

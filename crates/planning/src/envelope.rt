@@ -40,7 +40,7 @@ fn runout_length(header: Header, traffic: Traffic) -> u32
     }
 }
 
-fn is_adjacent(header: Header, side: u16, traffic: Traffic) -> bool
+fn is_adjacent(header: Header, side: u8, traffic: Traffic) -> bool
     ensures { λ r. ⌜ r ≡ adjacent header side (trafficOf traffic) ⌝ }
 {
     match traffic {
@@ -50,7 +50,7 @@ fn is_adjacent(header: Header, side: u16, traffic: Traffic) -> bool
 }
 
 // What a traffic adds to the offsets of a side: nothing where it is adjacent, W where it is far.
-fn farther_by(header: Header, side: u16, traffic: Traffic) -> u32
+fn farther_by(header: Header, side: u8, traffic: Traffic) -> u32
     ensures { λ r. ⌜ r ≡ farther header side (trafficOf traffic) ⌝ }
 {
     if is_adjacent(header, side, traffic) {

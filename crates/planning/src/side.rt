@@ -31,7 +31,7 @@ fn job_runs(job: StoredJob, side: u32) -> SideRuns
     ensures { λ r. ⌜ runsAnswer r ≡ testedRuns (jobOf job) side ⌝ }
     ensures { λ r. ⌜ r .runs ≡ storedRuns (acceptedOr [] (testedRuns (jobOf job) side)) ⌝ }
 {
-    let tested = side_envelopes(job, side);
+    let tested = side_envelopes(job, 0, side as u64);
     let outcome = tested.outcome;
     match outcome {
         Outcome::Done => {

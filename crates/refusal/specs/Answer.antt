@@ -19,3 +19,7 @@ module _ {A B : Type 0} where
 abbrev pub unless-refuse : Bool → (number value : ℕ) → Answer (Unit {0})
 unless-refuse true k v = accepted tt
 unless-refuse false k v = refused k v
+
+abbrev pub isAccepted : {A : Type 0} → Answer A → Bool
+isAccepted (accepted a) = true
+isAccepted (refused k v) = false

@@ -1,6 +1,6 @@
 -- Choice by a test, and tests over a list.
 -- Assumes nothing.
-use mathlib.Core.Bool.{Bool, true, false, _||_}
+use mathlib.Core.Bool.{Bool, true, false, _&&_, _||_}
 use mathlib.Core.List.{List, [], _∷_}
 
 module _ {ℓ} {A : Type ℓ} where
@@ -14,6 +14,11 @@ module _ {ℓ} {A : Type ℓ} where
   unfoldable pub someOf : (A → Bool) → List A → Bool
   someOf p [] = false
   someOf p (x ∷ xs) = p x || someOf p xs
+
+  -- every element passes the test
+  unfoldable pub allOf : (A → Bool) → List A → Bool
+  allOf p [] = true
+  allOf p (x ∷ xs) = p x && allOf p xs
 
   -- the elements that pass the test
   unfoldable pub keep : (A → Bool) → List A → List A

@@ -7,7 +7,7 @@ pub enum Refusal {
     Ended(usize),
     // The number that begins at this index is overlong, too great or not in shortest form.
     Malformed(usize),
-    // This header number, 1 to 14, is outside its range.
+    // This header number, 1 to 14, is outside its range; 0 where the memory of an open job breaks the rules.
     HeaderRange(usize),
     // A field of the hazard with this index is outside its range.
     HazardRange(usize),
@@ -25,6 +25,8 @@ pub enum Refusal {
     Schedule,
     // More than 64 ranges.
     Ranges,
+    // This name stands already in the open job (add), or it does not stand (withdraw).
+    Name(usize),
 }
 
 // The row's number in the table.
@@ -43,6 +45,7 @@ pub fn refusal_number(refusal: Refusal) -> u64
         Refusal::Room(_) => 9,
         Refusal::Schedule => 10,
         Refusal::Ranges => 11,
+        Refusal::Name(_) => 12,
     }
 }
 
@@ -62,6 +65,7 @@ pub fn refusal_value(refusal: Refusal) -> u64
         Refusal::Room(needed) => needed as u64,
         Refusal::Schedule => 0,
         Refusal::Ranges => 0,
+        Refusal::Name(name) => name as u64,
     }
 }
 

@@ -1,20 +1,27 @@
--- Plan, step by step: the side, the runs of the side, the room.
+-- Plan, step by step: the side, the job read, its hazards tested, the room.
 -- Assumes nothing.
 use Prim.Native.Nat.{ℕ, _≤_, _<_, _+_, _-_}
-use mathlib.Core.Path.{_≡_, refl, sym, _∙_, subst, ap}
+use mathlib.Core.Path.{_≡_, refl, _∙_, subst, ap}
 use mathlib.Core.List.{List, _++_}
 use borrow.Author.Tests.{le-leb, lt-leb, leb-true}
 use Rattle.refusal.specs.Answer.{Answer, accepted, refused, _>>=_, unless-refuse}
 use Rattle.refusal.specs.Refusal.{refusal, outcome}
+use native.Mathlib.Nat.{min-le-left}
+use lib.ListN.{length-take}
 use Rattle.refusal.specs.declared.Refusal.{Refusal}
 use Rattle.refusal.specs.declared.Outcome.the-variants.{Done, Refused}
-use Rattle.job.specs.Job.{Job}
-use Rattle.runs.specs.RunList.{isRunList, runsOf}
+use Rattle.job.specs.Job.{Job, readJob}
+use Rattle.runs.specs.declared.Envelopes.{Envelopes}
+use Rattle.runs.specs.RunList.{isRunList, envelopesOf}
+use Rattle.runs.specs.Required.{requiredRuns}
+use Rattle.runs.specs.Stored.{StoredEnvelopes}
+use Rattle.runs.proofs.RequiredLaws.{required-run-list}
 use Rattle.planning.specs.Envelope.{acceptJob}
 use Rattle.planning.specs.Required.{jobRuns}
-use Rattle.planning.specs.Reply.{acceptedRuns, runsAnswer}
-use Rattle.planning.specs.declared.side.SideRuns.{SideRuns}
-use Rattle.planning.proofs.JobRunLaws.{accepted-run-list}
+use Rattle.planning.specs.Reply.{acceptedRuns, testedEnvelopes}
+use Rattle.planning.specs.declared.accept.SideEnvelopes.{SideEnvelopes}
+use Rattle.planning.proofs.AcceptLaws.{Replies}
+use Rattle.planning.proofs.SideLaws.{runs-of-job, runs-unread, runs-done, runs-refused}
 use Rattle.schedule.specs.Schedule.{writeSchedule}
 use Rattle.schedule.specs.Plan.{fitted, plan, outputAfter}
 use mathlib.Core.Bool.{true}
@@ -25,6 +32,7 @@ use lib.Dec.{leb}
 use Rattle.number.specs.Number.{placed}
 use Rattle.number.proofs.NumberLaws.{placed-fits}
 use Rattle.refusal.proofs.AnswerLaws.{bound, tested}
+use Rattle.schedule.specs.Steps.{testedPlan}
 
 -- What fits is written, and what does not is refused with the bytes needed.
 pub fitted-fits : (w : List ℕ) (room : ℕ) → length w ≤ room → fitted w room ≡ accepted w
@@ -70,18 +78,25 @@ plan-by-runs s side room h = rw (le-leb side 1 h) (go (acceptJob s))
     go (accepted j) = refl
     go (refused k v) = refl
 
--- What `side_runs` answers, by its outcome.
-module _ (s : List ℕ) (side : ℕ) (r : SideRuns) (answer : runsAnswer r ≡ acceptedRuns s side) where
-  done : r .outcome ≡ Done → acceptedRuns s side ≡ accepted (runsOf (r .runs))
-  done e = sym answer ∙ rw e
+-- By how the job was read.
+pub plan-read : (s : List ℕ) (side room : ℕ) {j : Job} → side ≤ 1 → readJob s ≡ accepted j → plan s side room ≡ testedPlan j side room
+unfolding testedPlan
+plan-read s side room h e = plan-by-runs s side room h ∙ rw (runs-of-job s side e)
 
-  pub runs-listed : r .outcome ≡ Done → isRunList (runsOf (r .runs)) ≡ true
-  runs-listed e = accepted-run-list s side (runsOf (r .runs)) (done e)
+pub plan-unread : (s : List ℕ) (side room : ℕ) (x : Refusal) → side ≤ 1 → readJob s ≡ refusal x → plan s side room ≡ refusal x
+plan-unread s side room x h e = plan-by-runs s side room h ∙ rw (runs-unread s side x e)
 
-  pub plan-done : (room : ℕ) → side ≤ 1 → r .outcome ≡ Done → plan s side room ≡ fitted (writeSchedule (runsOf (r .runs))) room
-  plan-done room h e = plan-by-runs s side room h ∙ rw (done e)
+-- By what `side_envelopes` answers.
+module _ (j : Job) (side : ℕ) (r : SideEnvelopes) (reply : Replies r (testedEnvelopes j 0 side)) where
+  pub tested-done : (room : ℕ) → r .outcome ≡ Done → testedPlan j side room ≡ fitted (writeSchedule (requiredRuns (envelopesOf (r .envelopes)) (j .header .continuity))) room
+  unfolding testedPlan
+  tested-done room e = rw (runs-done j side r reply e)
 
-  pub plan-refused : (room : ℕ) (x : Refusal) → side ≤ 1 → r .outcome ≡ Refused x → plan s side room ≡ refusal x
-  plan-refused room x h e =
-      let t : acceptedRuns s side ≡ refusal x = sym answer ∙ rw e in
-      plan-by-runs s side room h ∙ rw t
+  pub tested-refused : (room : ℕ) (x : Refusal) → r .outcome ≡ Refused x → testedPlan j side room ≡ refusal x
+  unfolding testedPlan
+  tested-refused room x e = rw (runs-refused j side r reply e)
+
+-- The runs of stored envelopes are a run list.
+pub runs-listed : (e : Envelopes) (G : ℕ) → StoredEnvelopes e → isRunList (requiredRuns (envelopesOf e) G) ≡ true
+runs-listed e G stored =
+    required-run-list (envelopesOf e) G (stored .long) (stored .ends) (omega (arith, stored .count, length-take (e .count) (e .stretches), min-le-left (e .count) (length (e .stretches))))

@@ -2,17 +2,27 @@
 use super::reply::Plan;
 use super::write::put_schedule;
 use super::write::schedule_length;
+use job::StoredJob;
+use job::read::read_job;
+use planning::accept::side_envelopes;
 use refusal::Outcome;
 use refusal::Refusal;
+use runs::Envelopes;
 use runs::RunList;
+use runs::required::required_runs;
 ghost use mathlib.Core.Path.{_≡_};
 ghost use mathlib.Core.Bool.{true};
 ghost use Prim.Native.Nat.{_≤_, _<_};
 ghost use lib.ListN.{length};
-ghost use Rattle.runs.specs.RunList.{isRunList, runsOf};
+ghost use Rattle.job.specs.Job.{jobOf};
+ghost use Rattle.job.proofs.JobLaws.{JobFits};
+ghost use Rattle.runs.specs.Required.{requiredRuns};
+ghost use Rattle.runs.specs.RunList.{isRunList, runsOf, envelopesOf};
+ghost use Rattle.runs.specs.Stored.{StoredEnvelopes};
 ghost use Rattle.schedule.specs.Schedule.{writeSchedule};
 ghost use Rattle.schedule.specs.Plan.{fitted, planReply, bytesWritten, outputAfter};
 ghost use Rattle.schedule.specs.Plan as spec;
+ghost use Rattle.schedule.specs.Steps.{testedPlan};
 
 // The bytes that the schedule needs, counted where the room is less than a proved bound on every schedule; with more, none lacks room.
 fn bytes_needed(list: RunList, room: usize) -> usize
@@ -38,6 +48,33 @@ fn place(out: &mut [u8], list: RunList) -> Plan
     Plan::Written(put_schedule(out, list))
 }
 
+// The schedule of a side, from its envelopes; plan and an open job's schedule call share it.
+pub fn plan_envelopes(out: &mut [u8], envelopes: Envelopes, continuity: u32) -> Plan
+    requires { ⌜ StoredEnvelopes envelopes ⌝ }
+    ensures { λ r. ⌜ planReply r ≡ bytesWritten (fitted (writeSchedule (requiredRuns (envelopesOf envelopes) continuity)) (length (now (out .entry)))) ⌝ }
+    ensures { λ _. ⌜ now (out .exit) ≡ outputAfter (fitted (writeSchedule (requiredRuns (envelopesOf envelopes) continuity)) (length (now (out .entry)))) (now (out .entry)) ⌝ }
+{
+    place(out, required_runs(envelopes, continuity))
+}
+
+// The schedule of a side of a job that could be read, or refusal 5, 6 or 9.
+fn plan_stored(out: &mut [u8], job: StoredJob, side: u64) -> Plan
+    requires { ⌜ JobFits (jobOf job) ⌝ }
+    ensures { λ r. ⌜ planReply r ≡ bytesWritten (testedPlan (jobOf job) side (length (now (out .entry)))) ⌝ }
+    ensures { λ _. ⌜ now (out .exit) ≡ outputAfter (testedPlan (jobOf job) side (length (now (out .entry)))) (now (out .entry)) ⌝ }
+{
+    let tested = side_envelopes(job, 0, side);
+    let outcome = tested.outcome;
+    match outcome {
+        Outcome::Done => {
+            let envelopes = tested.envelopes;
+            let header = job.header;
+            plan_envelopes(out, envelopes, header.continuity)
+        }
+        Outcome::Refused(refusal) => Plan::Refused(refusal),
+    }
+}
+
 // The schedule of a side of the job, written into the output; or the first refusal, and nothing written.
 pub fn plan(job: &[u8], side: u64, out: &mut [u8]) -> Plan
     ensures { λ r. ⌜ planReply r ≡ bytesWritten (spec.plan (now (job .entry)) side (length (now (out .entry)))) ⌝ }
@@ -46,12 +83,12 @@ pub fn plan(job: &[u8], side: u64, out: &mut [u8]) -> Plan
     if 1 < side {
         return Plan::Refused(Refusal::Argument);
     }
-    let planned = planning::side::side_runs(job, side as u32);
-    let outcome = planned.outcome;
+    let read = read_job(job);
+    let outcome = read.outcome;
     match outcome {
         Outcome::Done => {
-            let runs = planned.runs;
-            place(out, runs)
+            let stored = read.job;
+            plan_stored(out, stored, side)
         }
         Outcome::Refused(refusal) => Plan::Refused(refusal),
     }

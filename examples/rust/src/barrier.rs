@@ -32,6 +32,7 @@ pub const ARGUMENT: u64 = 8;
 pub const OUTPUT_SHORT: u64 = 9;
 pub const NO_SCHEDULE: u64 = 10;
 pub const TOO_MANY_RANGES: u64 = 11;
+pub const NAME: u64 = 12;
 
 /// The calls as C has them.
 pub mod c {
@@ -55,6 +56,45 @@ pub mod c {
         pub value: u64,
         pub records: u64,
         pub quantities: [u64; 64],
+    }
+
+    #[repr(C)]
+    #[derive(Clone, Copy)]
+    pub struct Hazard {
+        pub side: u64,
+        pub start: u64,
+        pub end: u64,
+        pub near_offset: u64,
+        pub far_offset: u64,
+        pub level: u64,
+    }
+
+    #[repr(C)]
+    #[derive(Clone, Copy)]
+    struct Standing {
+        offsets_and_stations: [u32; 4],
+        name: u16,
+        side_and_level: [u8; 2],
+    }
+
+    /// The engine's own memory of an open job.
+    #[repr(C)]
+    #[derive(Clone, Copy)]
+    pub struct OpenJob {
+        header: [u32; 14],
+        standing: [Standing; 256],
+    }
+
+    impl OpenJob {
+        /// All 0: memory that was never opened.
+        pub const UNOPENED: OpenJob = OpenJob {
+            header: [0; 14],
+            standing: [Standing {
+                offsets_and_stations: [0; 4],
+                name: 0,
+                side_and_level: [0; 2],
+            }; 256],
+        };
     }
 
     unsafe extern "C" {
@@ -90,6 +130,19 @@ pub mod c {
             ranges: *const u64,
             ranges_len: usize,
         ) -> QuantitiesReply;
+
+        pub fn barrier_open(job: *mut OpenJob, bytes: *const u8, bytes_len: usize) -> Reply;
+
+        pub fn barrier_add(job: *mut OpenJob, name: u8, hazard: Hazard) -> Reply;
+
+        pub fn barrier_withdraw(job: *mut OpenJob, name: u8) -> Reply;
+
+        pub fn barrier_open_schedule(
+            job: *const OpenJob,
+            side: u64,
+            out: *mut u8,
+            out_len: usize,
+        ) -> Reply;
     }
 }
 
@@ -183,5 +236,57 @@ pub fn quantities(
             number,
             value: reply.value,
         }),
+    }
+}
+
+/// A hazard's six numbers, as `OpenJob::add` takes them.
+pub use c::Hazard;
+
+/// A job whose hazards come and go, each under a name. Refused calls leave it
+/// as it was.
+#[derive(Clone)]
+pub struct OpenJob {
+    memory: c::OpenJob,
+}
+
+impl OpenJob {
+    /// An open job of a header: the bytes of a job with hazard count 0.
+    pub fn new(bytes: &[u8]) -> Result<OpenJob, Refusal> {
+        let mut job = OpenJob {
+            memory: c::OpenJob::UNOPENED,
+        };
+        job.open(bytes)?;
+        Ok(job)
+    }
+
+    /// Starts anew with the header of these bytes, and no hazard.
+    pub fn open(&mut self, bytes: &[u8]) -> Result<(), Refusal> {
+        // SAFETY: the memory is lent to this call alone, and the other pointer
+        // is good for as many bytes as are named with it.
+        let reply = unsafe { c::barrier_open(&mut self.memory, bytes.as_ptr(), bytes.len()) };
+        answer(reply).map(|_| ())
+    }
+
+    /// Puts a hazard in, under a name under which none stands.
+    pub fn add(&mut self, name: u8, hazard: Hazard) -> Result<(), Refusal> {
+        // SAFETY: the memory is lent to this call alone.
+        let reply = unsafe { c::barrier_add(&mut self.memory, name, hazard) };
+        answer(reply).map(|_| ())
+    }
+
+    /// Takes the hazard under a name out; the name can be added again.
+    pub fn withdraw(&mut self, name: u8) -> Result<(), Refusal> {
+        // SAFETY: the memory is lent to this call alone.
+        let reply = unsafe { c::barrier_withdraw(&mut self.memory, name) };
+        answer(reply).map(|_| ())
+    }
+
+    /// Writes the schedule of one side to the start of `out`; the bytes written.
+    pub fn schedule(&self, side: u64, out: &mut [u8]) -> Result<usize, Refusal> {
+        // SAFETY: the memory is only read, the other pointer is good for as
+        // many bytes as are named with it, and `out` is lent to this call alone.
+        let reply =
+            unsafe { c::barrier_open_schedule(&self.memory, side, out.as_mut_ptr(), out.len()) };
+        answer(reply).map(|written| written as usize)
     }
 }

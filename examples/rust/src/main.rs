@@ -6,12 +6,14 @@
 //! It prints the same text as examples/example.c.
 
 mod barrier;
+mod number_form;
 
 use std::io::{self, Write};
 use std::ops::Range;
 use std::process::ExitCode;
 
 use barrier::{Refusal, LEFT, NC_3, RIGHT, SCHEDULE_MAX};
+use number_form::{get_number, job_bytes};
 
 const ROAD_END: u64 = 1_000_000;
 
@@ -54,39 +56,6 @@ impl From<io::Error> for Stop {
 /// The price of one millimetre of barrier in cents: 120.00 a metre.
 const CENTS_A_MILLIMETRE: u64 = 12;
 
-/// Writes a value in groups of seven bits, as many as its bits need.
-fn put_number(bytes: &mut Vec<u8>, mut value: u64) {
-    while value > 0x7F {
-        bytes.push(0x80 | (value & 0x7F) as u8);
-        value >>= 7;
-    }
-    bytes.push(value as u8);
-}
-
-/// Reads the number at `at` and moves `at` behind it. Only for a schedule that
-/// the engine wrote or did not refuse.
-fn get_number(bytes: &[u8], at: &mut usize) -> u64 {
-    let mut value = 0;
-    let mut shift = 0;
-    loop {
-        let group = bytes[*at];
-        *at += 1;
-        value |= u64::from(group & 0x7F) << shift;
-        shift += 7;
-        if group & 0x80 == 0 {
-            return value;
-        }
-    }
-}
-
-fn job_bytes(numbers: &[u64]) -> Vec<u8> {
-    let mut job = Vec::new();
-    for number in numbers {
-        put_number(&mut job, *number);
-    }
-    job
-}
-
 fn print_bytes(out: &mut impl Write, name: &str, bytes: &[u8]) -> io::Result<()> {
     let hex: String = bytes.iter().map(|byte| format!(" {byte:02X}")).collect();
     writeln!(out, "  {name}:{hex}")
@@ -124,6 +93,7 @@ fn print_refusal(out: &mut impl Write, what: &str, refusal: Refusal) -> io::Resu
         barrier::OUTPUT_SHORT => writeln!(out, "the schedule takes {value} bytes"),
         barrier::NO_SCHEDULE => writeln!(out, "these bytes are not a schedule"),
         barrier::TOO_MANY_RANGES => writeln!(out, "more than 64 ranges"),
+        barrier::NAME => writeln!(out, "the name {value} stands already, or does not stand"),
         _ => writeln!(out, "a number that barrier.h does not have"),
     }
 }

@@ -1,10 +1,12 @@
 //! The jobs of the measurement: all hazards on the right side, each reached by
 //! both traffics, the same bytes on every run.
 
-use cases::Random;
 use cases::draft::Draft;
+use cases::{Memory, Random};
 use reference::Stretch;
+use reference::job::Hazard;
 use reference::level::Run;
+use reference::memory::BYTES;
 
 #[derive(Clone, Copy, PartialEq, Eq)]
 pub enum Kind {
@@ -106,6 +108,28 @@ fn islands(random: &mut Random, hazards: u64) -> Vec<[u64; 6]> {
         list.push(hazard(random, start, length, level));
     }
     list
+}
+
+/// An open job in which these hazards stand, and the hazards by their names.
+pub struct Open {
+    pub memory: Memory,
+    pub hazards: Vec<Hazard>,
+}
+
+/// The islands stand in no order of their names.
+pub fn open() -> Open {
+    let job = job(Kind::Islands, Order::Shuffled, 256);
+    let hazards = reference::job::read(&job).expect("an accepted job").hazards;
+    let mut memory = Memory::new(&[0; BYTES]);
+    let header = Draft {
+        header: HEADER,
+        hazards: Vec::new(),
+    };
+    reference::open(&mut memory.job, &header.bytes()).expect("an accepted header");
+    for (name, hazard) in (0..=255).zip(&hazards) {
+        reference::add(&mut memory.job, name, *hazard).expect("an accepted hazard");
+    }
+    Open { memory, hazards }
 }
 
 /// A written schedule of 511 runs of one level. A plan has as many runs only

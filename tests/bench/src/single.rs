@@ -7,7 +7,7 @@ use cases::calls::{contract, record, reply};
 
 use crate::jobs::{self, Kind, Order, ROAD_END};
 
-pub const NAMES: [&str; 9] = [
+pub const NAMES: [&str; 12] = [
     "sparse-shuffled",
     "dense-shuffled",
     "runs511-shuffled",
@@ -17,7 +17,13 @@ pub const NAMES: [&str; 9] = [
     "quantities-64-half",
     "quantity-64-single-calls",
     "lookup-511-middle",
+    "open-add-255",
+    "open-withdraw-256",
+    "open-schedule-256",
 ];
+
+/// The name that is added and withdrawn, in the middle of the others.
+const NAME: u8 = 127;
 
 #[derive(Clone, Copy, PartialEq, Eq)]
 enum Who {
@@ -58,7 +64,10 @@ impl Single {
             "quantities-64-all" => self.quantities(&jobs::schedule_of_one_level(3), 3),
             "quantities-64-half" => self.quantities(&schedule_511(), 1),
             "quantity-64-single-calls" => self.single_calls(&jobs::schedule_of_one_level(3), 3),
-            _ => self.lookup(),
+            "lookup-511-middle" => self.lookup(),
+            "open-add-255" => self.add(),
+            "open-withdraw-256" => self.withdraw(),
+            _ => self.schedule(),
         }
     }
 
@@ -120,6 +129,53 @@ impl Single {
             black_box(match self.who {
                 Who::Engine => engine::lookup(schedule, &[0], 0, station),
                 Who::Reference => record(reference::lookup(schedule, &[0], 0, station)),
+            });
+        }
+    }
+}
+
+// Open jobs. A call that changes the memory is given a fresh copy each time.
+
+impl Single {
+    /// The 256th hazard.
+    fn add(&self) {
+        let jobs::Open {
+            mut memory,
+            hazards,
+        } = jobs::open();
+        let hazard = hazards[usize::from(NAME)];
+        reference::withdraw(&mut memory.job, NAME).expect("the name stands");
+        for _ in 0..self.times {
+            let mut memory = black_box(&memory).clone();
+            let hazard = black_box(hazard);
+            black_box(match self.who {
+                Who::Engine => engine::add(&mut memory, NAME, hazard),
+                Who::Reference => reply(reference::add(&mut memory.job, NAME, hazard)),
+            });
+        }
+    }
+
+    /// One of 256 hazards.
+    fn withdraw(&self) {
+        let open = jobs::open();
+        for _ in 0..self.times {
+            let mut memory = black_box(&open.memory).clone();
+            black_box(match self.who {
+                Who::Engine => engine::withdraw(&mut memory, NAME),
+                Who::Reference => reply(reference::withdraw(&mut memory.job, NAME)),
+            });
+        }
+    }
+
+    /// 511 runs of 256 hazards.
+    fn schedule(&self) {
+        let mut memory = jobs::open().memory;
+        let mut out = vec![0; 8_192];
+        for _ in 0..self.times {
+            let memory = black_box(&mut memory);
+            black_box(match self.who {
+                Who::Engine => engine::open_schedule(memory, 0, &mut out),
+                Who::Reference => reply(reference::open_schedule(&memory.job, 0, &mut out)),
             });
         }
     }

@@ -30,6 +30,7 @@ pub fn print() -> ExitCode {
     print_quantity();
     print_contract();
     print_lookup();
+    print_open_job();
     ExitCode::SUCCESS
 }
 
@@ -260,6 +261,51 @@ fn print_lookup() {
                 columns(&times)
             );
         }
+    }
+}
+
+/// Open jobs with 256 hazards, or 255 and one that is added. A call that
+/// changes the memory is given a fresh copy each time.
+fn print_open_job() {
+    println!("\nOpen job of 256 hazards and 511 runs, ns per call:\n");
+    println!("| call | engine | reference | engine/reference |");
+    println!("|---|---:|---:|---:|");
+    let jobs::Open { memory, hazards } = jobs::open();
+    let mut fewer = memory.clone();
+    reference::withdraw(&mut fewer.job, 127).expect("the name stands");
+    let add = Pair {
+        engine: Box::new(|| {
+            let mut memory = black_box(&fewer).clone();
+            black_box(engine::add(&mut memory, 127, hazards[127]));
+        }),
+        reference: Box::new(|| {
+            let mut memory = black_box(&fewer).clone();
+            let _ = black_box(reference::add(&mut memory.job, 127, hazards[127]));
+        }),
+    };
+    let withdraw = Pair {
+        engine: Box::new(|| {
+            let mut memory = black_box(&memory).clone();
+            black_box(engine::withdraw(&mut memory, 127));
+        }),
+        reference: Box::new(|| {
+            let mut memory = black_box(&memory).clone();
+            let _ = black_box(reference::withdraw(&mut memory.job, 127));
+        }),
+    };
+    let mut lent = memory.clone();
+    let (mut engine_out, mut reference_out) = (vec![0; 8_192], vec![0; 8_192]);
+    let schedule = Pair {
+        engine: Box::new(|| {
+            black_box(engine::open_schedule(&mut lent, 0, &mut engine_out));
+        }),
+        reference: Box::new(|| {
+            let job = black_box(&memory.job);
+            let _ = black_box(reference::open_schedule(job, 0, &mut reference_out));
+        }),
+    };
+    for (name, pair) in [("add", add), ("withdraw", withdraw), ("schedule", schedule)] {
+        println!("| {name} | {} |", columns(&pair.times()));
     }
 }
 

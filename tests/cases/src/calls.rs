@@ -3,10 +3,12 @@
 use std::ops::Range;
 
 use reference::calls::MOST_RANGES;
+use reference::job::Hazard;
+use reference::memory;
 use reference::{Lookup, Outcome, Quantities, Refusal};
 
-/// The reply of plan and quantity: number 0 with the bytes written or the
-/// millimetres, else the paper's refusal number with its value.
+/// The reply of plan, quantity and the calls on an open job: number 0 with the
+/// bytes written, the millimetres or 0, else the paper's refusal number with its value.
 #[derive(Clone, Copy, Debug, PartialEq, Eq)]
 pub struct Reply {
     pub number: u64,
@@ -34,6 +36,28 @@ pub struct Contract {
     pub quantities: [u64; MOST_RANGES],
 }
 
+/// Guard bytes on each side of lent memory.
+pub const GUARD: usize = 24;
+
+/// The memory of an open job between guard bytes, aligned as C may ask for.
+#[derive(Clone, Debug, PartialEq, Eq)]
+#[repr(C, align(8))]
+pub struct Memory {
+    pub before: [u8; GUARD],
+    pub job: [u8; memory::BYTES],
+    pub after: [u8; GUARD],
+}
+
+impl Memory {
+    pub fn new(job: &[u8; memory::BYTES]) -> Memory {
+        Memory {
+            before: [0xB5; GUARD],
+            job: *job,
+            after: [0xA5; GUARD],
+        }
+    }
+}
+
 /// Job, side, a room of bytes, and the part of the room that is lent as
 /// output; the rest of the room are guard bytes.
 pub type PlanCall = dyn Fn(&mut [u8], u64, &mut [u8], Range<usize>) -> Reply;
@@ -47,6 +71,18 @@ pub type QuantitiesCall = dyn Fn(&mut [u8], u64, &mut [u64]) -> Contract;
 /// Right schedule, left schedule, side, station.
 pub type LookupCall = dyn Fn(&mut [u8], &mut [u8], u64, u64) -> Record;
 
+/// The memory of an open job, job bytes.
+pub type OpenCall = dyn Fn(&mut Memory, &mut [u8]) -> Reply;
+
+/// The memory of an open job, name, hazard.
+pub type AddCall = dyn Fn(&mut Memory, u8, Hazard) -> Reply;
+
+/// The memory of an open job, name.
+pub type WithdrawCall = dyn Fn(&mut Memory, u8) -> Reply;
+
+/// The memory of an open job, side, a room of bytes and its lent part.
+pub type OpenScheduleCall = dyn Fn(&mut Memory, u64, &mut [u8], Range<usize>) -> Reply;
+
 /// The calls of the engine, or of something in its place. The inputs are lent
 /// so that they can be changed, for a call that changes them must be found.
 pub struct Calls {
@@ -54,6 +90,10 @@ pub struct Calls {
     pub quantity: Box<QuantityCall>,
     pub quantities: Box<QuantitiesCall>,
     pub lookup: Box<LookupCall>,
+    pub open: Box<OpenCall>,
+    pub add: Box<AddCall>,
+    pub withdraw: Box<WithdrawCall>,
+    pub open_schedule: Box<OpenScheduleCall>,
 }
 
 /// The reference in the place of the engine.
@@ -68,6 +108,12 @@ pub fn right() -> Calls {
         }),
         lookup: Box::new(|right, left, side, station| {
             record(reference::lookup(right, left, side, station))
+        }),
+        open: Box::new(|memory, bytes| reply(reference::open(&mut memory.job, bytes))),
+        add: Box::new(|memory, name, hazard| reply(reference::add(&mut memory.job, name, hazard))),
+        withdraw: Box::new(|memory, name| reply(reference::withdraw(&mut memory.job, name))),
+        open_schedule: Box::new(|memory, side, room, lent| {
+            reply(reference::open_schedule(&memory.job, side, &mut room[lent]))
         }),
     }
 }

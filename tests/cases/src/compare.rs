@@ -4,12 +4,12 @@
 use std::fmt;
 use std::ops::Range;
 
-use crate::calls::{self, Calls, Contract, Record, Reply};
+use reference::job::{self, Hazard};
+use reference::memory::BYTES;
+
+use crate::calls::{self, Calls, Contract, GUARD, Memory, Record, Reply};
 use crate::hex;
 use crate::tally::Tally;
-
-/// Guard bytes on each side of a lent output.
-const GUARD: usize = 24;
 
 /// The inputs of one call. `fill` chooses the bytes that the output contains
 /// before the call.
@@ -37,6 +37,31 @@ pub enum Case {
         left: Vec<u8>,
         side: u64,
         station: u64,
+    },
+    /// One call on an open job, and what its memory has before.
+    OpenJob {
+        memory: Box<[u8; BYTES]>,
+        step: Step,
+    },
+}
+
+/// One call on an open job.
+#[derive(Clone, Debug)]
+pub enum Step {
+    Open {
+        bytes: Vec<u8>,
+    },
+    Add {
+        name: u8,
+        hazard: Hazard,
+    },
+    Withdraw {
+        name: u8,
+    },
+    Schedule {
+        side: u64,
+        out_length: usize,
+        fill: u64,
     },
 }
 
@@ -72,6 +97,22 @@ impl fmt::Display for Case {
             } => {
                 let (right, left) = (hex::write(right), hex::write(left));
                 write!(f, "--lookup {right} {left} {side} {station}")
+            }
+            Case::OpenJob { memory, step } => {
+                let memory = hex::write_memory(&memory[..]);
+                match step {
+                    Step::Open { bytes } => write!(f, "--open {memory} {}", hex::write(bytes)),
+                    Step::Add { name, hazard } => {
+                        let fields = hex::write_numbers(&job::fields(hazard));
+                        write!(f, "--add {memory} {name} {fields}")
+                    }
+                    Step::Withdraw { name } => write!(f, "--withdraw {memory} {name}"),
+                    Step::Schedule {
+                        side,
+                        out_length,
+                        fill,
+                    } => write!(f, "--schedule {memory} {side} {out_length} {fill}"),
+                }
             }
         }
     }
@@ -276,6 +317,82 @@ impl Checker {
         Err(self.difference(case(), what, record_text(expected), record_text(got)))
     }
 
+    /// Tries one call on an open job. The memory becomes what the call makes of
+    /// it; all of it is compared.
+    pub fn step(&mut self, memory: &mut [u8; BYTES], step: Step) -> Result<Reply, Box<Difference>> {
+        let before = *memory;
+        let case = || Case::OpenJob {
+            memory: Box::new(before),
+            step: step.clone(),
+        };
+        self.trace(case);
+        let mut lent = Memory::new(memory);
+        let mut expected_lent = lent.clone();
+        let mut what = Vec::new();
+        let (expected, got, output) = match &step {
+            Step::Open { bytes } => {
+                let mut lent_bytes = bytes.clone();
+                let expected = calls::reply(reference::open(&mut expected_lent.job, bytes));
+                let got = (self.calls.open)(&mut lent, &mut lent_bytes);
+                note_input(&mut what, "job", bytes, &lent_bytes);
+                (expected, got, None)
+            }
+            Step::Add { name, hazard } => {
+                let expected = reference::add(&mut expected_lent.job, *name, *hazard);
+                let got = (self.calls.add)(&mut lent, *name, *hazard);
+                (calls::reply(expected), got, None)
+            }
+            Step::Withdraw { name } => {
+                let expected = reference::withdraw(&mut expected_lent.job, *name);
+                let got = (self.calls.withdraw)(&mut lent, *name);
+                (calls::reply(expected), got, None)
+            }
+            Step::Schedule {
+                side,
+                out_length,
+                fill,
+            } => {
+                let part = GUARD..GUARD + out_length;
+                let mut room = filled_room(*out_length, *fill);
+                let mut expected_room = room.clone();
+                let output = &mut expected_room[part.clone()];
+                let expected = reference::open_schedule(&expected_lent.job, *side, output);
+                let got = (self.calls.open_schedule)(&mut lent, *side, &mut room, part.clone());
+                note_room(&mut what, &expected_room, &room, &part);
+                let outputs = (expected_room[part.clone()].to_vec(), room[part].to_vec());
+                (calls::reply(expected), got, Some(outputs))
+            }
+        };
+        self.tally.count(expected.number);
+
+        note_reply(&mut what, expected != got);
+        note_memory(&mut what, &expected_lent, &lent);
+        if what.is_empty() {
+            *memory = expected_lent.job;
+            return Ok(expected);
+        }
+        let (reference, engine) = output.unzip();
+        let reference = reply_and_memory(expected, &expected_lent, reference);
+        let engine = reply_and_memory(got, &lent, engine);
+        Err(self.difference(case(), what, reference, engine))
+    }
+
+    /// Tries the schedule of an open job with one length of output.
+    pub fn open_schedule(
+        &mut self,
+        memory: &[u8; BYTES],
+        side: u64,
+        out_length: usize,
+    ) -> Result<Reply, Box<Difference>> {
+        self.fill += 1;
+        let step = Step::Schedule {
+            side,
+            out_length,
+            fill: self.fill,
+        };
+        self.step(&mut memory.clone(), step)
+    }
+
     /// Tries one case alone.
     pub fn case(&mut self, case: &Case) -> Result<(), Box<Difference>> {
         match case {
@@ -302,6 +419,9 @@ impl Checker {
                 side,
                 station,
             } => self.lookup(right, left, *side, *station).map(|_| ()),
+            Case::OpenJob { memory, step } => {
+                self.step(&mut memory.clone(), step.clone()).map(|_| ())
+            }
         }
     }
 
@@ -359,12 +479,29 @@ fn note_room(what: &mut Vec<String>, expected: &[u8], got: &[u8], lent: &Range<u
     }
 }
 
+fn note_memory(what: &mut Vec<String>, expected: &Memory, got: &Memory) {
+    let differing = expected.job.iter().zip(&got.job).position(|(e, g)| e != g);
+    if let Some(at) = differing {
+        what.push(format!("byte {at} of the open job"));
+    } else if expected != got {
+        what.push("a guard byte of the open job".to_string());
+    }
+}
+
 fn reply_text(reply: Reply) -> String {
     format!("number {} value {}", reply.number, reply.value)
 }
 
 fn reply_and_output(reply: Reply, output: &[u8]) -> String {
     format!("{}, output {}", reply_text(reply), hex::write(output))
+}
+
+fn reply_and_memory(reply: Reply, memory: &Memory, output: Option<Vec<u8>>) -> String {
+    let memory = hex::write_memory(&memory.job);
+    match output {
+        Some(output) => format!("{}, open job {memory}", reply_and_output(reply, &output)),
+        None => format!("{}, open job {memory}", reply_text(reply)),
+    }
 }
 
 fn contract_text(contract: Contract) -> String {

@@ -11,9 +11,9 @@ use crate::draft::{
     range,
 };
 use crate::faults::{Broken, FAULTS, wrong_forms};
-use crate::jobs;
+use crate::{jobs, open};
 
-type Outcome = Result<(), Box<Difference>>;
+pub type Outcome = Result<(), Box<Difference>>;
 
 pub struct Family {
     pub name: &'static str,
@@ -32,6 +32,10 @@ pub const ALL: &[Family] = &[
     family("quantities for whole contracts", contracts),
     family("lookups at every run's ends", run_ends),
     family("run lists and nearly run lists", run_lists),
+    family("open jobs, lists of calls", open::lists),
+    family("open jobs, all names", open::all_names),
+    family("open jobs, openings", open::openings),
+    family("open jobs, damaged memory", open::damaged_memory),
     family("jobs of 511 runs", most_runs),
     family("large random jobs", large_jobs),
     family("wide random jobs", wide_jobs),
@@ -80,7 +84,7 @@ fn plan_both_sides(checker: &mut Checker, random: &mut Random, job: &[u8]) -> Ou
 }
 
 /// A small or wide job that is accepted and has some hazards.
-fn accepted(random: &mut Random, least: usize, most: usize) -> Draft {
+pub fn accepted(random: &mut Random, least: usize, most: usize) -> Draft {
     loop {
         let mut draft = if random.percent(60) {
             jobs::small(random)
@@ -211,7 +215,7 @@ fn range_ends(checker: &mut Checker, random: &mut Random) -> Outcome {
     full_ranges(checker, random)
 }
 
-fn around((low, high): (u64, u64)) -> Vec<u64> {
+pub fn around((low, high): (u64, u64)) -> Vec<u64> {
     let mut list = vec![low, low + 1, high, high + 1, 0, 4_294_967_295];
     list.extend(low.checked_sub(1));
     list.extend(high.checked_sub(1));

@@ -8,11 +8,13 @@ pub mod families;
 pub mod faults;
 pub mod hex;
 pub mod jobs;
+pub mod open;
 pub mod tally;
 pub mod wrong;
+pub mod wrong_open;
 
-pub use calls::{Calls, Contract, Record, Reply};
-pub use compare::{Case, Checker, Difference};
+pub use calls::{Calls, Contract, Memory, Record, Reply};
+pub use compare::{Case, Checker, Difference, Step};
 pub use reference::draft;
 pub use reference::random::Random;
 pub use tally::Tally;

@@ -17,6 +17,7 @@ use crate::calls::{
     reply, right,
 };
 use crate::draft::number_bytes;
+use crate::wrong_open;
 
 /// Every wrong engine with the name of its slip.
 pub fn all() -> Vec<(&'static str, Calls)> {
@@ -30,6 +31,7 @@ pub fn all() -> Vec<(&'static str, Calls)> {
     list.extend(wrong_contracts());
     list.extend(wrong_lookups());
     list.extend(wrong_readings());
+    list.extend(wrong_open::all());
     list
 }
 

@@ -11,7 +11,7 @@ fn the_reference_passes_and_every_row_is_seen() {
     if let Err(difference) = round(&mut checker, SEED) {
         panic!("{difference}");
     }
-    for number in 0..=11 {
+    for number in 0..=12 {
         assert!(checker.tally.outcome(number) > 0, "no refusal {number}");
     }
     assert_eq!(checker.tally.most_runs(), 511);
@@ -22,7 +22,7 @@ fn the_reference_passes_and_every_row_is_seen() {
 #[test]
 fn every_wrong_engine_is_found() {
     // As many as README.md says.
-    assert_eq!(wrong::all().len(), 122);
+    assert_eq!(wrong::all().len(), 185);
     for (name, calls) in wrong::all() {
         let mut checker = Checker::new(calls);
         let Err(found) = round(&mut checker, SEED) else {

@@ -2,7 +2,8 @@
 
 use std::time::SystemTime;
 
-use cases::{Case, ROUNDS, SEED, hex};
+use cases::{Case, ROUNDS, SEED, Step, hex};
+use reference::job::Hazard;
 
 pub const HELP: &str = "\
 options:
@@ -15,6 +16,11 @@ one case alone, bytes in hex, no bytes as -:
   --quantity SCHEDULE LEVEL P Q
   --quantities SCHEDULE LEVEL P,Q,P,Q (no ranges as -)
   --lookup RIGHT LEFT SIDE STATION
+on an open job, its memory in hex, bytes of 0 at the end left out:
+  --open MEMORY JOB
+  --add MEMORY NAME SIDE,START,END,NEAR,FAR,LEVEL
+  --withdraw MEMORY NAME
+  --schedule MEMORY SIDE OUTPUT_LENGTH FILL
 ";
 
 #[derive(Clone, Copy)]
@@ -42,12 +48,10 @@ pub fn read(arguments: &[String]) -> Option<Options> {
             "--rounds" => amount = Amount::Rounds(number(rest.next())?),
             "--seconds" => amount = Amount::Seconds(number(rest.next())?),
             "--trace" => trace = true,
-            "--plan" | "--quantity" | "--quantities" | "--lookup" => {
-                let count = if option == "--quantities" { 3 } else { 4 };
-                let values: Vec<&str> = rest.by_ref().take(count).collect();
+            _ => {
+                let values: Vec<&str> = rest.by_ref().take(values(option)?).collect();
                 case = Some(read_case(option, &values)?);
             }
-            _ => return None,
         }
     }
     Some(Options {
@@ -75,9 +79,24 @@ fn number(text: Option<&str>) -> Option<u64> {
     text?.parse().ok()
 }
 
+/// How many values follow an option that is one case.
+fn values(option: &str) -> Option<usize> {
+    match option {
+        "--plan" | "--quantity" | "--lookup" | "--schedule" => Some(4),
+        "--quantities" | "--add" => Some(3),
+        "--open" | "--withdraw" => Some(2),
+        _ => None,
+    }
+}
+
 fn read_case(option: &str, values: &[&str]) -> Option<Case> {
     let value = |at: usize| number(values.get(at).copied());
     let bytes = |at: usize| hex::read(values.get(at)?);
+    let numbers = |at: usize| hex::read_numbers(values.get(at)?);
+    let on_open_job = |step: Step| {
+        let memory = Box::new(hex::read_memory(values.first()?)?);
+        Some(Case::OpenJob { memory, step })
+    };
     Some(match option {
         "--plan" => Case::Plan {
             job: bytes(0)?,
@@ -94,13 +113,40 @@ fn read_case(option: &str, values: &[&str]) -> Option<Case> {
         "--quantities" => Case::Quantities {
             schedule: bytes(0)?,
             level: value(1)?,
-            ranges: hex::read_numbers(values.get(2)?)?,
+            ranges: numbers(2)?,
         },
-        _ => Case::Lookup {
+        "--lookup" => Case::Lookup {
             right: bytes(0)?,
             left: bytes(1)?,
             side: value(2)?,
             station: value(3)?,
         },
+        "--open" => on_open_job(Step::Open { bytes: bytes(1)? })?,
+        "--add" => on_open_job(Step::Add {
+            name: value(1)?.try_into().ok()?,
+            hazard: hazard(&numbers(2)?)?,
+        })?,
+        "--withdraw" => on_open_job(Step::Withdraw {
+            name: value(1)?.try_into().ok()?,
+        })?,
+        _ => on_open_job(Step::Schedule {
+            side: value(1)?,
+            out_length: value(2)? as usize,
+            fill: value(3)?,
+        })?,
+    })
+}
+
+fn hazard(fields: &[u64]) -> Option<Hazard> {
+    let &[side, start, end, near, far, level] = fields else {
+        return None;
+    };
+    Some(Hazard {
+        side,
+        start,
+        end,
+        near,
+        far,
+        level,
     })
 }

@@ -1,9 +1,12 @@
 //! The engine's calls for the tests: through the pointers of the C interface,
 //! and through the file that is shipped for Rust.
 
+use std::mem::{offset_of, size_of};
 use std::ops::Range;
 
-use cases::{Calls, Contract, Record, Reply};
+use cases::{Calls, Contract, Memory, Record, Reply};
+use reference::job::Hazard;
+use reference::memory::BYTES;
 
 /// The shipped file itself, so that it is tested too.
 #[path = "../../../examples/rust/src/barrier.rs"]
@@ -38,6 +41,54 @@ impl From<c::QuantitiesReply> for Contract {
             quantities: reply.quantities,
         }
     }
+}
+
+impl From<Hazard> for c::Hazard {
+    fn from(hazard: Hazard) -> c::Hazard {
+        c::Hazard {
+            side: hazard.side,
+            start: hazard.start,
+            end: hazard.end,
+            near_offset: hazard.near,
+            far_offset: hazard.far,
+            level: hazard.level,
+        }
+    }
+}
+
+// The memory of an open job is compared byte by byte, so its size is known.
+const _: () = assert!(size_of::<c::OpenJob>() == BYTES);
+
+/// The open job inside its guard bytes.
+fn open_job(memory: &mut Memory) -> *mut c::OpenJob {
+    let memory: *mut Memory = memory;
+    let job = memory.wrapping_byte_add(offset_of!(Memory, job));
+    let job = job.cast::<c::OpenJob>();
+    assert!(job.is_aligned());
+    job
+}
+
+pub fn open(memory: &mut Memory, bytes: &[u8]) -> Reply {
+    // SAFETY: the open job lies in the memory, which this call alone holds and
+    // which may have any content; the other pointer is good for as many bytes
+    // as are named with it.
+    unsafe { c::barrier_open(open_job(memory), bytes.as_ptr(), bytes.len()).into() }
+}
+
+pub fn add(memory: &mut Memory, name: u8, hazard: Hazard) -> Reply {
+    // SAFETY: as in `open`.
+    unsafe { c::barrier_add(open_job(memory), name, hazard.into()).into() }
+}
+
+pub fn withdraw(memory: &mut Memory, name: u8) -> Reply {
+    // SAFETY: as in `open`.
+    unsafe { c::barrier_withdraw(open_job(memory), name).into() }
+}
+
+pub fn open_schedule(memory: &mut Memory, side: u64, out: &mut [u8]) -> Reply {
+    let job = open_job(memory);
+    // SAFETY: as in `open`, and `out` is lent to this call alone.
+    unsafe { c::barrier_open_schedule(job, side, out.as_mut_ptr(), out.len()).into() }
 }
 
 pub fn plan(job: &[u8], side: u64, out: &mut [u8]) -> Reply {
@@ -100,6 +151,23 @@ pub fn calls() -> Calls {
             // SAFETY: as in `lookup`.
             unsafe { c::barrier_lookup(right, right_len, left, left_len, side, station).into() }
         }),
+        open: Box::new(|memory, bytes| {
+            let bytes_len = bytes.len();
+            // SAFETY: as in `open`.
+            unsafe { c::barrier_open(open_job(memory), bytes.as_mut_ptr(), bytes_len).into() }
+        }),
+        add: Box::new(add),
+        withdraw: Box::new(withdraw),
+        open_schedule: Box::new(|memory, side, room, lent| {
+            assert!(lent.start <= lent.end && lent.end <= room.len());
+            let job = open_job(memory);
+            // SAFETY: as in `open`; the lent part lies in the room, which this
+            // call alone holds.
+            unsafe {
+                let out = room.as_mut_ptr().add(lent.start);
+                c::barrier_open_schedule(job, side, out, lent.len()).into()
+            }
+        }),
     }
 }
 
@@ -125,6 +193,8 @@ pub fn shipped_calls() -> Calls {
         lookup: Box::new(|right, left, side, station| {
             record(barrier::lookup(right, left, side, station))
         }),
+        // Open jobs go through the pointers here too.
+        ..calls()
     }
 }
 

@@ -1,7 +1,7 @@
 //! The calls: plan, quantity, quantities and lookup.
 
 use crate::envelope::{self, Envelope};
-use crate::job;
+use crate::job::{self, Job};
 use crate::level::{HIGHEST, Required, Run};
 use crate::refusal::Refusal;
 use crate::schedule;
@@ -10,8 +10,16 @@ use crate::stretch::Stretch;
 /// Writes the schedule of one side to the start of `out` and gives the bytes
 /// written. A refusal writes nothing.
 pub fn plan(job: &[u8], side: u64, out: &mut [u8]) -> Result<u64, Refusal> {
-    let runs = runs(job, side)?;
-    let writing = schedule::writing(&runs);
+    put(&runs(job, side)?, out)
+}
+
+/// The same of a job that is read.
+pub fn plan_job(job: &Job, side: u64, out: &mut [u8]) -> Result<u64, Refusal> {
+    put(&required_of(job, side)?.runs(), out)
+}
+
+fn put(runs: &[Run], out: &mut [u8]) -> Result<u64, Refusal> {
+    let writing = schedule::writing(runs);
     let needed = writing.len();
     if out.len() < needed {
         return Err(Refusal::output_short(needed));
@@ -41,8 +49,15 @@ pub fn required(job: &[u8], side: u64) -> Result<Required, Refusal> {
     if side > 1 {
         return Err(Refusal::argument());
     }
-    let job = job::read(job)?;
-    let envelopes = envelope::envelopes(&job)?;
+    required_of(&job::read(job)?, side)
+}
+
+/// The same of a job that is read.
+fn required_of(job: &Job, side: u64) -> Result<Required, Refusal> {
+    if side > 1 {
+        return Err(Refusal::argument());
+    }
+    let envelopes = envelope::envelopes(job)?;
     let of_side: Vec<Envelope> = envelopes.into_iter().filter(|e| e.side == side).collect();
     Ok(Required::new(&of_side, job.continuity))
 }

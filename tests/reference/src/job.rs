@@ -52,23 +52,43 @@ pub struct Hazard {
     pub level: u64,
 }
 
+/// The header number of the hazard count.
+pub const COUNT: u64 = 14;
+
 /// Reads a job. The numbers are looked at as they stand, each for refusals 1
 /// and 2 and for its range (3 or 4); then comes refusal 7.
 pub fn read(bytes: &[u8]) -> Result<Job, Refusal> {
     let mut reader = Reader { bytes, at: 0 };
     let job = read_numbers(&mut reader)?;
-    if reader.at < bytes.len() {
-        return Err(Refusal::left_over(reader.at));
-    }
+    nothing_follows(&reader)?;
     Ok(job)
+}
+
+/// Refusal 7: bytes are left over.
+pub fn nothing_follows(reader: &Reader) -> Result<(), Refusal> {
+    match reader.at < reader.bytes.len() {
+        true => Err(Refusal::left_over(reader.at)),
+        false => Ok(()),
+    }
 }
 
 /// The numbers of a job, without a look at what stands behind the last.
 pub fn read_numbers(reader: &mut Reader) -> Result<Job, Refusal> {
+    let mut job = read_header(reader)?;
+    let hazard_count = reader.header(COUNT, 0, 256)?;
+    for index in 0..hazard_count as usize {
+        let hazard = read_hazard(reader, index, job.road_begin, job.road_end)?;
+        job.hazards.push(hazard);
+    }
+    Ok(job)
+}
+
+/// The header without the hazard count.
+pub fn read_header(reader: &mut Reader) -> Result<Job, Refusal> {
     let _kind = reader.header(1, 1, 1)?;
     let road_begin = reader.header(2, 0, LAST_STATION - 1)?;
     let road_end = reader.header(3, road_begin + 1, LAST_STATION)?;
-    let mut job = Job {
+    Ok(Job {
         road_begin,
         road_end,
         runout_forward: reader.header(4, 1, 200_000)?,
@@ -82,13 +102,31 @@ pub fn read_numbers(reader: &mut Reader) -> Result<Job, Refusal> {
         straight: reader.header(12, 0, 100_000)?,
         continuity: reader.header(13, 0, 200_000)?,
         hazards: Vec::new(),
-    };
-    let hazard_count = reader.header(14, 0, 256)?;
-    for index in 0..hazard_count as usize {
-        job.hazards
-            .push(read_hazard(reader, index, road_begin, road_end)?);
-    }
-    Ok(job)
+    })
+}
+
+/// The six numbers of a hazard in the paper's order.
+pub fn fields(hazard: &Hazard) -> [u64; 6] {
+    [
+        hazard.side,
+        hazard.start,
+        hazard.end,
+        hazard.near,
+        hazard.far,
+        hazard.level,
+    ]
+}
+
+/// Whether every field of a hazard is in its range on this job's road.
+pub fn in_range(job: &Job, hazard: &Hazard) -> bool {
+    hazard.side <= 1
+        && job.road_begin <= hazard.start
+        && hazard.start < job.road_end
+        && hazard.start < hazard.end
+        && hazard.end <= job.road_end
+        && hazard.near <= hazard.far
+        && hazard.far <= 60_000
+        && (1..=6).contains(&hazard.level)
 }
 
 fn read_hazard(
@@ -122,7 +160,7 @@ pub struct Reader<'a> {
 
 impl Reader<'_> {
     /// Header number `no`, which has to be from `low` to `high`.
-    fn header(&mut self, no: u64, low: u64, high: u64) -> Result<u64, Refusal> {
+    pub fn header(&mut self, no: u64, low: u64, high: u64) -> Result<u64, Refusal> {
         self.next(low, high, Refusal::header_range(no))
     }
 

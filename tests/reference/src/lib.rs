@@ -12,13 +12,18 @@ pub mod draft;
 pub mod envelope;
 pub mod job;
 pub mod level;
+pub mod memory;
 pub mod number;
+pub mod open;
 pub mod program;
 pub mod random;
 pub mod refusal;
 pub mod schedule;
 pub mod stretch;
 
-pub use calls::{Lookup, Outcome, Quantities, lookup, plan, planned, quantities, quantity};
+pub use calls::{
+    Lookup, Outcome, Quantities, lookup, plan, plan_job, planned, quantities, quantity,
+};
+pub use open::{OpenJob, add, open, open_schedule, withdraw};
 pub use refusal::Refusal;
 pub use stretch::Stretch;

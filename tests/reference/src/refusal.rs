@@ -18,12 +18,14 @@ impl Refusal {
         refusal(2, begin as u64)
     }
 
-    /// 3: a header number, 1 to 14, is outside its range.
+    /// 3: a header number, 1 to 14, is outside its range; with 0, the memory of
+    /// an open job breaks the rules.
     pub fn header_range(header_number: u64) -> Refusal {
         refusal(3, header_number)
     }
 
-    /// 4: a field of this hazard is outside its range.
+    /// 4: a field of this hazard is outside its range. In an open job the index
+    /// is replaced by the name, also for 5 and 6.
     pub fn hazard_range(hazard_index: usize) -> Refusal {
         refusal(4, hazard_index as u64)
     }
@@ -61,6 +63,11 @@ impl Refusal {
     /// 11: more than 64 ranges.
     pub fn too_many_ranges() -> Refusal {
         refusal(11, 0)
+    }
+
+    /// 12: the name stands already (add) or does not stand (withdraw).
+    pub fn name(name: u8) -> Refusal {
+        refusal(12, name.into())
     }
 }
 

@@ -3,8 +3,12 @@
 mod common;
 
 use common::*;
+use reference::job::Hazard;
 use reference::random::Random;
-use reference::{Quantities, Refusal, planned, quantities, quantity};
+use reference::{
+    OpenJob, Quantities, Refusal, add, memory, open, open_schedule, planned, quantities, quantity,
+    withdraw,
+};
 
 // 1: quantities for a whole contract.
 
@@ -171,5 +175,336 @@ fn without_flare_the_straight_part_changes_nothing() {
     for straight in [0, 67_333, 67_334, 100_000] {
         let k2 = k1_with(straight).with(FLARE_B, 0);
         assert_eq!(k2.right(), [(200_000 - 67_334, 210_000, 3)]);
+    }
+}
+
+// 3: hazards that come and go while the job is open.
+
+fn hazard([side, start, end, near, far, level]: [u64; 6]) -> Hazard {
+    Hazard {
+        side,
+        start,
+        end,
+        near,
+        far,
+        level,
+    }
+}
+
+/// The printed job's header, opened.
+fn opened() -> Vec<u8> {
+    let mut memory = vec![0xA5; memory::BYTES];
+    assert_eq!(open(&mut memory, &PRINTED.bytes()), Ok(0));
+    memory
+}
+
+/// What is refused alters nothing.
+fn refused(memory: &mut [u8], call: impl Fn(&mut [u8]) -> Result<u64, Refusal>) -> (u64, u64) {
+    let before = memory.to_vec();
+    let Refusal { number, value } = call(memory).unwrap_err();
+    assert_eq!(memory, before);
+    (number, value)
+}
+
+fn schedule(memory: &[u8], side: u64) -> Vec<u8> {
+    let mut out = vec![0; 6_000];
+    let written = open_schedule(memory, side, &mut out).unwrap();
+    out.truncate(written as usize);
+    out
+}
+
+#[test]
+fn the_memory_byte_by_byte() {
+    let mut memory = opened();
+    assert_eq!(memory.len(), 5_176);
+    let header = [
+        1, 0, 1_000_000, 101_000, 0, 9_000, 0, 3_000, 1_000, 15, 1, 13_340, 0, 0u32,
+    ];
+    assert_eq!(memory[..56], header.map(u32::to_le_bytes).concat());
+    assert_eq!(memory[56..], [0; 5_120]);
+
+    let second = [1, 300_000, 310_001, 5_001, 60_000, 6];
+    assert_eq!(add(&mut memory, 255, hazard(PRINTED_HAZARD)), Ok(0));
+    assert_eq!(add(&mut memory, 7, hazard(second)), Ok(0));
+    assert_eq!(memory[52..56], 2u32.to_le_bytes());
+    let first = [300_000, 310_001, 5_001, 60_000u32].map(u32::to_le_bytes);
+    assert_eq!(memory[56..72], first.concat());
+    assert_eq!(memory[72..76], [7, 0, 1, 6]);
+    let behind = [200_000, 210_000, 5_000, 9_000u32].map(u32::to_le_bytes);
+    assert_eq!(memory[76..92], behind.concat());
+    assert_eq!(memory[92..96], [255, 0, 0, 3]);
+    assert_eq!(memory[96..], [0; 5_080]);
+
+    // A withdrawal closes the row and clears the place behind it.
+    assert_eq!(withdraw(&mut memory, 7), Ok(0));
+    assert_eq!(memory[92..96], [0; 4]);
+    assert_eq!(memory[72..76], [255, 0, 0, 3]);
+    assert_eq!(withdraw(&mut memory, 255), Ok(0));
+    assert_eq!(memory, opened());
+}
+
+#[test]
+fn opening_takes_a_job_without_hazards() {
+    let mut memory = vec![0xA5; memory::BYTES];
+    let mut opening = |bytes: &[u8]| refused(&mut memory, |memory| open(memory, bytes));
+    let bytes = PRINTED.bytes();
+    let count_at = bytes.len() - 1;
+    assert_eq!(opening(&[]), (1, 0));
+    assert_eq!(opening(&bytes[..count_at]), (1, count_at as u64));
+    assert_eq!(opening(&[0x81, 0x00]), (2, 0));
+    assert_eq!(opening(&PRINTED.with(C, 0).bytes()), (3, 6));
+    assert_eq!(
+        opening(&[&bytes[..], &[0x00]].concat()),
+        (7, bytes.len() as u64)
+    );
+    // A hazard count above 0 is 3, at its number: nothing behind it is read.
+    assert_eq!(opening(&printed().bytes()), (3, 14));
+    assert_eq!(opening(&[&bytes[..count_at], &[0x01]].concat()), (3, 14));
+    assert_eq!(
+        opening(&[&bytes[..count_at], &[0x80, 0x02]].concat()),
+        (3, 14)
+    );
+    assert_eq!(
+        opening(&[&bytes[..count_at], &[0x81, 0x02, 0xFF]].concat()),
+        (3, 14)
+    );
+    assert_eq!(
+        opening(&[&bytes[..count_at], &[0x81, 0x00]].concat()),
+        (2, count_at as u64)
+    );
+}
+
+#[test]
+fn the_schedule_is_that_of_the_hazards_that_stand() {
+    let mut memory = opened();
+    assert_eq!(schedule(&memory, 0), [0x00]);
+    assert_eq!(add(&mut memory, 40, hazard(PRINTED_HAZARD)), Ok(0));
+    assert_eq!(
+        schedule(&memory, 0),
+        planned(&printed().bytes(), 0).unwrap()
+    );
+    assert_eq!(schedule(&memory, 1), [0x00]);
+    let left = [1, 400_000, 410_000, 5_000, 9_000, 2];
+    assert_eq!(add(&mut memory, 0, hazard(left)), Ok(0));
+    let both = PRINTED.with_hazards(&[PRINTED_HAZARD, left]).bytes();
+    for side in 0..2 {
+        assert_eq!(schedule(&memory, side), planned(&both, side).unwrap());
+    }
+    assert_eq!(withdraw(&mut memory, 40), Ok(0));
+    assert_eq!(schedule(&memory, 0), [0x00]);
+    assert_eq!(
+        add(&mut memory, 40, hazard(left)),
+        Ok(0),
+        "the name comes back"
+    );
+    // 8, then 9 with the bytes needed.
+    let mut out = [0xA5; 7];
+    let mut asked = |side, length: usize| open_schedule(&memory, side, &mut out[..length]);
+    assert_eq!(
+        asked(2, 0),
+        Err(Refusal {
+            number: 8,
+            value: 0
+        })
+    );
+    assert_eq!(
+        asked(1, 0),
+        Err(Refusal {
+            number: 9,
+            value: 8
+        })
+    );
+    assert_eq!(
+        asked(1, 7),
+        Err(Refusal {
+            number: 9,
+            value: 8
+        })
+    );
+    assert_eq!(out, [0xA5; 7]);
+}
+
+#[test]
+fn refusals_by_name() {
+    let mut memory = opened();
+    assert_eq!(add(&mut memory, 9, hazard(PRINTED_HAZARD)), Ok(0));
+    let mut adding = |name, field: usize, value| {
+        let mut fields = PRINTED_HAZARD;
+        fields[field] = value;
+        refused(&mut memory, |memory| add(memory, name, hazard(fields)))
+    };
+    assert_eq!(adding(200, SIDE, 2), (4, 200));
+    assert_eq!(adding(200, SIDE, 1 << 32), (4, 200));
+    assert_eq!(adding(200, S, 210_000), (4, 200));
+    assert_eq!(adding(200, S, 1 << 33), (4, 200));
+    assert_eq!(adding(0, E, 1_000_001), (4, 0));
+    assert_eq!(adding(255, E, (1 << 32) + 210_000), (4, 255));
+    assert_eq!(adding(255, N, 9_001), (4, 255));
+    assert_eq!(adding(255, F, 60_001), (4, 255));
+    assert_eq!(adding(255, LEVEL, 0), (4, 255));
+    assert_eq!(adding(255, LEVEL, 7), (4, 255));
+    assert_eq!(adding(255, LEVEL, 256 + 3), (4, 255));
+    assert_eq!(adding(8, N, 3_999), (5, 8));
+    assert_eq!(adding(8, S, 44_226), (6, 8));
+    // A name that stands comes before 4.
+    assert_eq!(adding(9, SIDE, 2), (12, 9));
+    assert_eq!(adding(9, N, 3_999), (12, 9));
+    assert_eq!(adding(9, LEVEL, 3), (12, 9));
+    assert_eq!(refused(&mut memory, |memory| withdraw(memory, 8)), (12, 8));
+    assert_eq!(withdraw(&mut memory, 9), Ok(0));
+    assert_eq!(refused(&mut memory, |memory| withdraw(memory, 9)), (12, 9));
+}
+
+/// 5 comes before 6, and neither is for a hazard that nobody reaches.
+#[test]
+fn five_before_six_by_name() {
+    let mut memory = opened();
+    let off_and_near = hazard([0, 1_000, 210_000, 3_999, 9_000, 3]);
+    assert_eq!(
+        refused(&mut memory, |memory| add(memory, 77, off_and_near)),
+        (5, 77)
+    );
+    let unreached = hazard([0, 0, 1_000_000, 9_000, 60_000, 3]);
+    assert_eq!(add(&mut memory, 77, unreached), Ok(0));
+    assert_eq!(schedule(&memory, 0), [0x00]);
+}
+
+#[test]
+fn all_names_may_stand() {
+    let mut memory = opened();
+    let mut list = Vec::new();
+    for name in 0..=255 {
+        let start = 200_000 + 100 * u64::from(name);
+        let fields = [
+            u64::from(name) % 2,
+            start,
+            start + 50,
+            5_000,
+            9_000,
+            1 + start % 6,
+        ];
+        assert_eq!(add(&mut memory, name, hazard(fields)), Ok(0));
+        list.push(fields);
+    }
+    let job = PRINTED.with_hazards(&list).bytes();
+    for side in 0..2 {
+        assert_eq!(schedule(&memory, side), planned(&job, side).unwrap());
+    }
+    for name in 0..=255 {
+        let again = |memory: &mut [u8]| add(memory, name, hazard(PRINTED_HAZARD));
+        assert_eq!(refused(&mut memory, again), (12, name.into()));
+    }
+    for name in (0..=255).rev() {
+        assert_eq!(withdraw(&mut memory, name), Ok(0));
+    }
+    assert_eq!(memory, opened());
+}
+
+/// Every call but opening is refused 3 with 0, whatever else is wrong.
+fn broken(memory: &[u8]) -> bool {
+    let mut memory = memory.to_vec();
+    let bad = Hazard {
+        side: 2,
+        ..hazard(PRINTED_HAZARD)
+    };
+    let replies = [
+        add(&mut memory, 1, hazard(PRINTED_HAZARD)),
+        add(&mut memory, 2, bad),
+        withdraw(&mut memory, 200),
+        withdraw(&mut memory, 7),
+        open_schedule(&memory, 0, &mut [0; 100]),
+        open_schedule(&memory, 2, &mut []),
+    ];
+    let refusal = Err(Refusal {
+        number: 3,
+        value: 0,
+    });
+    let all = replies.iter().all(|reply| *reply == refusal);
+    let any = replies.contains(&refusal);
+    assert_eq!(all, any);
+    // Opening makes it right again.
+    assert_eq!(open(&mut memory, &PRINTED.bytes()), Ok(0));
+    assert_eq!(memory, opened());
+    all
+}
+
+#[test]
+fn memory_that_breaks_the_rules() {
+    let mut right = opened();
+    for (name, start) in [(7, 300_000), (9, 200_000)] {
+        let fields = [0, start, start + 10_000, 5_000, 9_000, 3];
+        assert_eq!(add(&mut right, name, hazard(fields)), Ok(0));
+    }
+    assert!(!broken(&right));
+    let with = |at: usize, bytes: &[u8]| {
+        let mut memory = right.clone();
+        memory[at..at + bytes.len()].copy_from_slice(bytes);
+        broken(&memory)
+    };
+    let number = |no: usize, value: u32| with(4 * (no - 1), &value.to_le_bytes());
+    assert!(number(1, 0) && number(1, 2) && !number(1, 1));
+    assert!(number(2, 1_000_000) && !number(2, 100_000));
+    assert!(number(3, 0) && number(3, 2_000_000_001) && !number(3, 2_000_000_000));
+    assert!(number(4, 0) && number(4, 200_001) && !number(4, 200_000));
+    assert!(number(6, 0) && number(6, 30_001));
+    assert!(number(10, 0) && number(10, 101) && !number(10, 100));
+    assert!(number(11, 11) && !number(11, 10));
+    assert!(number(13, 200_001) && !number(13, 200_000));
+    // The count: a hazard too few or too many.
+    assert!(number(14, 0) && number(14, 1) && number(14, 3));
+    assert!(number(14, 257) && number(14, u32::MAX));
+    // A header under which a hazard is refused 5, 6 or 4.
+    assert!(number(8, 4_001) && !number(8, 4_000));
+    assert!(number(2, 155_774) && !number(2, 155_773));
+    assert!(number(3, 309_999) && !number(3, 310_000));
+    // Names.
+    assert!(with(72, &[9]) && with(72, &[10]) && !with(72, &[8]));
+    assert!(with(92, &[9, 1]) && with(92, &[0, 1]) && !with(92, &[255]));
+    // Hazards.
+    assert!(with(74, &[2]) && !with(74, &[1]));
+    assert!(with(75, &[0]) && with(75, &[7]) && !with(75, &[6]));
+    assert!(with(64, &3_999u32.to_le_bytes()) && !with(64, &4_000u32.to_le_bytes()));
+    assert!(with(56, &310_000u32.to_le_bytes()) && with(56, &44_226u32.to_le_bytes()));
+    assert!(!with(56, &44_227u32.to_le_bytes()));
+    // Places that are not used.
+    for at in [96, 115, 116, 3_000, 5_175] {
+        assert!(with(at, &[1]) && !with(at, &[0]));
+    }
+    assert!(broken(&[0; memory::BYTES]) && broken(&[0xFF; memory::BYTES]));
+}
+
+#[test]
+fn lists_of_calls() {
+    let mut random = Random::new(1, "lists of calls");
+    for _ in 0..300 {
+        let mut open = OpenJob::open(&PRINTED.bytes()).unwrap();
+        let mut list: Vec<(u8, [u64; 6])> = Vec::new();
+        for _ in 0..30 {
+            let name = random.pick(&[0, 1, 2, 100, 254, 255]);
+            let start = random.between(40_000, 60_000);
+            let near = random.between(3_990, 4_020);
+            let fields = [
+                random.below(2),
+                start,
+                start + 5,
+                near,
+                9_000,
+                random.between(1, 7),
+            ];
+            if random.percent(70) && open.add(name, hazard(fields)).is_ok() {
+                list.push((name, fields));
+            } else if open.withdraw(name).is_ok() {
+                list.retain(|(standing, _)| *standing != name);
+            }
+        }
+        random.shuffle(&mut list);
+        let hazards: Vec<[u64; 6]> = list.into_iter().map(|(_, fields)| fields).collect();
+        let job = PRINTED.with_hazards(&hazards).bytes();
+        let mut memory = vec![0; memory::BYTES];
+        memory::write(&open, &mut memory);
+        assert_eq!(memory::read(&memory), Some(open));
+        for side in 0..2 {
+            assert_eq!(schedule(&memory, side), planned(&job, side).unwrap());
+        }
     }
 }

@@ -25,8 +25,9 @@ returns c =
 
 loop-again : tie.Need-loop-again Inv-loop μ-loop
 loop-again c =
-    let r = c .before .before .before in
-    hazard-stored (r .before .before .loop .inv) (r .read-hazard .result) (search needs) (r .before .loop-test .taken) (r .read-hazard .ensures) (c .before .hazard .given .1)
+    let r = c .before .before .before .before in
+    hazard-stored (r .before .before .loop .inv) (r .read-hazard .result) (search needs) (r .before .loop-test .taken) (r .read-hazard .ensures) (c .before .before .hazard .given .1)
+    (c .named .ensures)
 
 returns-2 : tie.Need-returns-2 Inv-loop μ-loop
 returns-2 c = replies-refused (c .refused2 .ensures) (left-over (c .before .before .before .loop .inv) (c .before .before .loop-test .left) (c .before .if1 .taken))
@@ -38,5 +39,5 @@ pub read-rest-spec : {M : Type 1} → statement M
 read-rest-spec =
     tie.close
     (tie.spec Inv-loop μ-loop (λ c κs. search needs) (λ c. omega arith) loop-holds (λ c κs. search needs) (λ c. search needs)
-    (λ c. omega arith) (λ c. search needs) (λ c. search needs) (λ c κs. search needs) returns (λ c. omega arith) (λ c. omega arith) loop-again
+    (λ c κs. search needs) (λ c. omega arith) (λ c. search needs) (λ c. search needs) (λ c κs. search needs) returns (λ c. omega arith) (λ c. omega arith) loop-again
     (λ c κs. search needs) returns-2 returns-3)

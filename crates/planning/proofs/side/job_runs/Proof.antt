@@ -13,20 +13,20 @@ required-runs-requires : tie.Need-required-runs-requires
 required-runs-requires c κs =
     let s = c .before .before .before .before .before in
     let tested = c .before .before .before .before .side-envelopes in
-    stored-envelopes (jobOf (s .args .job)) (s .args .side) (tested .result) (tested .ensures .0) (s .pre) (tested .ensures .1) (c .before .before .enum-told .given .1)
+    stored-envelopes (jobOf (s .args .job)) 0 (s .args .side) (tested .result) (tested .ensures) (s .pre) (c .before .before .enum-told .given .1)
 
 returns : tie.Need-returns
 returns c =
     let s = c .before .before .before .before .before .before in
     let tested = c .before .before .before .before .before .side-envelopes in
-    rw (runs-done (jobOf (s .args .job)) (s .args .side) (tested .result) (tested .ensures .0) (c .before .before .before .enum-told .given .1))
+    rw (runs-done (jobOf (s .args .job)) (s .args .side) (tested .result) (tested .ensures) (c .before .before .before .enum-told .given .1))
     (ap accepted (ap runsOf (c .required-runs .ensures) ∙ runs-stored _), c .required-runs .ensures)
 
 returns-2 : tie.Need-returns-2
 returns-2 c =
     let s = c .before .before .before .before in
     let tested = c .before .before .before .side-envelopes in
-    rw (runs-refused (jobOf (s .args .job)) (s .args .side) (tested .result) (tested .ensures .0) (c .before .outcome .given .1)) (refl, refl)
+    rw (runs-refused (jobOf (s .args .job)) (s .args .side) (tested .result) (tested .ensures) (c .before .outcome .given .1)) (refl, refl)
 
 pub job-runs-spec : {M : Type 1} → statement M
 job-runs-spec =

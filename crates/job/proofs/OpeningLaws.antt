@@ -1,0 +1,53 @@
+-- What opening reads, by how the header and the job are read.
+-- Assumes nothing.
+use Prim.Native.Nat.{ℕ, _<_}
+use native.Mathlib.Omega.{arith}
+use mathlib.Core.Path.{_≡_, sym, ap, _∙_}
+use mathlib.Core.List.{List, []}
+use lib.ListN.{length}
+use lib.Dec.{leb, eqb}
+use borrow.Author.Tests.{eq-eqb, ne-eqb}
+use Rattle.refusal.specs.Answer.{Answer, accepted, refused, _>>=_, unless-refuse}
+use Rattle.refusal.specs.Refusal.{refusal}
+use Rattle.refusal.specs.declared.Refusal.{Refusal}
+use Rattle.refusal.proofs.AnswerLaws.{bound}
+use Rattle.job.specs.declared.Header.{Header}
+use Rattle.job.specs.declared.Hazard.{Hazard}
+use Rattle.job.specs.Job.{Job, readHazards, readRest, readJob}
+use Rattle.job.specs.Reply.{HeaderReading, headerAt, jobHeader, readOpening}
+use Rattle.job.proofs.RestLaws.{job-step}
+
+-- The header of a job that could be read is the one at its beginning.
+rest-header : (h : Header) (k : ℕ) (got : List Hazard) (s : List ℕ) (at : ℕ) (j : Job) → readRest h k got s at ≡ accepted j → j .header ≡ h
+unfolding readRest
+rest-header h k got s at j e =
+    let b1 = bound (readHazards h k got s at) _ j e in
+    let b2 = bound (unless-refuse (leb (length s) (b1 .first .next)) 7 (b1 .first .next)) _ j (b1 .rest) in
+    let same : record { header = h; hazards = b1 .first .list } ≡ j = let z = b2 .rest in cc in
+    sym (ap (λ (i : Job). i .header) same)
+
+module _ (s : List ℕ) where
+  pub job-header : {x : HeaderReading} {j : Job} → headerAt s ≡ accepted x → readJob s ≡ accepted j → j .header ≡ x .header
+  job-header {x} {j} read e =
+      let rest : readRest (x .header) (x .header .count) [] s (x .next) ≡ accepted j = sym (ap (λ (a : Answer HeaderReading). a >>= λ y. readRest (y .header) (y .header .count) [] s (y .next)) read) ∙ sym (job-step s) ∙ e in
+      rest-header (x .header) (x .header .count) [] s (x .next) j rest
+
+  pub header-done : {j : Job} → readJob s ≡ accepted j → jobHeader s ≡ accepted (j .header)
+  unfolding jobHeader
+  header-done e = rw e
+
+  pub header-refused : (x : Refusal) → readJob s ≡ refusal x → jobHeader s ≡ refusal x
+  unfolding jobHeader
+  header-refused x e = rw e
+
+  pub opening-unread : (x : Refusal) → headerAt s ≡ refusal x → readOpening s ≡ refusal x
+  unfolding readOpening
+  opening-unread x e = rw e
+
+  pub opening-counted : {x : HeaderReading} → headerAt s ≡ accepted x → 0 < x .header .count → readOpening s ≡ refused 3 14
+  unfolding readOpening
+  opening-counted {x} e l = rw (e, ne-eqb (x .header .count) 0 (λ q. omega arith))
+
+  pub opening-empty : {x : HeaderReading} → headerAt s ≡ accepted x → x .header .count ≡ 0 → readOpening s ≡ jobHeader s
+  unfolding readOpening
+  opening-empty {x} e none = rw (e, eq-eqb (x .header .count) 0 none)

@@ -1,0 +1,61 @@
+-- The calls on an open job: what each answers, and what it makes of the memory.
+-- Assumes nothing.
+use Prim.Native.Nat.{ℕ}
+use mathlib.Core.Path.{_≡_}
+use mathlib.Core.Bool.{not}
+use mathlib.Core.List.{List, []}
+use lib.Dec.{eqb}
+use Rattle.refusal.specs.Answer.{Answer, accepted, refused, _>>=_, unless-refuse}
+use Rattle.refusal.specs.Refusal.{outcome}
+use Rattle.job.specs.declared.Hazard.{Hazard}
+use Rattle.job.specs.declared.StoredJob.{StoredJob}
+use Rattle.job.specs.Job.{named, jobOf, readHeader, headerOf}
+use Rattle.job.specs.Writing.{writeJob}
+use Rattle.planning.specs.Envelope.{acceptJob}
+use Rattle.schedule.specs.Plan.{plan}
+use Rattle.open_memory.specs.Memory.{standing, laidOut, stands, inserted, without, admit, isOpenJob}
+use Rattle.open_job.specs.declared.Change.{Change}
+
+-- "Opening takes job bytes that carry no hazard; it refuses as plan does without 9, and a hazard count above 0 is 3": of header number 14, at that number.
+unfoldable pub openJob : (s : List ℕ) → Answer StoredJob
+openJob s =
+    readHeader s >>= λ f.
+    unless-refuse (eqb (headerOf (f .numbers) .count) 0) 3 14 >>= λ _.
+    acceptJob s >>= λ j.
+    accepted (laidOut (j .header) [])
+
+-- "Any call but opening, on memory whose header, names or hazards break these rules, is refused 3 with 0 before any other test."
+-- "A name already standing (add) or not standing (withdraw) is 12, before 4, and returns the name." The name is a byte by the call's type.
+unfoldable pub addTo : StoredJob → (name : ℕ) → Hazard → Answer StoredJob
+addTo m name z =
+    unless-refuse (isOpenJob m) 3 0 >>= λ _.
+    unless-refuse (not (stands name (standing m))) 12 name >>= λ _.
+    admit (m .header) name z >>= λ _.
+    accepted (laidOut (m .header) (inserted (named name z) (standing m)))
+
+unfoldable pub withdrawFrom : StoredJob → (name : ℕ) → Answer StoredJob
+withdrawFrom m name =
+    unless-refuse (isOpenJob m) 3 0 >>= λ _.
+    unless-refuse (stands name (standing m)) 12 name >>= λ _.
+    accepted (laidOut (m .header) (without name (standing m)))
+
+-- "Schedule of a side": what plan answers for the job that stands, 8 and 9 with it.
+unfoldable pub scheduleOf : StoredJob → (side room : ℕ) → Answer (List ℕ)
+scheduleOf m side room =
+    unless-refuse (isOpenJob m) 3 0 >>= λ _.
+    plan (writeJob (jobOf m)) side room
+
+-- "A refused call alters nothing": the memory afterwards.
+abbrev pub memoryAfter : Answer StoredJob → StoredJob → StoredJob
+memoryAfter (accepted next) m = next
+memoryAfter (refused k v) m = m
+
+-- A call that is done returns 0.
+abbrev pub replied : Answer StoredJob → Answer ℕ
+replied (accepted next) = accepted 0
+replied (refused k v) = refused k v
+
+-- What a call by value answers: the reply, and the memory afterwards.
+pub record Changes (m : StoredJob) (a : Answer StoredJob) (r : Change) : Type 0 where
+  pub reply : outcome (r .outcome) 0 ≡ replied a
+  pub memory : r .next ≡ memoryAfter a m

@@ -1,0 +1,151 @@
+// The calls on an open job, by value: the open job goes in and comes back.
+use super::Change;
+use job::StoredJob;
+use job::read::Opening;
+use job::read::read_opening;
+use open_memory::GivenHazard;
+use open_memory::places::alone;
+use open_memory::places::opened;
+use open_memory::places::place_of;
+use open_memory::places::put_in;
+use open_memory::places::stands_at;
+use open_memory::places::taken_out;
+use open_memory::places::under_name;
+use open_memory::rules::NO_SIDE;
+use open_memory::rules::hazard_in_range;
+use open_memory::rules::is_open_job;
+use open_memory::rules::open_envelopes;
+use planning::accept::side_envelopes;
+use refusal::Outcome;
+use refusal::Refusal;
+use schedule::plan::plan_envelopes;
+use schedule::reply::Plan;
+ghost use mathlib.Core.Path.{_≡_};
+ghost use mathlib.Core.Bool.{true};
+ghost use Prim.Native.Nat.{_≤_};
+ghost use lib.ListN.{length};
+ghost use Rattle.refusal.specs.Refusal.{outcome};
+ghost use Rattle.refusal.specs.declared.Outcome.the-variants.{Refused};
+ghost use Rattle.schedule.specs.Plan.{planReply, bytesWritten, outputAfter};
+ghost use Rattle.open_memory.specs.Memory.{greatestName, hazardGiven, admit, isOpenJob};
+ghost use Rattle.open_job.specs.Open.{openJob, addTo, withdrawFrom, scheduleOf, Changes};
+
+// A refusal, and the open job as it was.
+fn unchanged(job: StoredJob, refusal: Refusal) -> Change
+    ensures { λ r. ⌜ r ≡ record { outcome = Refused refusal; next = job } ⌝ }
+{
+    Change {
+        outcome: Outcome::Refused(refusal),
+        next: job,
+    }
+}
+
+// The header of job bytes that carry no hazard, and no hazard; whatever the memory held.
+pub fn open(job: StoredJob, bytes: &[u8]) -> Change
+    ensures { λ r. ⌜ Changes job (openJob (now (bytes .entry))) r ⌝ }
+{
+    match read_opening(bytes) {
+        Opening::Header(header) => Change {
+            outcome: Outcome::Done,
+            next: opened(header),
+        },
+        Opening::Refused(refusal) => unchanged(job, refusal),
+    }
+}
+
+// Refusals 4, 5 and 6 of a hazard that is to stand under a name.
+fn test_given(job: StoredJob, name: u16, hazard: GivenHazard) -> Outcome
+    requires { ⌜ isOpenJob job ≡ true ⌝ }
+    ensures { λ r. ⌜ outcome r tt ≡ admit (job .header) name (hazardGiven hazard) ⌝ }
+{
+    let header = job.header;
+    if hazard_in_range(header, hazard) {
+        let new = under_name(header, name, hazard);
+        let tested = side_envelopes(alone(job, new), name as usize, NO_SIDE);
+        tested.outcome
+    } else {
+        Outcome::Refused(Refusal::HazardRange(name as usize))
+    }
+}
+
+// To an open job: 12, then the hazard's own refusals, then it is put in.
+fn add_named(job: StoredJob, name: u16, hazard: GivenHazard) -> Change
+    requires { ⌜ isOpenJob job ≡ true ⌝ }
+    requires { ⌜ name ≤ greatestName ⌝ }
+    ensures { λ r. ⌜ Changes job (addTo job name (hazardGiven hazard)) r ⌝ }
+{
+    let at = place_of(job, name);
+    if stands_at(job, at, name) {
+        return unchanged(job, Refusal::Name(name as usize));
+    }
+    let outcome = test_given(job, name, hazard);
+    match outcome {
+        Outcome::Done => {
+            let header = job.header;
+            let new = under_name(header, name, hazard);
+            Change {
+                outcome: Outcome::Done,
+                next: put_in(job, at, new),
+            }
+        }
+        Outcome::Refused(refusal) => unchanged(job, refusal),
+    }
+}
+
+// A hazard is added under a name.
+pub fn add(job: StoredJob, name: u8, hazard: GivenHazard) -> Change
+    ensures { λ r. ⌜ Changes job (addTo job name (hazardGiven hazard)) r ⌝ }
+{
+    if is_open_job(job) {
+        add_named(job, name as u16, hazard)
+    } else {
+        unchanged(job, Refusal::HeaderRange(0))
+    }
+}
+
+// From an open job: 12, or the hazard is taken out.
+fn withdraw_named(job: StoredJob, name: u16) -> Change
+    requires { ⌜ isOpenJob job ≡ true ⌝ }
+    ensures { λ r. ⌜ Changes job (withdrawFrom job name) r ⌝ }
+{
+    let at = place_of(job, name);
+    if stands_at(job, at, name) {
+        Change {
+            outcome: Outcome::Done,
+            next: taken_out(job, at),
+        }
+    } else {
+        unchanged(job, Refusal::Name(name as usize))
+    }
+}
+
+// The hazard under a name is withdrawn.
+pub fn withdraw(job: StoredJob, name: u8) -> Change
+    ensures { λ r. ⌜ Changes job (withdrawFrom job name) r ⌝ }
+{
+    if is_open_job(job) {
+        withdraw_named(job, name as u16)
+    } else {
+        unchanged(job, Refusal::HeaderRange(0))
+    }
+}
+
+// The schedule of a side, written into the output; or the first refusal, and nothing written.
+pub fn schedule(job: StoredJob, side: u64, out: &mut [u8]) -> Plan
+    ensures { λ r. ⌜ planReply r ≡ bytesWritten (scheduleOf job side (length (now (out .entry)))) ⌝ }
+    ensures { λ _. ⌜ now (out .exit) ≡ outputAfter (scheduleOf job side (length (now (out .entry)))) (now (out .entry)) ⌝ }
+{
+    let tested = open_envelopes(job, side);
+    let outcome = tested.outcome;
+    match outcome {
+        Outcome::Done => {
+            if 1 < side {
+                return Plan::Refused(Refusal::Argument);
+            }
+            let envelopes = tested.envelopes;
+            let header = job.header;
+            plan_envelopes(out, envelopes, header.continuity)
+        }
+        Outcome::Refused(refusal) => Plan::Refused(refusal),
+    }
+}

@@ -1,0 +1,5 @@
+pub mod RangeLaws
+pub mod RuleLaws
+pub mod OrderLaws
+pub mod PlaceLaws
+pub mod WalkLaws

@@ -1,0 +1,230 @@
+-- The tests of ranges as facts.
+-- Assumes nothing.
+use Prim.Native.Nat.{ℕ, _+_, _-_, _≤_, _<_}
+use native.Mathlib.Omega.{arith}
+use native.Mathlib.Decide.{decLt}
+use mathlib.Core.Path.{_≡_, refl, sym, ap, _∙_}
+use mathlib.Core.Bool.{Bool, true, false, _&&_, false≢true, and-true}
+use mathlib.Core.List.{List, [], _∷_}
+use lib.Dec.{leb, ltb}
+use borrow.Author.Tests.{le-leb, lt-leb, lt-ltb, le-ltb, leb-true}
+use Rattle.refusal.proofs.TestLaws.{and-left, and-right, and-intro}
+use Rattle.job.specs.declared.Header.{Header}
+use Rattle.job.specs.declared.Hazard.{Hazard}
+use Rattle.job.specs.Job.{Range, within, headerRanges, hazardRanges}
+use Rattle.job.specs.Writing.{headerNumbers, hazardNumbers}
+use Rattle.job.proofs.JobLaws.{HeaderFits, HazardFits}
+use Rattle.open_memory.specs.Memory.{counted, inRanges, headerInRange, hazardInRange}
+
+-- The code's tests, beside each other and without those that always pass
+
+pub and-assoc : (a b c : Bool) → ((a && b) && c) ≡ (a && (b && c))
+and-assoc true b c = refl
+and-assoc false b c = refl
+
+pub from-zero : (x : ℕ) → leb 0 x ≡ true
+from-zero x = le-leb 0 x (omega arith)
+
+-- A number is below another exactly if the next one is not above it, and so if it is not above the one before that.
+pub below-next : (a b : ℕ) → ltb a b ≡ leb (a + 1) b
+below-next a b = go (decLt a b)
+  where
+    go : Dec (a < b) → ltb a b ≡ leb (a + 1) b
+    go (yes l) = lt-ltb a b l ∙ sym (le-leb (a + 1) b (omega arith))
+    go (no l) = le-ltb a b (omega arith) ∙ sym (lt-leb (a + 1) b (omega arith))
+
+pub to-last : (a b : ℕ) → 0 < b → leb a (b - 1) ≡ leb (a + 1) b
+to-last a b some = go (decLt a b)
+  where
+    go : Dec (a < b) → leb a (b - 1) ≡ leb (a + 1) b
+    go (yes l) = le-leb a (b - 1) (omega arith) ∙ sym (le-leb (a + 1) b (omega arith))
+    go (no l) = lt-leb a (b - 1) (omega arith) ∙ sym (lt-leb (a + 1) b (omega arith))
+
+-- Numbers in their ranges
+
+abbrev InAll : List Range → List ℕ → Type 0
+InAll [] [] = Unit {0}
+InAll [] (x ∷ xs) = ⊥
+InAll (r ∷ rs) [] = ⊥
+InAll (r ∷ rs) (x ∷ xs) = ((r .low ≤ x) × (x ≤ r .high)) × InAll rs xs
+
+in-all : (rs : List Range) (xs : List ℕ) → inRanges rs xs ≡ true → InAll rs xs
+unfolding inRanges
+in-all [] [] e = tt
+in-all [] (x ∷ xs) e = false≢true e
+in-all (r ∷ rs) [] e = false≢true e
+in-all (r ∷ rs) (x ∷ xs) e =
+    let here = and-left (within r x) (inRanges rs xs) e in
+    ((leb-true _ _ (and-left (leb (r .low) x) (leb x (r .high)) here), leb-true _ _ (and-right (leb (r .low) x) (leb x (r .high)) here)), in-all rs xs (and-right (within r x) (inRanges rs xs) e))
+
+all-in : (rs : List Range) (xs : List ℕ) → InAll rs xs → inRanges rs xs ≡ true
+unfolding inRanges
+all-in [] [] t = refl
+all-in [] (x ∷ xs) t = absurd t
+all-in (r ∷ rs) [] t = absurd t
+all-in (r ∷ rs) (x ∷ xs) t = and-intro {a = within r x} (and-intro {a = leb (r .low) x} (le-leb _ _ (t .0 .0)) (le-leb _ _ (t .0 .1))) (all-in rs xs (t .1))
+
+-- The code's tests, one behind the other
+allTrue : List Bool → Bool
+allTrue [] = true
+allTrue (b ∷ bs) = b && allTrue bs
+
+abbrev pub andAll : Bool → List Bool → Bool
+andAll b [] = b
+andAll b (c ∷ cs) = andAll (b && c) cs
+
+abbrev pub rangeTests : List Range → List ℕ → List Bool
+rangeTests (r ∷ rs) (x ∷ xs) = leb (r .low) x ∷ leb x (r .high) ∷ rangeTests rs xs
+rangeTests [] [] = []
+rangeTests [] (x ∷ xs) = false ∷ []
+rangeTests (r ∷ rs) [] = false ∷ []
+
+and-all : (b : Bool) (bs : List Bool) → andAll b bs ≡ (b && allTrue bs)
+unfolding allTrue
+and-all b [] = sym (and-true b)
+and-all b (c ∷ cs) = and-all (b && c) cs ∙ and-assoc b c (allTrue cs)
+
+pub in-ranges : (rs : List Range) (xs : List ℕ) → andAll true (rangeTests rs xs) ≡ inRanges rs xs
+unfolding allTrue inRanges
+in-ranges rs xs = and-all true (rangeTests rs xs) ∙ go rs xs
+  where
+    go : (rs : List Range) (xs : List ℕ) → allTrue (rangeTests rs xs) ≡ inRanges rs xs
+    go (r ∷ rs) (x ∷ xs) = sym (and-assoc (leb (r .low) x) (leb x (r .high)) (allTrue (rangeTests rs xs))) ∙ ap (λ (b : Bool). within r x && b) (go rs xs)
+    go [] [] = refl
+    go [] (x ∷ xs) = refl
+    go (r ∷ rs) [] = refl
+
+-- The header
+
+pub header-fits : (h : Header) → headerInRange h ≡ true → HeaderFits h
+unfolding headerInRange headerRanges
+header-fits h e =
+    let t1 = in-all (headerRanges (h .begin)) (headerNumbers h) e in
+    let t2 = t1 .1 in let t3 = t2 .1 in let t4 = t3 .1 in let t5 = t4 .1 in let t6 = t5 .1 in let t7 = t6 .1 in
+    let t8 = t7 .1 in let t9 = t8 .1 in let t10 = t9 .1 in let t11 = t10 .1 in let t12 = t11 .1 in let t13 = t12 .1 in let t14 = t13 .1 in
+    record {
+      kind = omega (arith, t1 .0 .0, t1 .0 .1);
+      road = omega (arith, t3 .0 .0);
+      road-end = t3 .0 .1;
+      forward-low = t4 .0 .0;
+      forward-top = t4 .0 .1;
+      opposite-top = t5 .0 .1;
+      clear-low = t6 .0 .0;
+      clear-top = t6 .0 .1;
+      way-top = t7 .0 .1;
+      offset-top = t8 .0 .1;
+      deflection-low = t9 .0 .0;
+      deflection-top = t9 .0 .1;
+      along-low = t10 .0 .0;
+      along-top = t10 .0 .1;
+      across-top = t11 .0 .1;
+      straight-top = t12 .0 .1;
+      continuity-top = t13 .0 .1;
+      count = t14 .0 .1;
+    }
+
+pub header-ranged : (h : Header) → HeaderFits h → headerInRange h ≡ true
+unfolding headerInRange headerRanges
+header-ranged h f =
+    all-in (headerRanges (h .begin)) (headerNumbers h)
+    ((
+      (omega (arith, f .kind), omega (arith, f .kind)),
+      (
+        (omega arith, omega (arith, f .road, f .road-end)),
+        (
+          (omega (arith, f .road), f .road-end),
+          (
+            (f .forward-low, f .forward-top),
+            (
+              (omega arith, f .opposite-top),
+              (
+                (f .clear-low, f .clear-top),
+                (
+                  (omega arith, f .way-top),
+                  (
+                    (omega arith, f .offset-top),
+                    (
+                      (f .deflection-low, f .deflection-top),
+                      (
+                        (f .along-low, f .along-top),
+                        (
+                          (omega arith, f .across-top),
+                          (
+                            (omega arith, f .straight-top),
+                            (
+                              (omega arith, f .continuity-top),
+                              ((omega arith, f .count), tt),
+                            ),
+                          ),
+                        ),
+                      ),
+                    ),
+                  ),
+                ),
+              ),
+            ),
+          ),
+        ),
+      ),
+    ))
+
+pub counted-fits : (h : Header) (n : ℕ) → HeaderFits h → n ≤ 256 → HeaderFits (counted h n)
+counted-fits h n f few = record {
+  kind = f .kind;
+  road = f .road;
+  road-end = f .road-end;
+  forward-low = f .forward-low;
+  forward-top = f .forward-top;
+  opposite-top = f .opposite-top;
+  clear-low = f .clear-low;
+  clear-top = f .clear-top;
+  way-top = f .way-top;
+  offset-top = f .offset-top;
+  deflection-low = f .deflection-low;
+  deflection-top = f .deflection-top;
+  along-low = f .along-low;
+  along-top = f .along-top;
+  across-top = f .across-top;
+  straight-top = f .straight-top;
+  continuity-top = f .continuity-top;
+  count = few;
+}
+
+-- A hazard
+
+pub hazard-fits : (h : Header) (z : Hazard) → hazardInRange h z ≡ true → HazardFits h z
+unfolding hazardInRange hazardRanges
+hazard-fits h z e =
+    let t1 = in-all (hazardRanges (h .begin) (h .end) (z .start) (z .near)) (hazardNumbers z) e in
+    let t2 = t1 .1 in let t3 = t2 .1 in let t4 = t3 .1 in let t5 = t4 .1 in let t6 = t5 .1 in
+    record {
+      side = t1 .0 .1;
+      begins = t2 .0 .0;
+      long = omega (arith, t3 .0 .0);
+      ends = t3 .0 .1;
+      offsets = t5 .0 .0;
+      far-top = t5 .0 .1;
+      level-low = t6 .0 .0;
+      level-top = t6 .0 .1;
+    }
+
+pub hazard-ranged : (h : Header) (z : Hazard) → HazardFits h z → hazardInRange h z ≡ true
+unfolding hazardInRange hazardRanges
+hazard-ranged h z f =
+    all-in (hazardRanges (h .begin) (h .end) (z .start) (z .near)) (hazardNumbers z)
+    ((
+      (omega arith, f .side),
+      (
+        (f .begins, omega (arith, f .long, f .ends)),
+        (
+          (omega (arith, f .long), f .ends),
+          (
+            (omega arith, omega (arith, f .offsets, f .far-top)),
+            (
+              (f .offsets, f .far-top),
+              ((f .level-low, f .level-top), tt),
+            ),
+          ),
+        ),
+      ),
+    ))

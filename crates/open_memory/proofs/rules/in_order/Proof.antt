@@ -1,0 +1,31 @@
+-- `open_memory::rules::in_order` meets its contract: the header, then the names and ranges, then the places behind. Assumes nothing.
+use mathlib.Core.Path.{_≡_, sym, _∙_}
+use mathlib.Core.Bool.{true}
+use borrow.Author.Needs.{needs}
+use Rattle.open_memory.specs.Memory.{headerInRange}
+use Rattle.open_memory.proofs.RangeLaws.{header-fits}
+use Rattle.open_memory.proofs.OrderLaws.{order-not-header, order-not-all, order-rest}
+use Rattle.open_memory.proofs.rules.in_order.Statement.{statement}
+use Rattle.open_memory.proofs.rules.in_order.Tie as tie
+
+-- The header is in its ranges.
+ranged : (c : tie.Then1) → headerInRange (c .before .before .before .args .job .header) ≡ true
+ranged c = sym (c .before .header-in-range .ensures) ∙ c .if1 .taken
+
+all-in-order-requires : tie.Need-all-in-order-requires
+all-in-order-requires c κs = ranged c
+
+rest-unused-requires : tie.Need-rest-unused-requires
+rest-unused-requires c κs = header-fits _ (ranged (c .before .before)) .count
+
+returns : tie.Need-returns
+returns c = c .rest-unused .ensures ∙ order-rest _ (ranged (c .before .before .before)) (sym (c .before .before .all-in-order .ensures) ∙ c .before .if2 .taken)
+
+returns-2 : tie.Need-returns-2
+returns-2 c = order-not-all _ (ranged (c .before .before)) (sym (c .before .all-in-order .ensures) ∙ c .if2 .left)
+
+returns-3 : tie.Need-returns-3
+returns-3 c = order-not-header _ (sym (c .before .header-in-range .ensures) ∙ c .if1 .left)
+
+pub in-order-spec : {M : Type 1} → statement M
+in-order-spec = tie.close (tie.spec (λ c κs. search needs) all-in-order-requires rest-unused-requires returns returns-2 returns-3)

@@ -1,0 +1,113 @@
+-- An open job in the caller's memory: what stands in it, and which memory keeps the rules.
+-- Assumes nothing.
+use Prim.Native.Nat.{ℕ, _+_}
+use mathlib.Core.Bool.{Bool, true, false, _&&_, not}
+use mathlib.Core.List.{List, [], _∷_}
+use lib.ListN.{length, take, drop}
+use lib.Dec.{leb, ltb, eqb}
+use Rattle.refusal.specs.Choice.{if_then_else_, someOf, allOf, keep}
+use Rattle.refusal.specs.Answer.{Answer, _>>=_, unless-refuse, isAccepted}
+use Rattle.refusal.specs.Stored.{padded}
+use Rattle.job.specs.declared.Header.{Header}
+use Rattle.job.specs.declared.Hazard.{Hazard}
+use Rattle.job.specs.declared.NamedHazard.{NamedHazard}
+use Rattle.job.specs.declared.StoredJob.{StoredJob}
+use Rattle.job.specs.Job.{Job, unnamed, Range, within, headerRanges, hazardRanges}
+use Rattle.job.specs.Writing.{headerNumbers, hazardNumbers}
+use Rattle.job.specs.Reply.{unused}
+use Rattle.planning.specs.Envelope.{testHazard}
+use Rattle.open_memory.specs.declared.GivenHazard.{GivenHazard}
+
+-- What stands
+
+-- "Up to 256 hazards, each named by a byte 0 to 255."
+abbrev pub mostStanding : ℕ
+mostStanding = 256
+
+abbrev pub greatestName : ℕ
+greatestName = 255
+
+-- The hazards that stand, with their names: the first in the memory, as many as the header's hazard count says.
+abbrev pub standing : StoredJob → List NamedHazard
+standing m = take (m .header .count) (m .hazards)
+
+-- A header with another hazard count.
+abbrev pub counted : Header → ℕ → Header
+counted h n = record {
+  kind = h .kind;
+  begin = h .begin;
+  end = h .end;
+  forward = h .forward;
+  opposite = h .opposite;
+  zone = h .zone;
+  way = h .way;
+  offset = h .offset;
+  deflection = h .deflection;
+  along = h .along;
+  across = h .across;
+  straight = h .straight;
+  continuity = h .continuity;
+  count = n;
+}
+
+-- The memory in which these hazards stand: as many as the hazard count says, and zeros behind them.
+abbrev pub laidOut : Header → List NamedHazard → StoredJob
+laidOut h ps = record { header = counted h (length ps); hazards = padded mostStanding unused ps }
+
+-- "A job made from the hazards."
+abbrev pub madeFrom : Header → List Hazard → Job
+madeFrom h zs = record { header = counted h (length zs); hazards = zs }
+
+-- Some hazard stands under the name.
+unfoldable pub stands : (name : ℕ) → List NamedHazard → Bool
+stands name ps = someOf (λ (p : NamedHazard). eqb (p .name) name) ps
+
+-- A hazard put before the first one with a greater name.
+unfoldable pub inserted : NamedHazard → List NamedHazard → List NamedHazard
+inserted p [] = p ∷ []
+inserted p (q ∷ qs) = let r = inserted p qs in if ltb (p .name) (q .name) then p ∷ q ∷ qs else q ∷ r
+
+-- The hazards with other names.
+unfoldable pub without : (name : ℕ) → List NamedHazard → List NamedHazard
+without name ps = keep (λ (p : NamedHazard). not (eqb (p .name) name)) ps
+
+-- The rules
+
+-- Numbers, each in its range.
+unfoldable pub inRanges : List Range → List ℕ → Bool
+inRanges (r ∷ rs) (x ∷ xs) = within r x && inRanges rs xs
+inRanges [] [] = true
+inRanges [] (x ∷ xs) = false
+inRanges (r ∷ rs) [] = false
+
+unfoldable pub headerInRange : Header → Bool
+headerInRange h = inRanges (headerRanges (h .begin)) (headerNumbers h)
+
+unfoldable pub hazardInRange : Header → Hazard → Bool
+hazardInRange h z = inRanges (hazardRanges (h .begin) (h .end) (z .start) (z .near)) (hazardNumbers z)
+
+-- "Add tests its hazard for 4, 5 and 6, index replaced by name."
+unfoldable pub admit : Header → (name : ℕ) → Hazard → Answer (Unit {0})
+admit h name z = unless-refuse (hazardInRange h z) 4 name >>= λ _. testHazard h name z
+
+-- The same of a hazard that stands.
+abbrev pub admissible : Header → NamedHazard → Bool
+admissible h p = isAccepted (admit h (p .name) (unnamed p))
+
+-- Names that are bytes and rise from `low` on, so that none stands twice.
+unfoldable pub namesRise : (low : ℕ) → List NamedHazard → Bool
+namesRise low [] = true
+namesRise low (p ∷ ps) = leb low (p .name) && leb (p .name) greatestName && namesRise (p .name + 1) ps
+
+unfoldable pub isUnused : NamedHazard → Bool
+isUnused p = eqb (p .start) 0 && eqb (p .end) 0 && eqb (p .near) 0 && eqb (p .far) 0 && eqb (p .name) 0 && eqb (p .side) 0 && eqb (p .level) 0
+
+-- Memory whose header, names and hazards keep the rules, with zeros behind them. It has 256 places by its type.
+unfoldable pub isOpenJob : StoredJob → Bool
+isOpenJob m =
+    headerInRange (m .header) && namesRise 0 (standing m) && allOf (admissible (m .header)) (standing m)
+    && allOf isUnused (drop (m .header .count) (m .hazards))
+
+-- The hazard that is given.
+abbrev pub hazardGiven : GivenHazard → Hazard
+hazardGiven g = record { side = g .side; start = g .start; end = g .end; near = g .near; far = g .far; level = g .level }

@@ -1,0 +1,153 @@
+// Hazards put in and taken out.
+use super::GivenHazard;
+use job::Header;
+use job::NamedHazard;
+use job::StoredJob;
+ghost use mathlib.Core.Path.{_≡_};
+ghost use mathlib.Core.Bool.{true};
+ghost use mathlib.Core.List.{[]};
+ghost use Prim.Native.Nat.{_≤_, _<_};
+ghost use lib.ListN.{set};
+ghost use Rattle.job.specs.Job.{named};
+ghost use Rattle.open_memory.specs.Memory.{hazardGiven, standing, counted, laidOut, headerInRange, hazardInRange, isOpenJob, stands};
+ghost use Rattle.open_memory.specs.Steps.{Clear, rank, putAt, takenAt};
+
+// A place in which no hazard stands.
+const UNUSED: NamedHazard = NamedHazard {
+    start: 0,
+    end: 0,
+    near: 0,
+    far: 0,
+    name: 0,
+    side: 0,
+    level: 0,
+};
+
+// The header with another hazard count.
+pub fn with_count(h: Header, n: u32) -> Header
+    ensures { λ r. ⌜ r ≡ counted h n ⌝ }
+{
+    let mut next = h;
+    next.count = n;
+    next
+}
+
+// A header, and no hazard.
+pub fn opened(header: Header) -> StoredJob
+    ensures { λ r. ⌜ r ≡ laidOut header [] ⌝ }
+{
+    StoredJob {
+        header: with_count(header, 0),
+        hazards: [UNUSED; 256],
+    }
+}
+
+// A given hazard, in its ranges, under a name.
+pub fn under_name(header: Header, name: u16, z: GivenHazard) -> NamedHazard
+    requires { ⌜ headerInRange header ≡ true ⌝ }
+    requires { ⌜ hazardInRange header (hazardGiven z) ≡ true ⌝ }
+    ensures { λ r. ⌜ r ≡ named name (hazardGiven z) ⌝ }
+{
+    NamedHazard {
+        start: z.start as u32,
+        end: z.end as u32,
+        near: z.near as u32,
+        far: z.far as u32,
+        name,
+        side: z.side as u8,
+        level: z.level as u8,
+    }
+}
+
+// How many of the names that stand are below a name: where it stands, or is to be put.
+pub fn place_of(job: StoredJob, name: u16) -> usize
+    requires { ⌜ job .header .count ≤ 256 ⌝ }
+    ensures { λ r. ⌜ r ≡ rank name (standing job) ⌝ }
+{
+    let header = job.header;
+    let count = header.count as usize;
+    let mut i: usize = 0;
+    while i < count {
+        let p = job.hazards[i];
+        if name <= p.name {
+            return i;
+        }
+        i += 1;
+    }
+    i
+}
+
+// Does the name stand, at the one place where it could.
+pub fn stands_at(job: StoredJob, at: usize, name: u16) -> bool
+    requires { ⌜ isOpenJob job ≡ true ⌝ }
+    requires { ⌜ at ≡ rank name (standing job) ⌝ }
+    ensures { λ r. ⌜ r ≡ stands name (standing job) ⌝ }
+{
+    let header = job.header;
+    if at < header.count as usize {
+        let p = job.hazards[at];
+        return p.name == name;
+    }
+    false
+}
+
+// A hazard put in at a place; each one behind it moves up.
+pub fn put_in(job: StoredJob, at: usize, new: NamedHazard) -> StoredJob
+    requires { ⌜ Clear job ⌝ }
+    requires { ⌜ job .header .count < 256 ⌝ }
+    requires { ⌜ at ≤ job .header .count ⌝ }
+    ensures { λ r. ⌜ r ≡ laidOut (job .header) (putAt at new (standing job)) ⌝ }
+{
+    let header = job.header;
+    let count = header.count as usize;
+    let mut hazards = job.hazards;
+    let mut moved = new;
+    let mut i = at;
+    while i < count {
+        let p = hazards[i];
+        hazards[i] = moved;
+        moved = p;
+        i += 1;
+    }
+    hazards[count] = moved;
+    StoredJob {
+        header: with_count(header, header.count + 1),
+        hazards,
+    }
+}
+
+// The hazard at a place taken out; each one behind it moves down.
+pub fn taken_out(job: StoredJob, at: usize) -> StoredJob
+    requires { ⌜ Clear job ⌝ }
+    requires { ⌜ job .header .count ≤ 256 ⌝ }
+    requires { ⌜ at < job .header .count ⌝ }
+    ensures { λ r. ⌜ r ≡ laidOut (job .header) (takenAt at (standing job)) ⌝ }
+{
+    let header = job.header;
+    let last = header.count as usize - 1;
+    let mut hazards = job.hazards;
+    let mut i = at;
+    while i < last {
+        let next = i + 1;
+        hazards[i] = hazards[next];
+        i = next;
+    }
+    hazards[last] = UNUSED;
+    StoredJob {
+        header: with_count(header, header.count - 1),
+        hazards,
+    }
+}
+
+// The header with a hazard alone.
+pub fn alone(job: StoredJob, new: NamedHazard) -> StoredJob
+    ensures { λ r. ⌜ r ≡ record { header = counted (job .header) 1; hazards = set (job .hazards) 0 new } ⌝ }
+{
+    let header = job.header;
+    let mut hazards = job.hazards;
+    hazards[0] = new;
+    StoredJob {
+        header: with_count(header, 1),
+        hazards,
+    }
+}

@@ -1,0 +1,195 @@
+// Is the memory an open job: its header, names and hazards, and zeros behind them.
+use super::GivenHazard;
+use job::Header;
+use job::NamedHazard;
+use job::StoredJob;
+use planning::accept::SideEnvelopes;
+use planning::accept::refused;
+use planning::accept::side_envelopes;
+use refusal::Outcome;
+use refusal::Refusal;
+ghost use mathlib.Core.Path.{_≡_};
+ghost use mathlib.Core.Bool.{true};
+ghost use mathlib.Core.List.{[]};
+ghost use Prim.Native.Nat.{_≤_};
+ghost use lib.ListN.{drop};
+ghost use Rattle.refusal.specs.Choice.{allOf};
+ghost use Rattle.refusal.specs.Stored.{acceptedOr};
+ghost use Rattle.job.specs.Job.{unnamed};
+ghost use Rattle.planning.specs.Reply.{storedEnvelopes, sideAnswer};
+ghost use Rattle.open_memory.specs.Memory.{hazardGiven, standing, headerInRange, hazardInRange, isUnused, isOpenJob};
+ghost use Rattle.open_memory.specs.Steps.{inOrderFrom, allInOrder, inOrder, openEnvelopes};
+
+// No hazard stands on this side: they are tested, and no envelope is kept.
+pub const NO_SIDE: u64 = 2;
+
+// Each of the header's numbers lies in its range, in the table's order.
+fn header_in_range(h: Header) -> bool
+    ensures { λ r. ⌜ r ≡ headerInRange h ⌝ }
+{
+    (1 <= h.kind)
+        & (h.kind <= 1)
+        & (0 <= h.begin)
+        & (h.begin <= 1999999999)
+        & (h.begin as u64 + 1 <= h.end as u64)
+        & (h.end <= 2000000000)
+        & (1 <= h.forward)
+        & (h.forward <= 200000)
+        & (0 <= h.opposite)
+        & (h.opposite <= 200000)
+        & (1 <= h.zone)
+        & (h.zone <= 30000)
+        & (0 <= h.way)
+        & (h.way <= 20000)
+        & (0 <= h.offset)
+        & (h.offset <= 20000)
+        & (1 <= h.deflection)
+        & (h.deflection <= 5000)
+        & (1 <= h.along)
+        & (h.along <= 100)
+        & (0 <= h.across)
+        & (h.across <= 10)
+        & (0 <= h.straight)
+        & (h.straight <= 100000)
+        & (0 <= h.continuity)
+        & (h.continuity <= 200000)
+        & (0 <= h.count)
+        & (h.count <= 256)
+}
+
+// Each of a hazard's numbers lies in its range, in the paper's order.
+pub fn hazard_in_range(h: Header, z: GivenHazard) -> bool
+    requires { ⌜ headerInRange h ≡ true ⌝ }
+    ensures { λ r. ⌜ r ≡ hazardInRange h (hazardGiven z) ⌝ }
+{
+    (z.side <= 1)
+        & (h.begin as u64 <= z.start)
+        & (z.start < h.end as u64)
+        & (z.start < z.end)
+        & (z.end <= h.end as u64)
+        & (z.near <= 60000)
+        & (z.near <= z.far)
+        & (z.far <= 60000)
+        & (1 <= z.level)
+        & (z.level <= 6)
+}
+
+// A hazard that stands, as it was given.
+fn given(p: NamedHazard) -> GivenHazard
+    ensures { λ r. ⌜ hazardGiven r ≡ unnamed p ⌝ }
+{
+    GivenHazard {
+        side: p.side as u64,
+        start: p.start as u64,
+        end: p.end as u64,
+        near: p.near as u64,
+        far: p.far as u64,
+        level: p.level as u64,
+    }
+}
+
+// A name that is a byte from low on, and a hazard in its ranges.
+fn in_order_from(h: Header, low: u32, p: NamedHazard) -> bool
+    requires { ⌜ headerInRange h ≡ true ⌝ }
+    ensures { λ r. ⌜ r ≡ inOrderFrom h low p ⌝ }
+{
+    let name = p.name as u32;
+    (low <= name) & (name <= 255) & hazard_in_range(h, given(p))
+}
+
+// The names rise, and the hazards lie in their ranges.
+fn all_in_order(job: StoredJob) -> bool
+    requires { ⌜ headerInRange (job .header) ≡ true ⌝ }
+    ensures { λ r. ⌜ r ≡ allInOrder (job .header) 0 (standing job) ⌝ }
+{
+    let header = job.header;
+    let count = header.count as usize;
+    let mut low: u32 = 0;
+    let mut i: usize = 0;
+    while i < count {
+        let p = job.hazards[i];
+        if in_order_from(header, low, p) {
+            low = p.name as u32 + 1;
+            i += 1;
+        } else {
+            return false;
+        }
+    }
+    true
+}
+
+fn is_unused(p: NamedHazard) -> bool
+    ensures { λ r. ⌜ r ≡ isUnused p ⌝ }
+{
+    (p.start == 0)
+        & (p.end == 0)
+        & (p.near == 0)
+        & (p.far == 0)
+        & (p.name == 0)
+        & (p.side == 0)
+        & (p.level == 0)
+}
+
+// The places behind the hazards.
+fn rest_unused(job: StoredJob) -> bool
+    requires { ⌜ job .header .count ≤ 256 ⌝ }
+    ensures { λ r. ⌜ r ≡ allOf isUnused (drop (job .header .count) (job .hazards)) ⌝ }
+{
+    let header = job.header;
+    let mut i = header.count as usize;
+    while i < 256 {
+        if is_unused(job.hazards[i]) {
+            i += 1;
+        } else {
+            return false;
+        }
+    }
+    true
+}
+
+fn in_order(job: StoredJob) -> bool
+    ensures { λ r. ⌜ r ≡ inOrder job ⌝ }
+{
+    let header = job.header;
+    if header_in_range(header) {
+        if all_in_order(job) {
+            rest_unused(job)
+        } else {
+            false
+        }
+    } else {
+        false
+    }
+}
+
+// The memory's test, and the envelopes of a side from the pass over the hazards that tests them for 5 and 6.
+pub fn open_envelopes(job: StoredJob, side: u64) -> SideEnvelopes
+    ensures { λ r. ⌜ sideAnswer r ≡ openEnvelopes job side ⌝ }
+    ensures { λ r. ⌜ r .envelopes ≡ storedEnvelopes (acceptedOr [] (openEnvelopes job side)) ⌝ }
+{
+    if in_order(job) {
+        let tested = side_envelopes(job, 0, side);
+        let outcome = tested.outcome;
+        match outcome {
+            Outcome::Done => tested,
+            Outcome::Refused(_) => refused(Refusal::HeaderRange(0)),
+        }
+    } else {
+        refused(Refusal::HeaderRange(0))
+    }
+}
+
+pub fn is_open_job(job: StoredJob) -> bool
+    ensures { λ r. ⌜ r ≡ isOpenJob job ⌝ }
+{
+    if in_order(job) {
+        let tested = side_envelopes(job, 0, NO_SIDE);
+        let outcome = tested.outcome;
+        match outcome {
+            Outcome::Done => true,
+            Outcome::Refused(_) => false,
+        }
+    } else {
+        false
+    }
+}

@@ -1,0 +1,5 @@
+pub mod SameLaws
+pub mod KeptLaws
+pub mod ListLaws
+pub mod AddedLaws
+pub mod MeaningLaws

@@ -1,0 +1,101 @@
+/*
+ * An open job: the header of document 01's printed example, to which hazards
+ * come as a controller meets them.  It ends with 1 where a call does not do
+ * what it should.
+ *
+ *     cc open_job.c $(pkg-config --cflags --libs barrier_engine) -o open_job
+ */
+#include <inttypes.h>
+#include <stdio.h>
+
+#include <barrier.h>
+
+#include "number_form.h"
+
+enum { HEADER_NUMBERS = 14 };
+
+static const uint64_t header[HEADER_NUMBERS] = {
+    1,               /* kind */
+    0, 1000000,      /* road begin and end: one kilometre */
+    101000, 0,       /* runout lengths: forward; no opposite traffic */
+    9000,            /* clear-zone width */
+    0,               /* travelled-way edge to centreline */
+    3000,            /* barrier offset */
+    1000,            /* deflection allowance */
+    15, 1,           /* flare: 1 across for 15 along */
+    13340,           /* straight barrier before the flare */
+    0,               /* continuity limit */
+    0                /* hazard count: none yet */
+};
+
+/* The names under which the hazards stand. */
+enum { HEADWALL = 7, POLE = 20 };
+
+/* Each on the right side: first and end station, offsets, level. */
+static const barrier_hazard headwall = {BARRIER_RIGHT, 200000, 210000, 5000, 9000, BARRIER_NC_3};
+static const barrier_hazard pole = {BARRIER_RIGHT, 600000, 600300, 5000, 9000, BARRIER_NC_2};
+
+/* Prints how a call ended; 0 unless that is what is wanted. */
+static int ends_with(const char *what, barrier_reply reply, uint64_t wanted)
+{
+    if (reply.number == BARRIER_DONE)
+        printf("  %s: done\n", what);
+    else
+        printf("  %s: refused %" PRIu64 " with %" PRIu64 "\n", what, reply.number, reply.value);
+    return reply.number == wanted;
+}
+
+static int open_header(barrier_open_job *job)
+{
+    uint8_t bytes[HEADER_NUMBERS * NUMBER_BYTES_MAX];
+    size_t length = 0;
+    for (int i = 0; i < HEADER_NUMBERS; i++)
+        length += put_number(bytes + length, header[i]);
+    return ends_with("open", barrier_open(job, bytes, length), BARRIER_DONE);
+}
+
+/* The runs of the right side, as they are now; 0 if refused. */
+static int print_runs(const barrier_open_job *job)
+{
+    static uint8_t schedule[BARRIER_SCHEDULE_MAX];
+    size_t at = 0;
+    uint64_t end = 0;
+    if (!ends_with("schedule",
+                   barrier_open_schedule(job, BARRIER_RIGHT, schedule, sizeof schedule),
+                   BARRIER_DONE))
+        return 0;
+    for (uint64_t count = get_number(schedule, &at); count > 0; count--) {
+        /* A record has the distance from the run before, not the station. */
+        const uint64_t start = end + get_number(schedule, &at);
+        end = start + get_number(schedule, &at);
+        const uint64_t level = get_number(schedule, &at);
+        printf("    [%" PRIu64 ", %" PRIu64 ") at NC-%" PRIu64 "\n", start, end, level);
+    }
+    return 1;
+}
+
+/* Everything in turn; 0 where a call does not do what it should. */
+static int show(void)
+{
+    static barrier_open_job job;
+    printf("An open job\n");
+    return open_header(&job) &&
+           ends_with("add 7", barrier_add(&job, HEADWALL, headwall), BARRIER_DONE) &&
+           ends_with("add 20", barrier_add(&job, POLE, pole), BARRIER_DONE) &&
+           ends_with("add 7", barrier_add(&job, HEADWALL, pole), BARRIER_NAME) &&
+           print_runs(&job) &&
+           ends_with("withdraw 7", barrier_withdraw(&job, HEADWALL), BARRIER_DONE) &&
+           print_runs(&job) &&
+           ends_with("add 7", barrier_add(&job, HEADWALL, headwall), BARRIER_DONE) &&
+           print_runs(&job);
+}
+
+int main(void)
+{
+    const int shown = show();
+    if (fflush(stdout) != 0 || ferror(stdout)) {
+        fprintf(stderr, "open_job: standard output cannot be written\n");
+        return 1;
+    }
+    return shown ? 0 : 1;
+}

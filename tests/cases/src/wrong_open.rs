@@ -1,0 +1,926 @@
+//! Open jobs with one slip each. The test has to find every one of them.
+
+use reference::envelope;
+use reference::job::{self, Hazard, Job};
+use reference::level::Required;
+use reference::memory::{self, BYTES, HEADER, HEADER_BYTES, PLACE_BYTES, PLACES};
+use reference::{OpenJob, Refusal, add, open, open_schedule, planned, schedule, withdraw};
+
+use crate::calls::{AddCall, Calls, Memory, OpenCall, OpenScheduleCall, Reply, WithdrawCall};
+use crate::calls::{reply, right};
+use crate::draft::{number_bytes, range};
+
+/// Every wrong open job with the name of its slip.
+pub fn all() -> Vec<(&'static str, Calls)> {
+    let mut list = wrong_adds();
+    list.extend(wrong_withdrawals());
+    list.extend(wrong_schedules());
+    list.extend(wrong_openings());
+    list.extend(wrong_tests());
+    list
+}
+
+fn with_open(open: Box<OpenCall>) -> Calls {
+    Calls { open, ..right() }
+}
+
+fn with_add(add: Box<AddCall>) -> Calls {
+    Calls { add, ..right() }
+}
+
+fn with_withdraw(withdraw: Box<WithdrawCall>) -> Calls {
+    Calls {
+        withdraw,
+        ..right()
+    }
+}
+
+fn with_schedule(open_schedule: Box<OpenScheduleCall>) -> Calls {
+    Calls {
+        open_schedule,
+        ..right()
+    }
+}
+
+const DONE: Reply = Reply {
+    number: 0,
+    value: 0,
+};
+
+/// The bytes of the place with this index.
+fn place(memory: &mut Memory, index: usize) -> &mut [u8] {
+    let at = HEADER_BYTES + PLACE_BYTES * index;
+    &mut memory.job[at..at + PLACE_BYTES]
+}
+
+/// How many hazards stand, of memory that is right.
+fn count(memory: &Memory) -> usize {
+    memory::read(&memory.job).map_or(0, |open| open.standing.len())
+}
+
+/// The bytes of a place that has this hazard.
+fn place_bytes(name: u8, hazard: &Hazard) -> Vec<u8> {
+    let mut bytes = Vec::new();
+    for value in [hazard.start, hazard.end, hazard.near, hazard.far] {
+        bytes.extend((value as u32).to_le_bytes());
+    }
+    bytes.extend([name, 0, hazard.side as u8, hazard.level as u8]);
+    bytes
+}
+
+/// Puts a hazard behind the others, whatever its name is.
+fn put_last(memory: &mut Memory, name: u8, hazard: &Hazard) {
+    let last = count(memory);
+    if last < PLACES {
+        place(memory, last).copy_from_slice(&place_bytes(name, hazard));
+        let count = (last as u32 + 1).to_le_bytes();
+        memory.job[HEADER_BYTES - 4..HEADER_BYTES].copy_from_slice(&count);
+    }
+}
+
+// Add.
+
+fn wrong_adds() -> Vec<(&'static str, Calls)> {
+    // The right add, with its reply or the memory changed afterwards.
+    let after = |change: fn(&mut Reply, &mut Memory, u8, Hazard)| {
+        with_add(Box::new(move |memory, name, hazard| {
+            let mut reply = reply(add(&mut memory.job, name, hazard));
+            change(&mut reply, memory, name, hazard);
+            reply
+        }))
+    };
+    // Another hazard or name added in its place.
+    let other = |call: fn(&mut Memory, u8, Hazard) -> Reply| {
+        with_add(Box::new(move |memory, name, hazard| {
+            call(memory, name, hazard)
+        }))
+    };
+    vec![
+        (
+            "a refused add leaves its hazard behind the others",
+            after(|reply, memory, name, hazard| {
+                let last = count(memory);
+                if (4..=6).contains(&reply.number) && last < PLACES {
+                    place(memory, last).copy_from_slice(&place_bytes(name, &hazard));
+                }
+            }),
+        ),
+        (
+            "a refused add leaves the count raised",
+            after(|reply, memory, _, _| {
+                if reply.number == 6 {
+                    memory.job[HEADER_BYTES - 4] += 1;
+                }
+            }),
+        ),
+        (
+            "refusal 4 before 12",
+            after(|reply, memory, name, hazard| {
+                let open = memory::read(&memory.job);
+                if reply.number == 12 && open.is_some_and(|o| !job::in_range(&o.header, &hazard)) {
+                    (reply.number, reply.value) = (4, name.into());
+                }
+            }),
+        ),
+        (
+            "refusals 5 and 6 before 12",
+            after(|reply, memory, name, hazard| {
+                let Some(open) = memory::read(&memory.job) else {
+                    return;
+                };
+                if reply.number == 12 && job::in_range(&open.header, &hazard) {
+                    let envelope = envelope::envelope(&open.header, name.into(), &hazard);
+                    if let Err(Refusal { number, value }) = envelope {
+                        (reply.number, reply.value) = (number, value);
+                    }
+                }
+            }),
+        ),
+        (
+            "refusals 4 to 6 with the index in place of the name",
+            after(|reply, memory, _, _| {
+                if (4..=6).contains(&reply.number) {
+                    reply.value = count(memory) as u64;
+                }
+            }),
+        ),
+        (
+            "refusal 12 with the index in place of the name",
+            after(|reply, memory, name, _| {
+                if let (12, Some(open)) = (reply.number, memory::read(&memory.job)) {
+                    let mut names = open.standing.keys();
+                    reply.value = names.position(|other| *other == name).unwrap_or(0) as u64;
+                }
+            }),
+        ),
+        (
+            "refusal 12 with 0",
+            after(|reply, _, _, _| {
+                if reply.number == 12 {
+                    reply.value = 0;
+                }
+            }),
+        ),
+        (
+            "the count of hazards said when added",
+            after(|reply, memory, _, _| {
+                if reply.number == 0 {
+                    reply.value = count(memory) as u64;
+                }
+            }),
+        ),
+        (
+            "two hazards of one name",
+            after(|reply, memory, name, hazard| {
+                if reply.number == 12 && count(memory) < PLACES {
+                    put_last(memory, name, &hazard);
+                    *reply = DONE;
+                }
+            }),
+        ),
+        (
+            "a standing name's hazard replaced",
+            other(|memory, name, hazard| {
+                let before = memory.clone();
+                let withdrawn = withdraw(&mut memory.job, name);
+                let added = reply(add(&mut memory.job, name, hazard));
+                if withdrawn.is_ok() && added.number != 0 {
+                    *memory = before;
+                }
+                added
+            }),
+        ),
+        (
+            "a hazard added behind the others, whatever its name",
+            other(|memory, name, hazard| {
+                let mut added = memory.clone();
+                let reply = reply(add(&mut added.job, name, hazard));
+                if reply.number == 0 {
+                    put_last(memory, name, &hazard);
+                }
+                reply
+            }),
+        ),
+        (
+            "the hazard's numbers in 32 bits",
+            other(|memory, name, hazard| {
+                let low = |value: u64| value & 0xFFFF_FFFF;
+                let hazard = Hazard {
+                    side: low(hazard.side),
+                    start: low(hazard.start),
+                    end: low(hazard.end),
+                    near: low(hazard.near),
+                    far: low(hazard.far),
+                    level: low(hazard.level),
+                };
+                reply(add(&mut memory.job, name, hazard))
+            }),
+        ),
+        (
+            "the hazard's level and side in one byte",
+            other(|memory, name, hazard| {
+                let hazard = Hazard {
+                    side: hazard.side & 0xFF,
+                    level: hazard.level & 0xFF,
+                    ..hazard
+                };
+                reply(add(&mut memory.job, name, hazard))
+            }),
+        ),
+        (
+            "name 0 taken as no name",
+            other(|memory, name, hazard| match memory::read(&memory.job) {
+                Some(_) if name == 0 => reply(Err(Refusal::name(0))),
+                _ => reply(add(&mut memory.job, name, hazard)),
+            }),
+        ),
+        (
+            "255 hazards at most",
+            other(|memory, name, hazard| match count(memory) {
+                255 => reply(Err(Refusal::name(name))),
+                _ => reply(add(&mut memory.job, name, hazard)),
+            }),
+        ),
+        (
+            "a hazard that nobody reaches not kept",
+            other(|memory, name, hazard| {
+                let before = memory.clone();
+                let reply = reply(add(&mut memory.job, name, hazard));
+                if let Some(open) = memory::read(&memory.job)
+                    && envelope::approaches(&open.header, &hazard).is_empty()
+                {
+                    *memory = before;
+                }
+                reply
+            }),
+        ),
+        (
+            "refusal 6 before 5 in an open job",
+            after(|reply, memory, name, hazard| {
+                if let (5, Some(open)) = (reply.number, memory::read(&memory.job)) {
+                    let approaches = envelope::approaches(&open.header, &hazard);
+                    let longer = envelope::lengthening(&open.header, &approaches);
+                    if envelope::off_road(&open.header, &hazard, &longer) {
+                        (reply.number, reply.value) = (6, name.into());
+                    }
+                }
+            }),
+        ),
+        (
+            "the name before the memory in add",
+            after(|reply, memory, name, _| {
+                if *reply == BROKEN && name_stands(&memory.job, name) {
+                    (reply.number, reply.value) = (12, name.into());
+                }
+            }),
+        ),
+        (
+            "the hazard before the memory in add",
+            after(|reply, _, name, hazard| {
+                if *reply == BROKEN && (hazard.side > 1 || !(1..=6).contains(&hazard.level)) {
+                    (reply.number, reply.value) = (4, name.into());
+                }
+            }),
+        ),
+    ]
+}
+
+/// The reply to memory that breaks the rules.
+const BROKEN: Reply = Reply {
+    number: 3,
+    value: 0,
+};
+
+/// Whether a place has this name, in memory of any content.
+fn name_stands(memory: &[u8; BYTES], name: u8) -> bool {
+    let count = number_at(memory, HEADER - 1).min(PLACES as u64) as usize;
+    (0..count).any(|place| name_at(memory, place) == u64::from(name))
+}
+
+/// The header number at this place, counted from 0.
+fn number_at(memory: &[u8; BYTES], place: usize) -> u64 {
+    four_at(memory, 4 * place)
+}
+
+fn four_at(memory: &[u8; BYTES], at: usize) -> u64 {
+    let mut bytes = [0; 4];
+    bytes.copy_from_slice(&memory[at..at + 4]);
+    u32::from_le_bytes(bytes).into()
+}
+
+fn name_at(memory: &[u8; BYTES], place: usize) -> u64 {
+    four_at(memory, HEADER_BYTES + PLACE_BYTES * place + 16) & 0xFFFF
+}
+
+// Withdraw.
+
+fn wrong_withdrawals() -> Vec<(&'static str, Calls)> {
+    // The right withdrawal, with its reply or the memory changed afterwards;
+    // the memory of before is there too.
+    let after = |change: fn(&mut Reply, &mut Memory, &Memory, u8)| {
+        with_withdraw(Box::new(move |memory, name| {
+            let mut before = memory.clone();
+            let mut reply = reply(withdraw(&mut memory.job, name));
+            change(&mut reply, memory, &mut before, name);
+            reply
+        }))
+    };
+    vec![
+        ("a withdrawn name that cannot come back", gone_for_good()),
+        (
+            "the place behind the last hazard not cleared",
+            after(|reply, memory, before, _| {
+                let last = count(memory);
+                if reply.number == 0 {
+                    let left = place(&mut before.clone(), last).to_vec();
+                    place(memory, last).copy_from_slice(&left);
+                }
+            }),
+        ),
+        (
+            "the last hazard withdrawn in place of the named one",
+            after(|reply, memory, before, _| {
+                if reply.number == 0 {
+                    *memory = before.clone();
+                    without_place(memory, count(before) - 1);
+                }
+            }),
+        ),
+        (
+            "the last hazard moved to the place that is free",
+            after(|reply, memory, before, name| {
+                let standing = count(before);
+                if reply.number == 0 && standing > 1 {
+                    let mut whole = before.clone();
+                    let at = (0..standing).find(|at| name_at(&before.job, *at) == name.into());
+                    let last = place(&mut whole, standing - 1).to_vec();
+                    place(&mut whole, at.unwrap_or(0)).copy_from_slice(&last);
+                    without_place(&mut whole, standing - 1);
+                    *memory = whole;
+                }
+            }),
+        ),
+        (
+            "a name that does not stand withdrawn without a word",
+            after(|reply, _, _, _| {
+                if reply.number == 12 {
+                    *reply = DONE;
+                }
+            }),
+        ),
+        (
+            "refusal 12 of a withdrawal with 0",
+            after(|reply, _, _, _| {
+                if reply.number == 12 {
+                    reply.value = 0;
+                }
+            }),
+        ),
+        (
+            "the count of hazards said when withdrawn",
+            after(|reply, memory, _, _| {
+                if reply.number == 0 {
+                    reply.value = count(memory) as u64;
+                }
+            }),
+        ),
+        (
+            "the name before the memory in a withdrawal",
+            after(|reply, memory, _, name| {
+                if *reply == BROKEN && !name_stands(&memory.job, name) {
+                    (reply.number, reply.value) = (12, name.into());
+                }
+            }),
+        ),
+        (
+            "a withdrawal that leaves the hazard in the count",
+            after(|reply, memory, _, _| {
+                if reply.number == 0 {
+                    memory.job[HEADER_BYTES - 4] = memory.job[HEADER_BYTES - 4].wrapping_add(1);
+                }
+            }),
+        ),
+    ]
+}
+
+/// Takes a place out of the row; the places behind it move up.
+fn without_place(memory: &mut Memory, index: usize) {
+    let at = HEADER_BYTES + PLACE_BYTES * index;
+    memory.job.copy_within(at + PLACE_BYTES.., at);
+    memory.job[BYTES - PLACE_BYTES..].fill(0);
+    let left = (number_at(&memory.job, HEADER - 1) as u32 - 1).to_le_bytes();
+    memory.job[HEADER_BYTES - 4..HEADER_BYTES].copy_from_slice(&left);
+}
+
+/// A withdrawal marks the last place with the name; an add takes the mark as
+/// that name standing.
+fn gone_for_good() -> Calls {
+    Calls {
+        withdraw: Box::new(|memory, name| {
+            let mut unmarked = memory.clone();
+            place(&mut unmarked, PLACES - 1).fill(0);
+            let marked = place(memory, PLACES - 1).to_vec();
+            let reply = reply(withdraw(&mut unmarked.job, name));
+            if reply.number == 0 {
+                *memory = unmarked;
+                place(memory, PLACES - 1).copy_from_slice(&marked);
+                place(memory, PLACES - 1)[16] = name;
+            }
+            reply
+        }),
+        add: Box::new(|memory, name, hazard| {
+            let mark = place(memory, PLACES - 1).to_vec();
+            if mark[..16].iter().all(|byte| *byte == 0) && mark[16] == name && name > 0 {
+                return reply(Err(Refusal::name(name)));
+            }
+            reply(add(&mut memory.job, name, hazard))
+        }),
+        ..right()
+    }
+}
+
+// Schedule.
+
+fn wrong_schedules() -> Vec<(&'static str, Calls)> {
+    // Another job planned in place of the open one.
+    let planning = |bytes: fn(&OpenJob, u64) -> Vec<u8>| {
+        with_schedule(Box::new(
+            move |memory, side, room, lent| match memory::read(&memory.job) {
+                Some(open) if side <= 1 => reply(put(&bytes(&open, side), &mut room[lent])),
+                _ => reply(open_schedule(&memory.job, side, &mut room[lent])),
+            },
+        ))
+    };
+    vec![
+        (
+            "the schedule of the other side",
+            planning(|open, side| writing(&open.job(), 1 - side)),
+        ),
+        (
+            "the hazard of the highest name left out",
+            planning(|open, side| {
+                let mut job = open.job();
+                job.hazards.pop();
+                writing(&job, side)
+            }),
+        ),
+        (
+            "gaps never filled in an open job",
+            planning(|open, side| {
+                let job = Job {
+                    continuity: 0,
+                    ..open.job()
+                };
+                writing(&job, side)
+            }),
+        ),
+        (
+            "the side before the memory",
+            with_schedule(Box::new(|memory, side, room, lent| match side {
+                0..=1 => reply(open_schedule(&memory.job, side, &mut room[lent])),
+                _ => reply(Err(Refusal::argument())),
+            })),
+        ),
+        (
+            "an output without a byte refused before the side",
+            with_schedule(Box::new(|memory, side, room, lent| {
+                let reply = reply(open_schedule(&memory.job, side, &mut room[lent.clone()]));
+                match reply.number {
+                    8 if lent.is_empty() => Reply {
+                        number: 9,
+                        value: 1,
+                    },
+                    _ => reply,
+                }
+            })),
+        ),
+        (
+            "the memory changed by a schedule",
+            with_schedule(Box::new(|memory, side, room, lent| {
+                let reply = reply(open_schedule(&memory.job, side, &mut room[lent]));
+                if reply.number == 0 {
+                    memory.job[BYTES - 1] = 1;
+                }
+                reply
+            })),
+        ),
+        (
+            "a byte behind the open job written",
+            with_schedule(Box::new(|memory, side, room, lent| {
+                let reply = reply(open_schedule(&memory.job, side, &mut room[lent]));
+                if reply.number == 0 {
+                    memory.after[0] = 0;
+                }
+                reply
+            })),
+        ),
+        (
+            "an open job's schedule begun in a short output",
+            with_schedule(Box::new(|memory, side, room, lent| {
+                let reply = reply(open_schedule(&memory.job, side, &mut room[lent.clone()]));
+                if reply.number == 9 && !lent.is_empty() {
+                    room[lent.start] = reply.value as u8;
+                }
+                reply
+            })),
+        ),
+        (
+            "a byte too many written behind an open job's schedule",
+            with_schedule(Box::new(|memory, side, room, lent| {
+                let reply = reply(open_schedule(&memory.job, side, &mut room[lent.clone()]));
+                let behind = lent.start + reply.value as usize;
+                if reply.number == 0 && lent.contains(&behind) {
+                    room[behind] = 0;
+                }
+                reply
+            })),
+        ),
+    ]
+}
+
+fn writing(job: &Job, side: u64) -> Vec<u8> {
+    let mut envelopes = envelope::envelopes(job).unwrap_or_default();
+    envelopes.retain(|envelope| envelope.side == side);
+    schedule::writing(&Required::new(&envelopes, job.continuity).runs())
+}
+
+fn put(bytes: &[u8], out: &mut [u8]) -> Result<u64, Refusal> {
+    let room = out.get_mut(..bytes.len());
+    let room = room.ok_or(Refusal::output_short(bytes.len()))?;
+    room.copy_from_slice(bytes);
+    Ok(bytes.len() as u64)
+}
+
+// Open.
+
+fn wrong_openings() -> Vec<(&'static str, Calls)> {
+    // The right opening, with its reply or the memory changed afterwards; the
+    // memory of before is there too.
+    let after = |change: fn(&mut Reply, &mut Memory, &Memory, &[u8])| {
+        with_open(Box::new(move |memory, bytes| {
+            let before = memory.clone();
+            let mut reply = reply(open(&mut memory.job, bytes));
+            change(&mut reply, memory, &before, bytes);
+            reply
+        }))
+    };
+    vec![
+        (
+            "a refused opening clears the memory",
+            after(|reply, memory, _, _| {
+                if reply.number != 0 {
+                    memory.job.fill(0);
+                }
+            }),
+        ),
+        (
+            "an opening refused 7 keeps what it has read",
+            after(|reply, memory, _, bytes| {
+                if reply.number == 7 {
+                    let _ = open(&mut memory.job, &bytes[..reply.value as usize]);
+                }
+            }),
+        ),
+        (
+            "an opening tests the memory of before",
+            after(|reply, memory, before, _| {
+                if reply.number == 0 && memory::read(&before.job).is_none() {
+                    *memory = before.clone();
+                    *reply = BROKEN;
+                }
+            }),
+        ),
+        (
+            "an opening leaves the places as they were",
+            after(|reply, memory, before, _| {
+                if reply.number == 0 {
+                    memory.job[HEADER_BYTES..].copy_from_slice(&before.job[HEADER_BYTES..]);
+                }
+            }),
+        ),
+        (
+            "the hazards of before stand after an opening",
+            after(|reply, memory, before, _| {
+                if let (0, Some(mut open)) = (reply.number, memory::read(&memory.job)) {
+                    let standing = memory::read(&before.job).map(|before| before.standing);
+                    open.standing = standing.unwrap_or_default();
+                    memory::write(&open, &mut memory.job);
+                }
+            }),
+        ),
+        (
+            "a job with hazards opened without them",
+            after(|reply, memory, _, bytes| {
+                if let (3, Ok(read)) = (reply.number, job::read(bytes)) {
+                    let _ = open(&mut memory.job, &header_bytes(&read));
+                    *reply = DONE;
+                }
+            }),
+        ),
+        (
+            "a job with hazards opened with them",
+            after(|reply, memory, _, bytes| {
+                if let (3, Ok(_), Ok(read)) = (reply.number, planned(bytes, 0), job::read(bytes)) {
+                    let header = OpenJob::open(&header_bytes(&read));
+                    if let Ok(mut open) = header {
+                        open.standing = (0..=255).zip(read.hazards).collect();
+                        memory::write(&open, &mut memory.job);
+                        *reply = DONE;
+                    }
+                }
+            }),
+        ),
+        (
+            "a hazard count above 0 with the bytes behind it",
+            after(|reply, _, _, bytes| {
+                if (reply.number, reply.value) == (3, job::COUNT)
+                    && let Err(Refusal { number, value }) = job::read(bytes)
+                {
+                    (reply.number, reply.value) = (number, value);
+                }
+            }),
+        ),
+        (
+            "a hazard count above 0 with 0 in place of its number",
+            after(|reply, _, _, _| {
+                if (reply.number, reply.value) == (3, job::COUNT) {
+                    reply.value = 0;
+                }
+            }),
+        ),
+        (
+            "bytes behind the header not looked at",
+            after(|reply, memory, _, bytes| {
+                if reply.number == 7 {
+                    let _ = open(&mut memory.job, &bytes[..reply.value as usize]);
+                    *reply = DONE;
+                }
+            }),
+        ),
+        (
+            "the job's bytes changed by an opening",
+            with_open(Box::new(|memory, bytes| {
+                let reply = reply(open(&mut memory.job, bytes));
+                if let Some(last) = bytes.last_mut() {
+                    *last ^= 1;
+                }
+                reply
+            })),
+        ),
+        (
+            "the bytes read said when opened",
+            after(|reply, _, _, bytes| {
+                if reply.number == 0 {
+                    reply.value = bytes.len() as u64;
+                }
+            }),
+        ),
+    ]
+}
+
+/// The bytes of the same header without hazards.
+fn header_bytes(job: &Job) -> Vec<u8> {
+    let mut numbers = memory::header_numbers(job).to_vec();
+    numbers.push(0);
+    number_bytes(&numbers)
+}
+
+// The test of the memory.
+
+/// A rule that memory may break.
+#[derive(Clone, Copy, Debug, PartialEq, Eq)]
+pub enum Rule {
+    Kind,
+    /// Another header number is in its range.
+    Header,
+    /// At most 256 hazards.
+    Count,
+    /// A name is a byte.
+    Name,
+    /// No name stands twice, one behind the other.
+    Twice,
+    /// Names rise.
+    Order,
+    /// Refusals 4, 5 and 6 of a hazard that stands.
+    Field,
+    Near,
+    OffRoad,
+    /// A place that is not used is all 0.
+    Unused,
+}
+
+/// Every rule that the memory breaks. Where the header or the count does, the
+/// hazards are not looked at.
+pub fn broken(memory: &[u8; BYTES]) -> Vec<Rule> {
+    let numbers: Vec<u64> = (0..HEADER).map(|place| number_at(memory, place)).collect();
+    let mut list = Vec::new();
+    for place in 0..HEADER {
+        let (low, high) = range(&numbers, place);
+        if !(low..=high).contains(&numbers[place]) {
+            list.push(match place {
+                0 => Rule::Kind,
+                _ if place == HEADER - 1 => Rule::Count,
+                _ => Rule::Header,
+            });
+        }
+    }
+    if list.iter().any(|rule| *rule != Rule::Kind) {
+        return list;
+    }
+    let count = numbers[HEADER - 1] as usize;
+    let used = HEADER_BYTES + PLACE_BYTES * count;
+    let header = job_of(&numbers);
+    let mut previous = None;
+    for place in 0..count {
+        let name = name_at(memory, place);
+        if name > 255 {
+            list.push(Rule::Name);
+        }
+        if previous == Some(name) {
+            list.push(Rule::Twice);
+        }
+        if previous > Some(name) {
+            list.push(Rule::Order);
+        }
+        previous = Some(name);
+        list.extend(broken_by(&header, &hazard_at(memory, place)));
+    }
+    if memory[used..].iter().any(|byte| *byte != 0) {
+        list.push(Rule::Unused);
+    }
+    list
+}
+
+/// The job of these header numbers, which are in their ranges.
+fn job_of(numbers: &[u64]) -> Job {
+    Job {
+        road_begin: numbers[1],
+        road_end: numbers[2],
+        runout_forward: numbers[3],
+        runout_opposite: numbers[4],
+        clear_zone: numbers[5],
+        centreline: numbers[6],
+        barrier_offset: numbers[7],
+        deflection: numbers[8],
+        flare_along: numbers[9],
+        flare_across: numbers[10],
+        straight: numbers[11],
+        continuity: numbers[12],
+        hazards: Vec::new(),
+    }
+}
+
+fn hazard_at(memory: &[u8; BYTES], place: usize) -> Hazard {
+    let at = HEADER_BYTES + PLACE_BYTES * place;
+    Hazard {
+        side: memory[at + 18].into(),
+        start: four_at(memory, at),
+        end: four_at(memory, at + 4),
+        near: four_at(memory, at + 8),
+        far: four_at(memory, at + 12),
+        level: memory[at + 19].into(),
+    }
+}
+
+fn broken_by(header: &Job, hazard: &Hazard) -> Option<Rule> {
+    if !job::in_range(header, hazard) {
+        return Some(Rule::Field);
+    }
+    match envelope::envelope(header, 0, hazard) {
+        Err(Refusal { number: 5, .. }) => Some(Rule::Near),
+        Err(_) => Some(Rule::OffRoad),
+        Ok(_) => None,
+    }
+}
+
+fn wrong_tests() -> Vec<(&'static str, Calls)> {
+    let mut list = vec![
+        (
+            "the memory not tested by add",
+            with_add(Box::new(|memory, name, hazard| {
+                match reply(add(&mut memory.job, name, hazard)) {
+                    BROKEN => DONE,
+                    reply => reply,
+                }
+            })),
+        ),
+        (
+            "the memory not tested by a withdrawal",
+            with_withdraw(Box::new(|memory, name| {
+                match reply(withdraw(&mut memory.job, name)) {
+                    BROKEN => DONE,
+                    reply => reply,
+                }
+            })),
+        ),
+        (
+            "the memory not tested by a schedule",
+            with_schedule(Box::new(|memory, side, room, lent| {
+                match reply(open_schedule(&memory.job, side, &mut room[lent])) {
+                    BROKEN => Reply {
+                        number: 9,
+                        value: 1,
+                    },
+                    reply => reply,
+                }
+            })),
+        ),
+        (
+            "broken memory refused with the header number",
+            with_withdraw(Box::new(|memory, name| {
+                let mut reply = reply(withdraw(&mut memory.job, name));
+                if reply == BROKEN && broken(&memory.job).contains(&Rule::Kind) {
+                    reply.value = 1;
+                }
+                reply
+            })),
+        ),
+    ];
+    let names = [
+        ("the kind in the memory not tested", Rule::Kind),
+        ("the header in the memory not tested", Rule::Header),
+        ("a count above 256 in the memory taken", Rule::Count),
+        ("a name above 255 in the memory taken", Rule::Name),
+        ("a name twice in the memory taken", Rule::Twice),
+        ("names out of order in the memory taken", Rule::Order),
+        ("fields of hazards in the memory not tested", Rule::Field),
+        ("a hazard too near in the memory taken", Rule::Near),
+        ("a hazard off the road in the memory taken", Rule::OffRoad),
+        ("places that are not used not tested", Rule::Unused),
+    ];
+    list.extend(names.map(|(name, rule)| (name, untested(rule))));
+    list
+}
+
+/// Memory that breaks this rule alone is taken by every call: nothing is done
+/// with it, and the reply says that all is well.
+fn untested(rule: Rule) -> Calls {
+    let taken = move |memory: &Memory, reply: Reply| {
+        let broken = broken(&memory.job);
+        let alone = !broken.is_empty() && broken.iter().all(|other| *other == rule);
+        if alone { DONE } else { reply }
+    };
+    Calls {
+        add: Box::new(move |memory, name, hazard| {
+            let reply = reply(add(&mut memory.job, name, hazard));
+            taken(memory, reply)
+        }),
+        withdraw: Box::new(move |memory, name| {
+            let reply = reply(withdraw(&mut memory.job, name));
+            taken(memory, reply)
+        }),
+        open_schedule: Box::new(move |memory, side, room, lent| {
+            let reply = reply(open_schedule(&memory.job, side, &mut room[lent]));
+            taken(memory, reply)
+        }),
+        ..right()
+    }
+}
+
+#[cfg(test)]
+mod tests {
+    use super::*;
+    use crate::Random;
+    use crate::jobs;
+
+    /// The rules, asked one by one, and the reference's reading find the same
+    /// memory right.
+    #[test]
+    fn the_rules_are_those_of_the_reference() {
+        let mut random = Random::new(1, "rules");
+        let [mut right, mut wrong] = [0; 2];
+        for _ in 0..3_000 {
+            let draft = jobs::small(&mut random);
+            let Ok(mut open) = OpenJob::open(&draft.clone().with_hazards(&[]).bytes()) else {
+                continue;
+            };
+            for [side, start, end, near, far, level] in draft.hazards {
+                let hazard = Hazard {
+                    side,
+                    start,
+                    end,
+                    near,
+                    far,
+                    level,
+                };
+                let _ = open.add(random.draw() as u8, hazard);
+            }
+            let mut memory = [0; BYTES];
+            memory::write(&open, &mut memory);
+            let used = HEADER_BYTES + PLACE_BYTES * (open.standing.len() + 1);
+            for _ in 0..random.below(3) {
+                memory[random.index(used)] ^= 1 << random.below(8);
+            }
+            let is_right = memory::read(&memory).is_some();
+            assert_eq!(
+                broken(&memory).is_empty(),
+                is_right,
+                "{:?}",
+                broken(&memory)
+            );
+            right += u64::from(is_right);
+            wrong += u64::from(!is_right);
+        }
+        assert!(right > 500 && wrong > 500, "{right} {wrong}");
+    }
+}

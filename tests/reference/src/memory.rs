@@ -1,0 +1,136 @@
+//! The memory of an open job, byte by byte: the header's numbers with the count
+//! of hazards that stand, then 256 places. The hazards stand in the first
+//! places, in rising order of their names; every other place is all 0. Numbers
+//! are written lowest byte first, without padding.
+
+use crate::envelope;
+use crate::job::{self, Hazard, Job};
+use crate::number;
+use crate::open::OpenJob;
+
+/// Numbers of the header, four bytes each; the last is the count.
+pub const HEADER: usize = 14;
+
+/// The bytes of the header.
+pub const HEADER_BYTES: usize = 4 * HEADER;
+
+/// Places for hazards.
+pub const PLACES: usize = 256;
+
+/// The bytes of a place: s, e, n and f in four bytes each, the name in two, the
+/// side and the level in one each.
+pub const PLACE_BYTES: usize = 20;
+
+/// The bytes of the whole memory.
+pub const BYTES: usize = HEADER_BYTES + PLACES * PLACE_BYTES;
+
+/// Writes an open job over the whole memory.
+pub fn write(open: &OpenJob, memory: &mut [u8]) {
+    let mut bytes = Vec::new();
+    let count = open.standing.len() as u64;
+    for value in header_numbers(&open.header).into_iter().chain([count]) {
+        bytes.extend(four_bytes(value));
+    }
+    for (name, hazard) in &open.standing {
+        for value in [hazard.start, hazard.end, hazard.near, hazard.far] {
+            bytes.extend(four_bytes(value));
+        }
+        bytes.extend([*name, 0, hazard.side as u8, hazard.level as u8]);
+    }
+    bytes.resize(BYTES, 0);
+    memory.copy_from_slice(&bytes);
+}
+
+/// The numbers of a header in the paper's order, without the hazard count.
+pub fn header_numbers(job: &Job) -> [u64; HEADER - 1] {
+    [
+        1,
+        job.road_begin,
+        job.road_end,
+        job.runout_forward,
+        job.runout_opposite,
+        job.clear_zone,
+        job.centreline,
+        job.barrier_offset,
+        job.deflection,
+        job.flare_along,
+        job.flare_across,
+        job.straight,
+        job.continuity,
+    ]
+}
+
+/// Every value of an accepted job is below 2 to the 32nd.
+fn four_bytes(value: u64) -> [u8; 4] {
+    (value as u32).to_le_bytes()
+}
+
+/// The open job that this memory is; none where the memory is not what `write`
+/// makes of a header and hazards that are accepted.
+pub fn read(memory: &[u8]) -> Option<OpenJob> {
+    if memory.len() != BYTES {
+        return None;
+    }
+    let (header, places) = memory.split_at(HEADER_BYTES);
+    let numbers: Vec<u64> = header.chunks(4).map(value).collect();
+    let count = *numbers.last()?;
+    if count > PLACES as u64 {
+        return None;
+    }
+    let (used, unused) = places.split_at(count as usize * PLACE_BYTES);
+    if unused.iter().any(|byte| *byte != 0) {
+        return None;
+    }
+    let places: Vec<(u64, Hazard)> = used.chunks(PLACE_BYTES).map(place).collect();
+    let rising = places.windows(2).all(|pair| pair[0].0 < pair[1].0);
+    let in_a_byte = places.iter().all(|(name, _)| *name <= 255);
+    if !rising || !in_a_byte {
+        return None;
+    }
+    let hazards: Vec<Hazard> = places.iter().map(|(_, hazard)| *hazard).collect();
+    let job = accepted(&numbers, &hazards)?;
+    let names = places.iter().map(|(name, _)| *name as u8);
+    Some(OpenJob {
+        standing: names.zip(hazards).collect(),
+        header: Job {
+            hazards: Vec::new(),
+            ..job
+        },
+    })
+}
+
+/// The value of a few bytes, lowest first.
+fn value(bytes: &[u8]) -> u64 {
+    let highest_first = bytes.iter().rev();
+    highest_first.fold(0, |value, byte| value << 8 | u64::from(*byte))
+}
+
+/// The name and the hazard of a place.
+fn place(bytes: &[u8]) -> (u64, Hazard) {
+    let hazard = Hazard {
+        start: value(&bytes[0..4]),
+        end: value(&bytes[4..8]),
+        near: value(&bytes[8..12]),
+        far: value(&bytes[12..16]),
+        side: value(&bytes[18..19]),
+        level: value(&bytes[19..20]),
+    };
+    (value(&bytes[16..18]), hazard)
+}
+
+/// The job of these header numbers and hazards, if it is an accepted one: its
+/// bytes are read as any job's are.
+fn accepted(header: &[u64], hazards: &[Hazard]) -> Option<Job> {
+    let mut bytes = Vec::new();
+    for value in header {
+        number::write(*value, &mut bytes);
+    }
+    for hazard in hazards {
+        for value in job::fields(hazard) {
+            number::write(value, &mut bytes);
+        }
+    }
+    let job = job::read(&bytes).ok()?;
+    envelope::envelopes(&job).ok()?;
+    Some(job)
+}
