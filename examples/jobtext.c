@@ -12,14 +12,17 @@
  *     flare 15 1                                  along, across; 0 across: none
  *     straight 13340                              before the flare
  *     continuity 0                                limit
+ *     panel 4000                                  length; may be left out
  *     hazard right 200000 210000 5000 9000 3      side, first and end station,
  *                                                 near and far offset, level
  *
  * One field on a line; '#' begins a comment; empty lines do not count.  The
- * header's lines may stand in any order and each has to be there once; hazards
- * keep theirs.  Two more lines may be given, to say something else than what
- * is usual: `kind`, which is 1, and `hazards`, the hazard count, which is that
- * of the hazard lines.
+ * header's lines may stand in any order and each has to be there once, but the
+ * panel length may be left out: with it the job is of kind 2, without it of
+ * kind 1.  Hazards keep their order.  Two more lines may be given, to say
+ * something else than what is usual: `kind`, which is the first number and
+ * nothing else, and `hazards`, the hazard count, which is that of the hazard
+ * lines.
  *
  * A number is anything that 64 bits hold, and a side may be a number too.
  * Whether a number is right is for the engine to judge, not for this program.
@@ -33,7 +36,8 @@
 
 #include "number_form.h"
 
-enum { HEADER_NUMBERS = 14, HAZARD_NUMBERS = 6, KIND = 1, HAZARD_COUNT = 14 };
+/* The header numbers of kind 2: kind 1 has them without the panel length. */
+enum { HEADER_NUMBERS = 15, HAZARD_NUMBERS = 6, KIND = 1, PANEL = 14, HAZARD_COUNT = 15 };
 /* No line has more than seven words; one more is kept, so that it shows. */
 enum { LINE_LENGTH = 1000, WORDS_MAX = 8 };
 
@@ -56,11 +60,13 @@ static const struct field fields[] = {
     {"flare", 10, 2},
     {"straight", 12, 1},
     {"continuity", 13, 1},
+    {"panel", PANEL, 1},
     {"hazards", HAZARD_COUNT, 1},
 };
 static const size_t FIELDS = sizeof fields / sizeof fields[0];
 
-/* The job so far: header numbers by their number, hazards as bytes. */
+/* The job so far: header numbers by their number, hazards as bytes.  A number
+   that is not given is not written. */
 struct job {
     uint64_t header[HEADER_NUMBERS + 1];
     int given[HEADER_NUMBERS + 1];
@@ -189,16 +195,16 @@ static void read_text(struct job *job)
         stop("standard input cannot be read", "");
 }
 
-/* The two numbers that may be left out, and those that may not. */
+/* The numbers that may be left out, and those that may not. */
 static void complete(struct job *job)
 {
     if (!job->given[KIND])
-        job->header[KIND] = 1;
+        job->header[KIND] = job->given[PANEL] ? 2 : 1;
     if (!job->given[HAZARD_COUNT])
         job->header[HAZARD_COUNT] = job->hazard_lines;
     job->given[KIND] = job->given[HAZARD_COUNT] = 1;
     for (size_t i = 0; i < FIELDS; i++)
-        if (!job->given[fields[i].number])
+        if (fields[i].number != PANEL && !job->given[fields[i].number])
             stop("the text ends without the field", fields[i].name);
 }
 
@@ -207,7 +213,8 @@ static int write_bytes(const struct job *job)
     uint8_t header[HEADER_NUMBERS * NUMBER_BYTES_MAX];
     size_t length = 0;
     for (size_t number = 1; number <= HEADER_NUMBERS; number++)
-        length += put_number(header + length, job->header[number]);
+        if (job->given[number])
+            length += put_number(header + length, job->header[number]);
     fwrite(header, 1, length, stdout);
     if (job->hazards_len > 0)
         fwrite(job->hazards, 1, job->hazards_len, stdout);

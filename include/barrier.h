@@ -50,10 +50,11 @@
  * ---------------------------------------------------------------------------
  * THE JOB
  *
- * Fourteen header numbers:
+ * A job is of kind 1, or of kind 2 if its approaches are to have whole panels.
+ * The header begins with thirteen numbers, whatever the kind:
  *
  *     no.  letter  meaning                                  range
- *      1           kind                                     1
+ *      1           kind                                     1 to 2
  *      2     A     road begin                               0 to 1999999999
  *      3     B     road end                                 A + 1 to 2000000000
  *      4     LF    runout length of forward traffic,
@@ -69,9 +70,17 @@
  *     12     T     straight barrier before the flare,
  *                  measured upstream from the hazard        0 to 100000
  *     13     G     continuity limit                         0 to 200000
+ *
+ * and ends, for kind 1, with
+ *
  *     14     h     hazard count                             0 to 256
  *
- * then six numbers for each of the h hazards:
+ * and for kind 2 with
+ *
+ *     14           panel length                             1 to 10000
+ *     15     h     hazard count                             0 to 256
+ *
+ * Then six numbers for each of the h hazards:
  *
  *          letter  meaning                                  range
  *                  side: 0 right, 1 left                    0 to 1
@@ -104,15 +113,26 @@
  * rounded up to the next whole millimetre if not whole.  Where the same with
  * b = 0 is at most T, the barrier ends in its straight part, before the flare
  * begins, and that is the approach length: it is tested for each traffic with
- * its own L, R and m.  So no approach is longer than its runout length.
+ * its own L, R and m.  So this length is at most the runout length.
  *
  *     L 101000, R 9000, m 3000, flare 1 across for 15 along:
  *     without flare 67334; with T = 13340 the barrier flares, length 44227;
  *     with T = 67334 or more it does not, length 67334
  *
+ * Last, each approach length is raised to the least multiple of the panel
+ * length that is not smaller, each traffic's by itself.  It can then be above
+ * the runout length, by less than a panel.  Kind 1 acts as panel length 1,
+ * which raises nothing.
+ *
+ *     panel length 4000: 44227 is raised to 48000, twelve panels, and 67334 to
+ *     68000, seventeen; 44000 is eleven panels and stays
+ *
  * The envelope of a reached hazard is [s, e), lengthened by each approach
- * length at the end that this traffic approaches.  A hazard that nobody
- * reaches has no envelope.
+ * length, as raised, at the end that this traffic approaches.  A hazard that
+ * nobody reaches has no envelope.
+ *
+ *     [200000, 210000) approached from lower stations: with 44227 the envelope
+ *     is [155773, 210000), with 48000 it is [152000, 210000)
  *
  * For each side and level v, take the millimetres in envelopes of level v or
  * higher, and add every gap between them that is shorter than G.  The required
@@ -149,10 +169,10 @@
  *     barrier_withdraw(&job, 7);                    7 is free again
  *     barrier_open_schedule(&job, BARRIER_RIGHT, out, out_len);
  *
- * (each of them with its reply looked at).  Opening takes the bytes of a job
- * with hazard count 0.  After whatever list of calls, the schedule is, byte
- * for byte, the one that barrier_plan writes for a job of the same header and
- * the hazards added and not withdrawn since, in any order.
+ * (each of them with its reply looked at).  Opening takes the bytes of a job,
+ * of either kind, with hazard count 0.  After whatever list of calls, the
+ * schedule is, byte for byte, the one that barrier_plan writes for a job of the
+ * same header and the hazards added and not withdrawn since, in any order.
  *
  *   - A name stands once.  A withdrawn name can be added again, with the same
  *     hazard or another.  One hazard may stand under two names.
@@ -170,10 +190,11 @@
  * The memory may hold anything when a call gets it.  barrier_open does not
  * look at what it held.  Every other call tests all of it first, and refuses
  * it with 3 and 0 where it is not an open job: a header number outside its
- * range, a name twice, out of order or above 255, a hazard that an add would
- * refuse with 4, 5 or 6, or anything but 0 in a place where no hazard stands.
- * So memory that was never opened, or written over since, is refused; or it
- * happens to be what some calls would have left, and is taken for that.
+ * range, a panel length other than 1 in kind 1, a name twice, out of order or
+ * above 255, a hazard that an add would refuse with 4, 5 or 6, or anything but
+ * 0 in a place where no hazard stands.  So memory that was never opened, or
+ * written over since, is refused; or it happens to be what some calls would
+ * have left, and is taken for that.
  *
  * ---------------------------------------------------------------------------
  * REFUSALS, AND THEIR ORDER
@@ -186,9 +207,8 @@
  *      2      byte index where the      a number's fifth byte has the top bit
  *             number begins             set, or its value is above 4294967295,
  *                                       or it is not in shortest form
- *      3      header number, 1 to 14    header number outside its range; when
- *                                       opening, 14 also for a hazard count
- *                                       above 0
+ *      3      header number, 1 to 14,   header number outside its range; when
+ *             for kind 2 to 15          opening, also a hazard count above 0
  *             0                         the memory is not an open job
  *      4      hazard index from 0, or   hazard field outside its range
  *             the name (add)
@@ -261,8 +281,8 @@
  * thread changes a buffer that another call is using.  So on one open job only
  * one call at a time may open, add or withdraw, and no other call with it;
  * calls on different open jobs do not touch each other.  One call of
- * barrier_plan takes less than 23 KiB of stack, each of those on an open job
- * less than 40 KiB, each of the others less than 2 KiB.
+ * barrier_plan takes at most 24 KiB of stack, each of those on an open job at
+ * most 40 KiB, each of the others less than 2 KiB.
  *
  * ---------------------------------------------------------------------------
  * LINKING
@@ -272,6 +292,10 @@
  * x86-64, position independent, so that it links into programs and shared
  * libraries alike, exports the eight calls alone, and asks the C library for
  * nothing but block copies and fills (memcpy, memset and their kin).
+ *
+ * A program that has an open job is compiled with the header of the archive
+ * that it links.  The open job has 5176 bytes in version 0.4.0 and 5180 from
+ * 0.5.0 on, so a program of 0.4.0 has to be compiled anew.
  */
 #ifndef BARRIER_H
 #define BARRIER_H
@@ -284,7 +308,7 @@ extern "C" {
 #endif
 
 /* The version of the engine that this header belongs to. */
-#define BARRIER_VERSION "0.4.0"
+#define BARRIER_VERSION "0.5.0"
 
 /*
  * CONSTANTS
@@ -295,10 +319,10 @@ extern "C" {
  *
  * BARRIER_JOB_MAX is how much of its input the program `barrier` passes on.
  * No accepted job is that long: by the ranges above, the header takes at most
- * 38 bytes and each of 256 hazards at most 18.  BARRIER_JOB_LONGEST is that
- * sum, 38 + 256 * 18, and there are accepted jobs of exactly this length.  The
- * calls take jobs of any length, and refuse a longer one for what is wrong
- * with it.
+ * 40 bytes (38 for kind 1) and each of 256 hazards at most 18.
+ * BARRIER_JOB_LONGEST is that sum, 40 + 256 * 18, and there are accepted jobs
+ * of exactly this length.  The calls take jobs of any length, and refuse a
+ * longer one for what is wrong with it.
  *
  * BARRIER_OPEN_STACK_MAX bytes of stack suffice for each call on an open job,
  * BARRIER_STACK_MAX for each of the others.  This is measured of the archive,
@@ -306,7 +330,7 @@ extern "C" {
  */
 #define BARRIER_SCHEDULE_MAX 5623
 #define BARRIER_JOB_MAX 8192
-#define BARRIER_JOB_LONGEST 4646
+#define BARRIER_JOB_LONGEST 4648
 #define BARRIER_HAZARDS_MAX 256
 #define BARRIER_NAME_MAX 255
 #define BARRIER_RUNS_MAX 511
@@ -510,10 +534,10 @@ typedef struct {
 } barrier_place;
 
 /*
- * An open job: 5176 bytes, aligned to 4, without padding.  Its fields are the
- * engine's, as a place's are: the header's numbers in the header table's
- * order, then 256 places.  The hazards stand in the first `count` of them, in
- * rising order of their names; every other place is 0.
+ * An open job: 5180 bytes, aligned to 4, without padding.  Its fields are the
+ * engine's, as a place's are: the header's numbers in the order of kind 2,
+ * panel length 1 for kind 1, then 256 places.  The hazards stand in the first
+ * `count` of them, in rising order of their names; every other place is 0.
  */
 typedef struct {
     uint32_t kind;
@@ -529,6 +553,7 @@ typedef struct {
     uint32_t across;
     uint32_t straight;
     uint32_t continuity;
+    uint32_t panel;
     uint32_t count;
     barrier_place hazards[BARRIER_HAZARDS_MAX];
 } barrier_open_job;
@@ -542,8 +567,8 @@ typedef struct {
  * Done: value is 0, and the whole of the open job is written.
  * Refused: 1, 2, 3 or 7.  The open job stays as it was.
  *
- * A hazard count above 0 is refused 3 with 14, at that number: nothing behind
- * it is read.
+ * A hazard count above 0 is refused 3 with its header number (14, for kind 2
+ * 15), at that number: nothing behind it is read.
  */
 barrier_reply barrier_open(barrier_open_job *job, const uint8_t *bytes, size_t bytes_len);
 

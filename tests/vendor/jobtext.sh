@@ -1,6 +1,7 @@
 #!/bin/sh
-# The text converter: the printed job's bytes, wrong numbers passed on to the
-# engine, and text that it cannot read refused with its line.
+# The text converter: the printed job's bytes, those of a job with panels, wrong
+# numbers passed on to the engine, and text that it cannot read refused with its
+# line.
 set -eu
 jobtext=$BUILD/jobtext
 printed=examples/jobs/printed.job
@@ -12,15 +13,27 @@ fail() {
     exit 1
 }
 
+hex() { # FILE
+    od -An -v -tx1 "$1" | tr -d ' \n' | tr a-f A-F
+}
+
 # The first program writes the same job from its numbers.
 "$jobtext" <"$printed" >"$tmp/printed"
-bytes=$(od -An -v -tx1 "$tmp/printed" | tr -d ' \n' | tr a-f A-F)
+bytes=$(hex "$tmp/printed")
 stored=$(sed -n 's/^  job://p' examples/example.out | tr -d ' ')
 [ "$bytes" = "$stored" ] || fail "the printed job is $bytes"
 
 # A text that came through a system with other line ends is the same.
 awk '{ printf "%s\r\n", $0 }' "$printed" | "$jobtext" >"$tmp/other"
 cmp "$tmp/printed" "$tmp/other"
+
+# A panel length, 4,000 here, makes the job one of kind 2 and stands behind the
+# continuity limit, the 21st byte, wherever its line does.
+panels=02$(echo "$bytes" | cut -c 3-42)A01F$(echo "$bytes" | cut -c 43-)
+for place in 3 14; do
+    sed "${place}s/.*/panel 4000/" "$printed" | "$jobtext" >"$tmp/panels"
+    [ "$(hex "$tmp/panels")" = "$panels" ] || fail "with a panel length in line $place the job is $(hex "$tmp/panels")"
+done
 
 # Wrong numbers are encoded; the engine judges. Arguments: a sed command for
 # the printed job, a line behind it, and what the engine says.
@@ -32,7 +45,15 @@ judged() {
 judged '' 'hazards 2' 'refused 1 34'
 judged '/^clear-zone/d' 'clear-zone 4294967296' 'refused 2 9'
 judged '/^clear-zone/d' 'clear-zone 18446744073709551615' 'refused 2 9'
-judged '' 'kind 2' 'refused 3 1'
+judged '' 'kind 0' 'refused 3 1'
+judged '' 'kind 3' 'refused 3 1'
+judged '' 'panel 0' 'refused 3 14'
+judged '' 'panel 10001' 'refused 3 14'
+judged '3s/.*/hazards 257/' 'panel 10000' 'refused 3 15'
+# A kind line changes the first number alone: of kind 1 the panel length is
+# taken for the hazard count, of kind 2 the count for a panel length.
+judged '3s/.*/kind 1/' 'panel 4000' 'refused 3 14'
+judged '' 'kind 2' 'refused 7 23'
 judged '/^road/d' 'road 5 5' 'refused 3 3'
 judged 's/^hazard right/hazard 2/' '' 'refused 4 0'
 judged 's/ 5000 / 3999 /' '' 'refused 5 0'
@@ -61,6 +82,9 @@ unread 4 '4s/.*/road 0 1 2 3 4 5 6 7 8/'
 unread 5 '4p'
 unread 16 's/^hazard right/hazard middle/'
 unread 16 's/^\(hazard right.*\) 3$/\1/'
+unread 15 '14s/.*/panel 4000/;14p'
+unread 14 '14s/.*/panel/'
+unread 14 '14s/.*/panel 4000 4000/'
 unread "$last" '/^flare/s/^/#/'
 printf 'road 0\000 1\n' | "$jobtext" >"$tmp/job" 2>"$tmp/said" && fail "a zero byte was read"
 grep -q '^jobtext: line 1: ' "$tmp/said" || fail "a zero byte: $(cat "$tmp/said")"

@@ -24,11 +24,13 @@ header() {
         continuity $2"
 }
 
-# Every number as long as its range lets it be. The hazards stand outside the
-# clear zone, so nothing else is wrong with the job.
+# Every number as long as its range lets it be, of kind 2, which has one more.
+# The hazards stand outside the clear zone, so nothing else is wrong with the
+# job.
 {
     echo "road 1000000000 2000000000"
     header 200000 200000
+    echo "panel 10000"
     awk 'BEGIN { for (i = 0; i < 256; i++) print "hazard right 1000000000 2000000000 60000 60000 6" }'
 } | "$BUILD/jobtext" >"$tmp/longest"
 [ "$(wc -c <"$tmp/longest")" -eq "$(constant BARRIER_JOB_LONGEST)" ] || fail "the longest job"

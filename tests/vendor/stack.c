@@ -135,10 +135,12 @@ static barrier_hazard hazard_at(size_t *at)
    one is left for the call that is measured. */
 static void open_planned_job(void)
 {
+    /* Kind 2 has the panel length too before its hazard count. */
+    const size_t before_count = job[0] == 2 ? 14 : 13;
     size_t at = 0, i;
     uint64_t hazards;
 
-    for (i = 0; i < 13; i++)
+    for (i = 0; i < before_count; i++)
         header_length += put_number(header + header_length, get_number(job, &at));
     header[header_length++] = 0;
     hazards = get_number(job, &at);

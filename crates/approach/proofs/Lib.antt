@@ -1,2 +1,3 @@
 pub mod FormulaLaws
 pub mod ApproachLaws
+pub mod PanelLaws

@@ -21,7 +21,7 @@ approachLength a b T L R m =
     let unflared = formulaLength a 0 T L R m in
     if leb unflared T then unflared else formulaLength a b T L R m
 
--- The same before rounding, multiplied out: no division. A distance d below the formula's exact value.
+-- The formula before rounding, multiplied out: no division. A distance d below its exact value.
 abbrev pub BelowFormula : (a b T L R m d : ℕ) → Type 0
 BelowFormula a b T L R m d = d * (b * L + a * R) < L * (a * R + b * T - a * m)
 

@@ -1,2 +1,3 @@
 pub mod Approach
+pub mod Panel
 pub mod Steps

@@ -1,6 +1,8 @@
-// The approach length, exact over its whole domain: the promise that planning, schedule and program cite.
+// The approach length in whole panels, exact over its whole domain: the promise that planning, schedule and program cite.
 ghost use mathlib.Core.Path.{_≡_};
+ghost use Prim.Native.Nat.{_≤_};
 ghost use Rattle.approach.specs.Approach.{formulaLength, approachLength, Domain};
+ghost use Rattle.approach.specs.Panel.{raised, raisedLength};
 ghost use Rattle.approach.specs.Steps.{flareAcross};
 
 // The formula, rounded up; no step of it leaves 64 bits.
@@ -42,8 +44,8 @@ fn whole_length(along: u64, across: u64, straight: u64, runout: u64, reach: u64,
     formula_length(along, flare, straight, runout, reach, offset)
 }
 
-// The same in 32 bits. Flare `across` for `along` (b for a) after a straight part T; runout length L, hazard reach R and barrier offset m.
-pub fn domain_length(
+// The same in 32 bits.
+fn domain_length(
     along: u32,
     across: u32,
     straight: u32,
@@ -63,4 +65,37 @@ pub fn domain_length(
         offset as u64,
     );
     length as u32
+}
+
+// A length raised to whole panels. Panel length 1, that of every kind 1 job, spares the division.
+fn raised_to(panel: u32, length: u32) -> u32
+    requires { ⌜ 1 ≤ panel ⌝ }
+    requires { ⌜ panel ≤ 10000 ⌝ }
+    requires { ⌜ length ≤ 200000 ⌝ }
+    ensures { λ r. ⌜ r ≡ raised panel length ⌝ }
+{
+    if panel <= 1 {
+        return length;
+    }
+    (length + (panel - 1)) / panel * panel
+}
+
+// The approach length in whole panels. Flare `across` for `along` (b for a) after a straight part T; runout length L, hazard reach R and
+// barrier offset m.
+pub fn raised_length(
+    panel: u32,
+    along: u32,
+    across: u32,
+    straight: u32,
+    runout: u32,
+    reach: u32,
+    offset: u32,
+) -> u32
+    requires { ⌜ 1 ≤ panel ⌝ }
+    requires { ⌜ panel ≤ 10000 ⌝ }
+    requires { ⌜ Domain along across straight runout reach offset ⌝ }
+    ensures { λ r. ⌜ r ≡ raisedLength panel along across straight runout reach offset ⌝ }
+{
+    let length = domain_length(along, across, straight, runout, reach, offset);
+    raised_to(panel, length)
 }

@@ -14,8 +14,9 @@ use Rattle.job.specs.Job.{Job}
 use Rattle.runs.specs.declared.Stretch.{Stretch}
 use Rattle.runs.specs.Level.{Has}
 use Rattle.runs.proofs.RunLaws.{ShownRun, shown-run}
-use Rattle.approach.specs.Approach.{approachLength}
-use Rattle.approach.proofs.ApproachLaws.{approach-below, divisor-some}
+use Rattle.approach.specs.Panel.{raisedLength}
+use Rattle.approach.proofs.ApproachLaws.{divisor-some}
+use Rattle.approach.proofs.PanelLaws.{raised-length-below}
 use Rattle.planning.specs.Envelope.{Traffic, runout, reaches, reachOf, offsetOf, Upstream, BelowApproach, acceptJob}
 use Rattle.planning.specs.Required.{jobRuns}
 use Rattle.planning.proofs.EnvelopeLaws.{accepted-fits, domain-of}
@@ -90,7 +91,7 @@ module _ (s : List ℕ) (j : Job) (a : acceptJob s ≡ accepted j) (v t : ℕ) w
   printed (suc zero) l w h = left-printed w h
   printed (suc (suc n)) l w h = absurd (omega arith)
 
--- For every accepted job: upstream of a hazard, a millimetre whose end towards it is nearer than the approach length before rounding lies in a printed run
+-- For every accepted job: upstream of a hazard, a millimetre whose end towards it is nearer than the approach length in whole panels lies in a printed run
 -- of the hazard's level or a higher one.
 pub printed-formula : (s : List ℕ) (j : Job) → acceptJob s ≡ accepted j → (z : Hazard) → List·Memᴰ z (j .hazards) → (traffic : Traffic) → reaches (j .header) z traffic ≡ true
     → (d t : ℕ) → Upstream traffic z d t → BelowApproach (j .header) z traffic d → PrintedRun s (sideWord (z .side)) (z .level) t
@@ -102,11 +103,12 @@ printed-formula s j a z m traffic r d t u l =
     let w = shown-run (jobRuns j (z .side)) t (omega (arith, own .level-low)) in
     printed s j a (z .level) t (z .side) (own .side) w (omega (arith, w .level))
 
--- The same by the length that crate approach promises: a whole number of millimetres below it is below the length before rounding.
+-- The same by the length in whole panels that crate approach promises.
 pub printed-length : (s : List ℕ) (j : Job) → acceptJob s ≡ accepted j → (z : Hazard) → List·Memᴰ z (j .hazards) → (traffic : Traffic) → reaches (j .header) z traffic ≡ true
     → (d t : ℕ) → Upstream traffic z d t
-    → let h = j .header in d < approachLength (h .along) (h .across) (h .straight) (runout h traffic) (reachOf h z traffic) (offsetOf h z traffic)
+    → let h = j .header in d < raisedLength (h .panel) (h .along) (h .across) (h .straight) (runout h traffic) (reachOf h z traffic) (offsetOf h z traffic)
     → PrintedRun s (sideWord (z .side)) (z .level) t
 printed-length s j a z m traffic r d t u l =
-    let some = divisor-some _ _ _ _ _ _ (domain-of j (accepted-fits s j a) z m traffic r) in
-    printed-formula s j a z m traffic r d t u (approach-below _ _ _ _ _ _ some d .0 l)
+    let fits = accepted-fits s j a in
+    let some = divisor-some _ _ _ _ _ _ (domain-of j fits z m traffic r) in
+    printed-formula s j a z m traffic r d t u (raised-length-below _ _ _ _ _ _ _ (fits .fits .header .panel-low) some d .0 l)

@@ -124,6 +124,7 @@ alike-path : (h k : Header) → Alike h k → record {
   across = h .across;
   straight = h .straight;
   continuity = h .continuity;
+  panel = h .panel;
   count = k .count;
 } ≡ k
 alike-path h k a = λ i. record {
@@ -140,6 +141,7 @@ alike-path h k a = λ i. record {
   across = a .across i;
   straight = a .straight i;
   continuity = a .continuity i;
+  panel = a .panel i;
   count = k .count;
 }
 

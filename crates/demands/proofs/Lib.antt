@@ -6,3 +6,4 @@ pub mod ContractLaws
 pub mod LotLaws
 pub mod RefusalLaws
 pub mod CaseLaws
+pub mod BeforeLaws

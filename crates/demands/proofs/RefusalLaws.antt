@@ -16,7 +16,7 @@ use Rattle.number.specs.declared.Read.the-variants.{Number, Ended, Malformed}
 use Rattle.number.specs.Number.{readNumber, readingOf, numberAt}
 use Rattle.job.specs.declared.Header.{Header}
 use Rattle.job.specs.declared.Hazard.{Hazard}
-use Rattle.job.specs.Job.{Job, Range, within, nextInHeader, nextInHazard, readFields, readHeader, headerOf, hazardOf, readHazards, readJob, readRest}
+use Rattle.job.specs.Job.{Job, Range, within, nextInHeader, nextInHazard, readFields, moreNumbers, readHeader, headerOf, hazardOf, readHazards, readJob, readRest}
 use Rattle.planning.specs.Envelope.{forward, opposite, reached, lengthening, testHazard, testHazards, acceptJob}
 use Rattle.planning.specs.Required.{jobRuns}
 use Rattle.schedule.specs.Schedule.{writeSchedule}
@@ -66,7 +66,9 @@ hazards-refusals h (suc k) got s at =
 read-refusals : (s : List ℕ) → OneToSeven (readJob s)
 unfolding readJob readRest readHeader
 read-refusals s =
-    both (readHeader s) _ (fields-refusals nextInHeader 3 (λ got. length got + 1) 14 [] s 0 (omega arith) (omega arith)) (λ f.
+    both (readHeader s) _
+    (both (readFields nextInHeader 3 (λ got. length got + 1) 14 [] s 0) _ (fields-refusals nextInHeader 3 (λ got. length got + 1) 14 [] s 0 (omega arith) (omega arith)) (λ f.
+    fields-refusals nextInHeader 3 (λ got. length got + 1) (moreNumbers (f .numbers)) (f .numbers) s (f .next) (omega arith) (omega arith))) (λ f.
     both (readHazards (headerOf (f .numbers)) (headerOf (f .numbers) .count) [] s (f .next)) _ (hazards-refusals (headerOf (f .numbers)) (headerOf (f .numbers) .count) [] s (f .next)) (λ r.
     both (unless-refuse (leb (length s) (r .next)) 7 (r .next)) _ (test (leb (length s) (r .next)) 7 (r .next) (omega arith) (omega arith)) (λ _. tt)))
 

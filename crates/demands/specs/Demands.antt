@@ -48,9 +48,9 @@ pub record LeastCovering (j : Job) (side : ℕ) (w : List ℕ) : Type 0 where
 abbrev pub Demand2 : Type 0
 Demand2 = (s : List ℕ) (j : Job) (side : ℕ) (w : List ℕ) → Accepted s j → side ≤ 1 → Planned s side w → LeastCovering j side w
 
--- Demand 2, "built in document 01 from the published length-of-need formula", with document 02's rule for the straight part: formula and rule
--- themselves, multiplied out, with no rounding and no division. Each millimetre whose end towards the hazard is nearer to it than the
--- approach length before rounding is covered.
+-- Demand 2, "built in document 01 from the published length-of-need formula", with document 02's rules for the straight part and for whole
+-- panels: formula and rules themselves, multiplied out, with no rounding and no division. Each millimetre whose end towards the hazard is
+-- nearer to it than the approach length in whole panels is covered.
 abbrev pub Demand2-formula : Type 0
 Demand2-formula =
     (s : List ℕ) (j : Job) (side : ℕ) (w : List ℕ) → Accepted s j → side ≤ 1 → Planned s side w
@@ -107,6 +107,7 @@ pub record Alike (h k : Header) : Type 0 where
   pub across : h .across ≡ k .across
   pub straight : h .straight ≡ k .straight
   pub continuity : h .continuity ≡ k .continuity
+  pub panel : h .panel ≡ k .panel
 
 -- Demand 3, growth: the second job has every hazard of the first, at whatever index.
 abbrev pub Demand3-growth : Type 0

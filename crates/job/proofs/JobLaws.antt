@@ -3,12 +3,14 @@
 use Prim.Native.Nat.{ℕ, zero, suc, _+_, _-_, _≤_, _<_}
 use native.Mathlib.Omega.{arith}
 use native.Mathlib.Nat.{zero-add}
-use mathlib.Core.Path.{_≡_, sym, subst, ap, _∙_}
-use mathlib.Core.Bool.{true}
+use mathlib.Core.Path.{_≡_, refl, sym, subst, ap, _∙_}
+use mathlib.Core.Bool.{Bool, true, false}
 use mathlib.Core.List.{List, [], _∷_, _++_, List·Memᴰ, List·Memᴰ·not-nil}
-use lib.ListN.{length, length-append}
-use lib.Dec.{leb}
-use borrow.Author.Tests.{leb-true}
+use lib.ListN.{length, getD, length-append, List·getD-append}
+use lib.Seq.{getD-at}
+use lib.Dec.{leb, eqb}
+use borrow.Author.Tests.{leb-true, eqb-true, eq-eqb}
+use Rattle.refusal.specs.Choice.{if_then_else_}
 use Rattle.refusal.specs.Answer.{accepted, unless-refuse}
 use Rattle.refusal.specs.Refusal.{refusal}
 use Rattle.refusal.specs.declared.Refusal.{Refusal}
@@ -20,7 +22,7 @@ use Rattle.job.specs.declared.Header.{Header}
 use Rattle.job.specs.declared.Hazard.{Hazard}
 use Rattle.refusal.specs.declared.Outcome.the-variants.{Done, Refused}
 use Rattle.job.specs.declared.read.JobRead.{JobRead}
-use Rattle.job.specs.Job.{Job, jobOf, Range, within, _to_, headerRanges, hazardRanges, nextInHeader, nextInHazard, Fields, readFields, readHeader, headerOf, hazardOf, Hazards, readHazards, readJob, readRest}
+use Rattle.job.specs.Job.{Job, jobOf, Range, within, _to_, sharedRanges, lastRanges, headerRanges, hazardRanges, nextInHeader, nextInHazard, Fields, readFields, moreNumbers, readHeader, headerWith, headerOf, hazardOf, Hazards, readHazards, readJob, readRest}
 use Rattle.job.specs.Reply.{HeaderReading, headerReading, headerAt, jobAnswer}
 
 -- The numbers read after `got`: each in its range.
@@ -44,7 +46,8 @@ within-high r x h = leb-true _ _ (and-right (leb (r .low) x) _ h)
 
 -- A header's ranges.
 pub record HeaderFits (h : Header) : Type 0 where
-  pub kind : h .kind ≡ 1
+  pub kind-low : 1 ≤ h .kind
+  pub kind-top : h .kind ≤ 2
   pub road : h .begin < h .end
   pub road-end : h .end ≤ 2000000000
   pub forward-low : 1 ≤ h .forward
@@ -61,16 +64,24 @@ pub record HeaderFits (h : Header) : Type 0 where
   pub across-top : h .across ≤ 10
   pub straight-top : h .straight ≤ 100000
   pub continuity-top : h .continuity ≤ 200000
+  -- "Kind 1 acts as panel length 1."
+  pub panel-plain : h .kind ≡ 1 → h .panel ≡ 1
+  pub panel-low : 1 ≤ h .panel
+  pub panel-top : h .panel ≤ 10000
   pub count : h .count ≤ 256
 
-header-fits : (numbers : List ℕ) → FieldsIn nextInHeader 14 [] numbers → HeaderFits (headerOf numbers)
-unfolding headerRanges
-header-fits numbers f1 =
+-- The thirteen numbers of every kind, with a panel length and a hazard count in their ranges.
+shared-fits : (numbers : List ℕ) → FieldsIn nextInHeader 14 [] numbers → (panel count : ℕ) → (getD numbers 0 0 ≡ 1 → panel ≡ 1) → 1 ≤ panel → panel ≤ 10000 → count ≤ 256
+    → HeaderFits (headerWith numbers panel count)
+unfolding headerRanges sharedRanges
+shared-fits numbers f1 panel count plain low top few =
     let f2 = f1 .2 in let f3 = f2 .2 in let f4 = f3 .2 in let f5 = f4 .2 in let f6 = f5 .2 in let f7 = f6 .2 in let f8 = f7 .2 in
     let f9 = f8 .2 in let f10 = f9 .2 in let f11 = f10 .2 in let f12 = f11 .2 in let f13 = f12 .2 in let f14 = f13 .2 in
-    subst (λ (l : List ℕ). HeaderFits (headerOf l)) (f14 .2)
-    (record {
-      kind = omega (arith, within-low (1 to 1) (f1 .0) (f1 .1), within-high (1 to 1) (f1 .0) (f1 .1));
+    subst (λ (l : List ℕ). (getD l 0 0 ≡ 1 → panel ≡ 1) → HeaderFits (headerWith l panel count)) (f14 .2)
+    (λ p.
+    record {
+      kind-low = within-low (1 to 2) _ (f1 .1);
+      kind-top = within-high (1 to 2) _ (f1 .1);
       road = omega (arith, within-low ((f2 .0 + 1) to 2000000000) (f3 .0) (f3 .1));
       road-end = within-high ((f2 .0 + 1) to 2000000000) _ (f3 .1);
       forward-low = within-low (1 to 200000) _ (f4 .1);
@@ -87,8 +98,93 @@ header-fits numbers f1 =
       across-top = within-high (0 to 10) _ (f11 .1);
       straight-top = within-high (0 to 100000) _ (f12 .1);
       continuity-top = within-high (0 to 200000) _ (f13 .1);
-      count = within-high (0 to 256) _ (f14 .1);
-    })
+      panel-plain = p;
+      panel-low = low;
+      panel-top = top;
+      count = few;
+    }) plain
+
+-- The numbers of a header: fourteen in their ranges, and of kind 2 one more.
+pub record HeaderIn (numbers : List ℕ) : Type 0 where
+  pub first : List ℕ
+  pub fourteen : FieldsIn nextInHeader 14 [] first
+  pub more : FieldsIn nextInHeader (moreNumbers first) first numbers
+
+-- The fourteenth number, and of kind 2 the fifteenth.
+pub fourteenth : (first : List ℕ) → FieldsIn nextInHeader 14 [] first → within (getD (lastRanges (getD first 0 0)) 0 (0 to 0)) (getD first 13 0) ≡ true
+unfolding headerRanges sharedRanges
+fourteenth first f =
+    let f13 = f .2 .2 .2 .2 .2 .2 .2 .2 .2 .2 .2 .2 in
+    subst (λ (l : List ℕ). within (getD (lastRanges (getD l 0 0)) 0 (0 to 0)) (getD l 13 0) ≡ true) (f13 .2 .2) (f13 .2 .1)
+
+pub fields-length : (rangeOf : List ℕ → Range) (k : ℕ) (got numbers : List ℕ) → FieldsIn rangeOf k got numbers → length numbers ≡ length got + k
+fields-length rangeOf zero got numbers f = rw (sym f) (omega arith)
+fields-length rangeOf (suc k) got numbers f = fields-length rangeOf k (got ++ f .0 ∷ []) numbers (f .2) ∙ rw (length-append got (f .0 ∷ [])) (omega arith)
+
+-- A kind 2 header has the numbers of its first fourteen.
+pub header-more : (first : List ℕ) (x : ℕ) → length first ≡ 14 → getD first 0 0 ≡ 2 → headerOf (first ++ x ∷ []) ≡ headerWith first (getD first 13 0) x
+header-more first x long kind =
+    rw (
+      same 0 (omega arith),
+      same 1 (omega arith),
+      same 2 (omega arith),
+      same 3 (omega arith),
+      same 4 (omega arith),
+      same 5 (omega arith),
+      same 6 (omega arith),
+      same 7 (omega arith),
+      same 8 (omega arith),
+      same 9 (omega arith),
+      same 10 (omega arith),
+      same 11 (omega arith),
+      same 12 (omega arith),
+      same 13 (omega arith),
+      last,
+      eq-eqb (getD first 0 0) 2 kind,
+    )
+  where
+    same : (i : ℕ) → i < 14 → getD (first ++ x ∷ []) i 0 ≡ getD first i 0
+    same i l = List·getD-append first (x ∷ []) 0 i (omega (arith, long))
+
+    last : getD (first ++ x ∷ []) 14 0 ≡ x
+    last = getD-at first x [] 0 14 long
+
+-- The range of the fifteenth number.
+pub fifteenth : (first : List ℕ) → length first ≡ 14 → eqb (getD first 0 0) 2 ≡ true → nextInHeader first ≡ 0 to 256
+unfolding headerRanges sharedRanges
+fifteenth first long e = rw (long, e)
+
+header-fits : (numbers : List ℕ) → HeaderIn numbers → HeaderFits (headerOf numbers)
+header-fits numbers h = go (eqb (getD (h .first) 0 0) 2) refl (h .more) (fourteenth (h .first) (h .fourteen))
+  where
+    first : List ℕ
+    first = h .first
+
+    long : length first ≡ 14
+    long = fields-length nextInHeader 14 [] first (h .fourteen) ∙ omega arith
+
+    go : (t : Bool) → eqb (getD first 0 0) 2 ≡ t → FieldsIn nextInHeader ((if t then 15 else 14) - 14) first numbers
+        → within (getD (if t then 1 to 10000 ∷ 0 to 256 ∷ [] else 0 to 256 ∷ []) 0 (0 to 0)) (getD first 13 0) ≡ true → HeaderFits (headerOf numbers)
+    go true e more last =
+        let two = eqb-true (getD first 0 0) 2 e in
+        subst (λ (l : List ℕ). HeaderFits (headerOf l)) (more .2)
+        (rw (header-more first (more .0) long two)
+        (shared-fits first (h .fourteen) (getD first 13 0) (more .0) (λ one. absurd (omega (arith, two))) (within-low (1 to 10000) _ last) (within-high (1 to 10000) _ last)
+        (within-high (0 to 256) _ (rw (fifteenth first long e) at (more .1)))))
+    go false e more last =
+        subst (λ (l : List ℕ). HeaderFits (headerOf l)) more
+        (rw e (shared-fits first (h .fourteen) 1 (getD first 13 0) (λ one. refl) (omega arith) (omega arith) (within-high (0 to 256) _ last)))
+
+-- A header that was read has numbers in their ranges.
+pub header-read-in : (s : List ℕ) (f : Fields) → readHeader s ≡ accepted f → HeaderIn (f .numbers)
+unfolding readHeader
+header-read-in s f e =
+    let b = bound (readFields nextInHeader 3 (λ got. length got + 1) 14 [] s 0) _ f e in
+    record {
+      first = b .first .numbers;
+      fourteen = fields-in nextInHeader 3 (λ got. length got + 1) 14 [] s 0 (b .first) (b .taken);
+      more = fields-in nextInHeader 3 (λ got. length got + 1) (moreNumbers (b .first .numbers)) (b .first .numbers) s (b .first .next) f (b .rest);
+    }
 
 -- Of a hazard, its ranges.
 pub record HazardFits (h : Header) (z : Hazard) : Type 0 where
@@ -137,11 +233,11 @@ hazards-fit h (suc k) got s at r all e =
 
 -- A header that could be read.
 pub header-at-fits : (s : List ℕ) (x : HeaderReading) → headerAt s ≡ accepted x → HeaderFits (x .header)
-unfolding headerAt readHeader
+unfolding headerAt
 header-at-fits s x e =
     let b = bound (readHeader s) (λ f. accepted (headerReading f)) x e in
     let same : headerReading (b .first) ≡ x = cc in
-    subst (λ (y : HeaderReading). HeaderFits (y .header)) same (header-fits (b .first .numbers) (fields-in nextInHeader 3 (λ got. length got + 1) 14 [] s 0 (b .first) (b .taken)))
+    subst (λ (y : HeaderReading). HeaderFits (y .header)) same (header-fits (b .first .numbers) (header-read-in s (b .first) (b .taken)))
 
 -- A job that could be read.
 pub record JobFits (j : Job) : Type 0 where
@@ -149,12 +245,12 @@ pub record JobFits (j : Job) : Type 0 where
   pub hazards : HazardsFit (j .header) (j .header .count) (j .hazards)
 
 pub job-fits : (s : List ℕ) (j : Job) → readJob s ≡ accepted j → JobFits j
-unfolding readJob readRest readHeader
+unfolding readJob readRest
 job-fits s j e =
     let b1 = bound (readHeader s) _ j e in
     let b2 = bound (readHazards (headerOf (b1 .first .numbers)) (headerOf (b1 .first .numbers) .count) [] s (b1 .first .next)) _ j (b1 .rest) in
     let b3 = bound (unless-refuse (leb (length s) (b2 .first .next)) 7 (b2 .first .next)) _ j (b2 .rest) in
-    finish (b1 .first) (b2 .first) (header-fits (b1 .first .numbers) (fields-in nextInHeader 3 (λ got. length got + 1) 14 [] s 0 (b1 .first) (b1 .taken)))
+    finish (b1 .first) (b2 .first) (header-fits (b1 .first .numbers) (header-read-in s (b1 .first) (b1 .taken)))
     (subst (λ (n : ℕ). HazardsFit (headerOf (b1 .first .numbers)) n (b2 .first .list)) (zero-add _) (hazards-fit (headerOf (b1 .first .numbers)) (headerOf (b1 .first .numbers) .count) [] s (b1 .first .next) (b2 .first) (λ z m. absurd (List·Memᴰ·not-nil m)) (b2 .taken))) (b3 .rest)
   where
     finish : (f : Fields) (r : Hazards) → HeaderFits (headerOf (f .numbers)) → HazardsFit (headerOf (f .numbers)) (headerOf (f .numbers) .count) (r .list) → accepted (record { header = headerOf (f .numbers); hazards = r .list }) ≡ accepted j → JobFits j

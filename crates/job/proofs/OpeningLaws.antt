@@ -13,7 +13,7 @@ use Rattle.refusal.specs.declared.Refusal.{Refusal}
 use Rattle.refusal.proofs.AnswerLaws.{bound}
 use Rattle.job.specs.declared.Header.{Header}
 use Rattle.job.specs.declared.Hazard.{Hazard}
-use Rattle.job.specs.Job.{Job, readHazards, readRest, readJob}
+use Rattle.job.specs.Job.{Job, headerSize, readHazards, readRest, readJob}
 use Rattle.job.specs.Reply.{HeaderReading, headerAt, jobHeader, readOpening}
 use Rattle.job.proofs.RestLaws.{job-step}
 
@@ -44,7 +44,7 @@ module _ (s : List ℕ) where
   unfolding readOpening
   opening-unread x e = rw e
 
-  pub opening-counted : {x : HeaderReading} → headerAt s ≡ accepted x → 0 < x .header .count → readOpening s ≡ refused 3 14
+  pub opening-counted : {x : HeaderReading} → headerAt s ≡ accepted x → 0 < x .header .count → readOpening s ≡ refused 3 (headerSize (x .header .kind))
   unfolding readOpening
   opening-counted {x} e l = rw (e, ne-eqb (x .header .count) 0 (λ q. omega arith))
 

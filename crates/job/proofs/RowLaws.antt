@@ -1,15 +1,16 @@
 -- The rows of document 01's table that the reading of a job returns: exactly when, and with what value.
 -- Assumes nothing.
-use Prim.Native.Nat.{ℕ, zero, suc, _+_, _≤_}
+use Prim.Native.Nat.{ℕ, zero, suc, _+_, _-_, _≤_, _<_}
 use native.Mathlib.Omega.{arith}
 use native.Mathlib.Nat.{zero-add}
 use mathlib.Core.Path.{_≡_, refl, sym, subst, ap, _∙_}
 use mathlib.Core.Logic.{_↔_}
 use mathlib.Core.Bool.{Bool, true, false}
 use mathlib.Core.List.{List, [], _∷_, _++_, append-assoc, append-nil, List·Memᴰ·not-nil}
-use lib.ListN.{length, drop, length-append, length-drop, drop-of-length-le}
-use lib.Dec.{leb}
-use borrow.Author.Tests.{leb-true, leb-false}
+use lib.ListN.{length, getD, drop, length-append, length-drop, drop-of-length-le, List·getD-append}
+use lib.Dec.{leb, eqb}
+use borrow.Author.Tests.{leb-true, leb-false, eqb-true}
+use Rattle.refusal.specs.Choice.{if_then_else_}
 use Rattle.refusal.specs.Answer.{Answer, accepted, refused, _>>=_, unless-refuse}
 use Rattle.refusal.specs.Refusal.{numberOf, valueOf, refusal}
 use Rattle.refusal.specs.declared.Refusal.{Refusal}
@@ -23,15 +24,34 @@ use Rattle.number.proofs.NumberLaws.{Bytes, read-stands}
 use Rattle.number.proofs.FormLaws.{read-ended, read-malformed}
 use Rattle.job.specs.declared.Header.{Header}
 use Rattle.job.specs.declared.Hazard.{Hazard}
-use Rattle.job.specs.Job.{Job, Range, within, nextInHeader, nextInHazard, Fields, readFields, readHeader, headerOf, hazardOf, Hazards, readHazards, readRest, readJob}
+use Rattle.job.specs.Job.{Job, Range, within, nextInHeader, nextInHazard, Fields, readFields, moreNumbers, readHeader, headerOf, hazardOf, Hazards, readHazards, readRest, readJob}
 use Rattle.job.specs.Writing.{headerNumbers, hazardNumbers, hazardsNumbers, numbersOf, writeNumbers, writeJob}
 use Rattle.job.specs.Rows.{Group, ofHeader, ofHazard, HasGroup, sizeOf, nextIn, numbersBefore, InRanges, BeforeInRanges, Stands, behind, Next, OutOfRange, ReadRow}
-use Rattle.job.proofs.JobLaws.{FieldsIn, fields-in}
+use Rattle.job.proofs.JobLaws.{FieldsIn, fields-in, fields-length, HeaderIn, header-read-in, header-more}
 use Rattle.job.proofs.StandLaws.{numbers-append, outNumber, outValue, row-refused}
 
 -- A header or hazard has the numbers that it was made of.
-header-own : (numbers : List ℕ) → FieldsIn nextInHeader 14 [] numbers → headerNumbers (headerOf numbers) ≡ numbers
-header-own numbers f = subst (λ (l : List ℕ). headerNumbers (headerOf l) ≡ l) (f .2 .2 .2 .2 .2 .2 .2 .2 .2 .2 .2 .2 .2 .2) refl
+listed : (first : List ℕ) → FieldsIn nextInHeader 14 [] first
+    → getD first 0 0 ∷ getD first 1 0 ∷ getD first 2 0 ∷ getD first 3 0 ∷ getD first 4 0 ∷ getD first 5 0 ∷ getD first 6 0 ∷ getD first 7 0 ∷ getD first 8 0 ∷ getD first 9 0
+    ∷ getD first 10 0 ∷ getD first 11 0 ∷ getD first 12 0 ∷ getD first 13 0 ∷ [] ≡ first
+listed first f =
+    subst
+    (λ (l : List ℕ). getD l 0 0 ∷ getD l 1 0 ∷ getD l 2 0 ∷ getD l 3 0 ∷ getD l 4 0 ∷ getD l 5 0 ∷ getD l 6 0 ∷ getD l 7 0 ∷ getD l 8 0 ∷ getD l 9 0
+    ∷ getD l 10 0 ∷ getD l 11 0 ∷ getD l 12 0 ∷ getD l 13 0 ∷ [] ≡ l)
+    (f .2 .2 .2 .2 .2 .2 .2 .2 .2 .2 .2 .2 .2 .2) refl
+
+header-own : (numbers : List ℕ) → HeaderIn numbers → headerNumbers (headerOf numbers) ≡ numbers
+header-own numbers h = go (eqb (getD (h .first) 0 0) 2) refl (h .more)
+  where
+    first : List ℕ
+    first = h .first
+
+    go : (t : Bool) → eqb (getD first 0 0) 2 ≡ t → FieldsIn nextInHeader ((if t then 15 else 14) - 14) first numbers → headerNumbers (headerOf numbers) ≡ numbers
+    go true e more =
+        subst (λ (l : List ℕ). headerNumbers (headerOf l) ≡ l) (more .2)
+        (rw (header-more first (more .0) (fields-length nextInHeader 14 [] first (h .fourteen) ∙ omega arith) (eqb-true _ 2 e), e)
+        (ap (λ (l : List ℕ). l ++ more .0 ∷ []) (listed first (h .fourteen))))
+    go false e more = subst (λ (l : List ℕ). headerNumbers (headerOf l) ≡ l) more (simp e (listed first (h .fourteen)))
 
 hazard-own : (h : Header) (numbers : List ℕ) → FieldsIn (nextInHazard h) 6 [] numbers → hazardNumbers (hazardOf numbers) ≡ numbers
 hazard-own h numbers f = subst (λ (l : List ℕ). hazardNumbers (hazardOf l) ≡ l) (f .2 .2 .2 .2 .2 .2) refl
@@ -72,6 +92,28 @@ module _ (s : List ℕ) where
   JobRead (accepted j) = s ≡ writeJob j
   JobRead (refused n v) = Holds n v
 
+-- A group has room for k numbers behind `got`.
+abbrev Room : Group → (k : ℕ) (got : List ℕ) → Type 0
+Room g k got = (ys : List ℕ) → length ys < k → length (got ++ ys) < sizeOf g (got ++ ys)
+
+-- A header has room for fourteen, and then for as many more as its kind has.
+first-room : Room ofHeader 14 []
+first-room ys l = go (eqb (getD ys 0 0) 2)
+  where
+    go : (t : Bool) → length ys < (if t then 15 else 14)
+    go true = omega arith
+    go false = l
+
+more-room : (first : List ℕ) → length first ≡ 14 → Room ofHeader (moreNumbers first) first
+more-room first long ys l = go (eqb (getD first 0 0) 2) refl l
+  where
+    same : getD (first ++ ys) 0 0 ≡ getD first 0 0
+    same = List·getD-append first ys 0 0 (omega arith)
+
+    go : (t : Bool) → eqb (getD first 0 0) 2 ≡ t → length ys < (if t then 15 else 14) - 14 → length (first ++ ys) < sizeOf ofHeader (first ++ ys)
+    go true e few = rw (same, e, length-append first ys) (omega arith)
+    go false e few = absurd (omega arith)
+
 module _ {s : List ℕ} (b : Bytes s) where
   at-more : {g : Group} {got : List ℕ} {at : ℕ} (x n : ℕ) → At s g got at → readNumber s at ≡ Number x n → within (nextIn g got) x ≡ true → At s g (got ++ x ∷ []) n
   unfolding writeNumbers
@@ -92,21 +134,22 @@ module _ {s : List ℕ} (b : Bytes s) where
   outside-holds ofHeader got o = record { which = row.HeaderRange (length got + 1); number = refl; value = refl; row = (got, o, refl) }
   outside-holds (ofHazard h zs) got o = record { which = row.HazardRange (length zs); number = refl; value = refl; row = (h, zs, got, o, refl) }
 
-  group-read : (g : Group) → HasGroup g → (k : ℕ) (got : List ℕ) (at : ℕ) → length got + k ≡ sizeOf g → At s g got at
+  -- k numbers more behind `got`, for which the group has room.
+  group-read : (g : Group) → HasGroup g → (k : ℕ) (got : List ℕ) (at : ℕ) → Room g k got → At s g got at
       → GroupRead s g (readFields (nextIn g) (outNumber g) (outValue g) k got s at)
   unfolding readFields numberAt
-  group-read g has zero got at size here = here
-  group-read g has (suc k) got at size here = go (readNumber s at) refl (group-read g has k)
+  group-read g has zero got at room here = here
+  group-read g has (suc k) got at room here = go (readNumber s at) refl (group-read g has k)
     where
       next : Next s g got (drop at s)
-      next = record { has = has; more = omega arith; stands = here .stands }
+      next = record { has = has; more = rw append-nil at (room [] (omega arith)); stands = here .stands }
 
       Later : Type 0
-      Later = (l : List ℕ) (i : ℕ) → length l + k ≡ sizeOf g → At s g l i → GroupRead s g (readFields (nextIn g) (outNumber g) (outValue g) k l s i)
+      Later = (l : List ℕ) (i : ℕ) → Room g k l → At s g l i → GroupRead s g (readFields (nextIn g) (outNumber g) (outValue g) k l s i)
 
       tested : (x n : ℕ) → readNumber s at ≡ Number x n → (t : Bool) → within (nextIn g got) x ≡ t → Later
           → GroupRead s g (unless-refuse t (outNumber g) (outValue g got) >>= λ _. readFields (nextIn g) (outNumber g) (outValue g) k (got ++ x ∷ []) s n)
-      tested x n e true w later = later (got ++ x ∷ []) n (rw length-append (omega arith)) (at-more x n here e w)
+      tested x n e true w later = later (got ++ x ∷ []) n (λ ys l. rw (append-assoc got (x ∷ []) ys) (room (x ∷ ys) (omega arith))) (at-more x n here e w)
       tested x n e false w later =
           let number = read-stands s at x n b e in
           outside-holds g got (record { number = x; rest = drop n s; next = subst (Next s g got) (number .split) next; fits = number .fits; outside = w })
@@ -128,20 +171,21 @@ module _ {s : List ℕ} (b : Bytes s) where
   at-first : {numbers : List ℕ} {at : ℕ} → headerNumbers (headerOf numbers) ≡ numbers → At s ofHeader numbers at → At s (ofHazard (headerOf numbers) []) [] at
   unfolding numbersOf hazardsNumbers
   at-first {numbers} own here =
-      at-group (sym own ∙ simp append-nil) (subst (InRanges nextInHeader []) (sym own) (here .stands .own), λ z m. absurd (List·Memᴰ·not-nil m)) tt here
+      at-group (sym own ∙ simp append-nil) (subst (InRanges nextInHeader []) (sym own) (here .stands .own), ap headerOf own, λ z m. absurd (List·Memᴰ·not-nil m)) tt here
 
   at-next : {h : Header} {zs : List Hazard} {numbers : List ℕ} {at : ℕ} → hazardNumbers (hazardOf numbers) ≡ numbers → At s (ofHazard h zs) numbers at → At s (ofHazard h (zs ++ hazardOf numbers ∷ [])) [] at
   unfolding numbersOf hazardsNumbers
   at-next {h} {zs} {numbers} own here =
       let fit = subst (InRanges (nextInHazard h) []) (sym own) (here .stands .own) in
-      at-group (simp (append-nil, hazards-append, own, append-assoc))
-      (here .stands .before .0, snoc-each (λ z. InRanges (nextInHazard h) [] (hazardNumbers z)) zs (here .stands .before .1) fit) tt here
+      let more : hazardsNumbers (zs ++ hazardOf numbers ∷ []) ≡ hazardsNumbers zs ++ numbers = hazards-append zs (hazardOf numbers ∷ []) ∙ simp (append-nil, own) in
+      at-group (append-assoc (headerNumbers h) (hazardsNumbers zs) numbers ∙ ap (λ (l : List ℕ). headerNumbers h ++ l) (sym more) ∙ sym (append-nil (headerNumbers h ++ hazardsNumbers (zs ++ hazardOf numbers ∷ []))))
+      (here .stands .before .0, here .stands .before .1, snoc-each (λ z. InRanges (nextInHazard h) [] (hazardNumbers z)) zs (here .stands .before .2) fit) tt here
 
   hazards-read : (h : Header) (k : ℕ) (zs : List Hazard) (at : ℕ) → length zs + k ≡ h .count → At s (ofHazard h zs) [] at → HazardsRead s h (readHazards h k zs s at)
   unfolding readHazards
   hazards-read h zero zs at size here = (here, omega arith)
   hazards-read h (suc k) zs at size here =
-      go (readFields (nextInHazard h) 4 (λ _. length zs) 6 [] s at) refl (group-read (ofHazard h zs) (omega arith) 6 [] at refl here) (hazards-read h k)
+      go (readFields (nextInHazard h) 4 (λ _. length zs) 6 [] s at) refl (group-read (ofHazard h zs) (omega arith) 6 [] at (λ ys l. l) here) (hazards-read h k)
     where
       go : (a : Answer Fields) → readFields (nextInHazard h) 4 (λ _. length zs) 6 [] s at ≡ a → GroupRead s (ofHazard h zs) a
           → ((ys : List Hazard) (i : ℕ) → length ys + k ≡ h .count → At s (ofHazard h ys) [] i → HazardsRead s h (readHazards h k ys s i))
@@ -151,9 +195,22 @@ module _ {s : List ℕ} (b : Bytes s) where
           later (zs ++ hazardOf (f .numbers) ∷ []) (f .next) (rw length-append (omega arith)) (at-next own r)
       go (refused n v) e r later = r
 
+  header-group : GroupRead s ofHeader (readHeader s)
+  unfolding readHeader writeNumbers
+  header-group =
+      go (readFields nextInHeader 3 (λ l. length l + 1) 14 [] s 0) refl
+      (group-read ofHeader tt 14 [] 0 first-room (record { stands = record { before = tt; own = tt; bytes = refl }; index = refl }))
+    where
+      go : (a : Answer Fields) → readFields nextInHeader 3 (λ l. length l + 1) 14 [] s 0 ≡ a → GroupRead s ofHeader a
+          → GroupRead s ofHeader (a >>= λ f. readFields nextInHeader 3 (λ l. length l + 1) (moreNumbers (f .numbers)) (f .numbers) s (f .next))
+      go (accepted f) e w =
+          group-read ofHeader tt (moreNumbers (f .numbers)) (f .numbers) (f .next)
+          (more-room (f .numbers) (fields-length nextInHeader 14 [] (f .numbers) (fields-in nextInHeader 3 (λ l. length l + 1) 14 [] s 0 f e))) w
+      go (refused n v) e w = w
+
   job-read : JobRead s (readJob s)
-  unfolding readJob readRest readHeader writeNumbers writeJob
-  job-read = header (readHeader s) refl (group-read ofHeader tt 14 [] 0 refl (record { stands = record { before = tt; own = tt; bytes = refl }; index = refl }))
+  unfolding readJob readRest writeJob
+  job-read = header (readHeader s) refl header-group
     where
       over : (h : Header) (r : Hazards) → At s (ofHazard h (r .list)) [] (r .next) → length (r .list) ≡ h .count → (t : Bool) → leb (length s) (r .next) ≡ t
           → JobRead s (unless-refuse t 7 (r .next) >>= λ _. accepted (record { header = h; hazards = r .list }))
@@ -173,7 +230,7 @@ module _ {s : List ℕ} (b : Bytes s) where
       header : (a : Answer Fields) → readHeader s ≡ a → GroupRead s ofHeader a → JobRead s (a >>= λ f. let h = headerOf (f .numbers) in readRest h (h .count) [] s (f .next))
       header (accepted f) e w =
           let h = headerOf (f .numbers) in
-          let own = header-own (f .numbers) (fields-in nextInHeader 3 (λ l. length l + 1) 14 [] s 0 f e) in
+          let own = header-own (f .numbers) (header-read-in s f e) in
           hazards h (readHazards h (h .count) [] s (f .next)) (hazards-read h (h .count) [] (f .next) (zero-add (h .count)) (at-first own w))
       header (refused n v) e w = w
 

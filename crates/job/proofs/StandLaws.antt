@@ -2,11 +2,16 @@
 -- Assumes nothing.
 use Prim.Native.Nat.{ℕ, zero, suc, _+_, _-_, _<_}
 use native.Mathlib.Omega.{arith}
+use native.Mathlib.Nat.{zero-add}
+use native.Mathlib.Decide.{decLt}
 use mathlib.Core.Path.{_≡_, refl, sym, ap, _∙_}
+use mathlib.Core.Bool.{Bool, true, false}
 use mathlib.Core.List.{List, [], _∷_, _++_, append-assoc, append-nil, List·Memᴰ, List·Memᴰ·head, List·Memᴰ·tail}
-use lib.ListN.{length, drop, length-append}
+use lib.ListN.{length, getD, drop, length-append}
 use lib.Seq.{drop-drop, drop-append-seam}
+use lib.Dec.{eqb}
 use borrow.Author.Tests.{lt-leb}
+use Rattle.refusal.specs.Choice.{if_then_else_}
 use Rattle.refusal.specs.Answer.{accepted, refused}
 use Rattle.refusal.specs.Refusal.{refusal}
 use Rattle.refusal.specs.declared.Refusal.{Refusal}
@@ -18,9 +23,9 @@ use Rattle.number.proofs.NumberLaws.{read-number, after-number}
 use Rattle.number.proofs.FormLaws.{read-ended, read-malformed}
 use Rattle.job.specs.declared.Header.{Header}
 use Rattle.job.specs.declared.Hazard.{Hazard}
-use Rattle.job.specs.Job.{Range, nextInHeader, nextInHazard, readFields, readHeader, readHazards, readRest, readJob}
-use Rattle.job.specs.Writing.{headerNumbers, hazardNumbers, hazardsNumbers, numbersOf, writeNumbers}
-use Rattle.job.specs.Rows.{Group, ofHeader, ofHazard, sizeOf, nextIn, numbersBefore, InRanges, Stands, behind, Next, Unread, OutOfRange, BytesAfter, ReadRow}
+use Rattle.job.specs.Job.{Range, nextInHeader, nextInHazard, readFields, moreNumbers, readHeader, readHazards, readRest, readJob}
+use Rattle.job.specs.Writing.{sharedNumbers, headerNumbers, hazardNumbers, hazardsNumbers, numbersOf, writeNumbers}
+use Rattle.job.specs.Rows.{Group, ofHeader, ofHazard, nextIn, numbersBefore, InRanges, Stands, behind, Next, Unread, OutOfRange, BytesAfter, ReadRow}
 
 pub numbers-append : (xs ys : List ℕ) → writeNumbers (xs ++ ys) ≡ writeNumbers xs ++ writeNumbers ys
 unfolding writeNumbers
@@ -50,6 +55,37 @@ fields-written : (rangeOf : List ℕ → Range) (number : ℕ) (valueOf : List �
     → readFields rangeOf number valueOf (length xs) [] s at ≡ accepted (record { numbers = xs; next = at + length (writeNumbers xs) })
 unfolding readFields
 fields-written rangeOf number valueOf xs s at rest fit e = fields-behind rangeOf number valueOf (length xs) 0 xs [] s at rest (omega arith) fit e
+
+-- A header: fourteen numbers, and as many more as its kind has.
+header-behind : (first more s rest : List ℕ) → InRanges nextInHeader [] first → InRanges nextInHeader first more → length first ≡ 14 → moreNumbers first ≡ length more
+    → s ≡ writeNumbers (first ++ more) ++ rest → readHeader s ≡ accepted (record { numbers = first ++ more; next = length (writeNumbers (first ++ more)) })
+unfolding readHeader readFields
+header-behind first more s rest fit later long count e =
+    let one = writeNumbers first in
+    let two = writeNumbers more in
+    let here : s ≡ one ++ (two ++ rest) = e ∙ ap (λ (l : List ℕ). l ++ rest) (numbers-append first more) ∙ append-assoc one two rest in
+    let fourteen = fields-behind nextInHeader 3 (λ l. length l + 1) 14 0 first [] s 0 (two ++ rest) (omega (arith, long)) fit here in
+    let others = fields-behind nextInHeader 3 (λ l. length l + 1) (moreNumbers first) 0 more first s (0 + length one) rest (omega (arith, count)) later (after-part s 0 one (two ++ rest) here) in
+    rw (fourteen, others, numbers-append first more, length-append one two, zero-add (length one))
+
+-- Numbers in two parts.
+in-parts : (rangeOf : List ℕ → Range) (got xs ys : List ℕ) → InRanges rangeOf got (xs ++ ys) → InRanges rangeOf got xs × InRanges rangeOf (got ++ xs) ys
+in-parts rangeOf got [] ys f = (tt, rw (append-nil got) f)
+in-parts rangeOf got (x ∷ xs) ys f = let r = in-parts rangeOf (got ++ x ∷ []) xs ys (f .1) in ((f .0, r .0), rw (append-assoc got (x ∷ []) xs) at (r .1))
+
+pub header-written : (h : Header) (s rest : List ℕ) → InRanges nextInHeader [] (headerNumbers h) → s ≡ writeNumbers (headerNumbers h) ++ rest
+    → readHeader s ≡ accepted (record { numbers = headerNumbers h; next = length (writeNumbers (headerNumbers h)) })
+header-written h s rest fit e = go (eqb (h .kind) 2) refl fit e
+  where
+    -- Its numbers after the thirteenth, where the kind was looked at.
+    last : Bool → List ℕ
+    last t = if t then h .panel ∷ h .count ∷ [] else h .count ∷ []
+
+    go : (t : Bool) → eqb (h .kind) 2 ≡ t → InRanges nextInHeader [] (sharedNumbers h ++ last t) → s ≡ writeNumbers (sharedNumbers h ++ last t) ++ rest
+        → readHeader s ≡ accepted (record { numbers = sharedNumbers h ++ last t; next = length (writeNumbers (sharedNumbers h ++ last t)) })
+    go true k f d = let parts = in-parts nextInHeader [] (sharedNumbers h ++ h .panel ∷ []) (h .count ∷ []) f in
+        header-behind (sharedNumbers h ++ h .panel ∷ []) (h .count ∷ []) s rest (parts .0) (parts .1) refl (rw k) d
+    go false k f d = header-behind (sharedNumbers h ++ h .count ∷ []) [] s rest f tt refl (rw k) d
 
 -- Hazards.
 hazards-behind : (h : Header) (m k : ℕ) (zs got : List Hazard) (s : List ℕ) (at : ℕ) (rest : List ℕ)
@@ -81,15 +117,15 @@ bytes-behind {s} {g} {got} {rest} stands =
 
 pub job-behind : {s : List ℕ} {h : Header} {zs : List Hazard} {got rest : List ℕ} (k : ℕ) → Stands s (ofHazard h zs) got rest → h .count ≡ length zs + k
     → readJob s ≡ readRest h k zs s (behind (ofHazard h zs) [])
-unfolding readJob readRest readHeader numbersOf
+unfolding readJob readRest numbersOf
 job-behind {s} {h} {zs} {got} {rest} k stands count =
     let one = writeNumbers (headerNumbers h) in
     let others = writeNumbers (hazardsNumbers zs) in
     let split : s ≡ one ++ (others ++ (writeNumbers got ++ rest)) = stands .bytes ∙ simp (numbers-append, append-assoc) in
-    let header = fields-written nextInHeader 3 (λ l. length l + 1) (headerNumbers h) s 0 (others ++ (writeNumbers got ++ rest)) (stands .before .0) split in
-    let hazards = hazards-behind h (h .count) k zs [] s (0 + length one) (writeNumbers got ++ rest) count (stands .before .1) (after-part s 0 one (others ++ (writeNumbers got ++ rest)) split) in
-    let index : 0 + length one + length others ≡ behind (ofHazard h zs) [] = simp (append-nil, numbers-append, length-append) (omega arith) in
-    rw (header, hazards, index)
+    let header = header-written h s (others ++ (writeNumbers got ++ rest)) (stands .before .0) split in
+    let hazards = hazards-behind h (h .count) k zs [] s (length one) (writeNumbers got ++ rest) count (stands .before .2) (rw (zero-add (length one)) at (after-part s 0 one (others ++ (writeNumbers got ++ rest)) split)) in
+    let index : length one + length others ≡ behind (ofHazard h zs) [] = simp (append-nil, numbers-append, length-append) (omega arith) in
+    rw (header, stands .before .1, hazards, index)
 
 -- Refusals
 
@@ -104,20 +140,36 @@ outValue (ofHazard h before) = λ got. length before
 
 module _ {s : List ℕ} where
   -- Where a group's next number is refused, the job is.
-  own-refused : {g : Group} {got rest : List ℕ} (n v : ℕ) → Next s g got rest
+  own-refused : {g : Group} {got rest : List ℕ} (n v size : ℕ) → length got < size → Stands s g got rest
       → ((k : ℕ) → readFields (nextIn g) (outNumber g) (outValue g) (suc k) got s (behind g got) ≡ refused n v)
-      → readFields (nextIn g) (outNumber g) (outValue g) (sizeOf g) [] s (behind g []) ≡ refused n v
-  own-refused {g} {got} {rest} n v next e =
-      let left = sizeOf g - suc (length got) in
-      fields-behind (nextIn g) (outNumber g) (outValue g) (sizeOf g) (suc left) got [] s (behind g []) rest (omega (arith, next .more)) (next .stands .own) (bytes-behind (next .stands))
+      → readFields (nextIn g) (outNumber g) (outValue g) size [] s (behind g []) ≡ refused n v
+  own-refused {g} {got} {rest} n v size more stands e =
+      let left = size - suc (length got) in
+      fields-behind (nextIn g) (outNumber g) (outValue g) size (suc left) got [] s (behind g []) rest (omega arith) (stands .own) (bytes-behind stands)
       ∙ rw (sym (behind-own g got)) (e left)
+
+  -- Of the header, among its first fourteen numbers or behind them.
+  header-refused : {got rest : List ℕ} (n v : ℕ) → Next s ofHeader got rest
+      → ((k : ℕ) → readFields nextInHeader 3 (λ l. length l + 1) (suc k) got s (behind ofHeader got) ≡ refused n v) → readHeader s ≡ refused n v
+  unfolding readHeader readFields writeNumbers
+  header-refused {got} {rest} n v next e = go (decLt (length got) 14)
+    where
+      fifteenth : (t : Bool) → eqb (getD got 0 0) 2 ≡ t → length got < (if t then 15 else 14) → (length got < 14 → ⊥) → readHeader s ≡ refused n v
+      fifteenth true two l many =
+          let all = fields-behind nextInHeader 3 (λ i. length i + 1) 14 0 got [] s 0 rest (omega arith) (next .stands .own) (bytes-behind (next .stands)) in
+          rw (all, two, zero-add (length (writeNumbers got))) (e 0)
+      fifteenth false two l many = absurd (many l)
+
+      go : Dec (length got < 14) → readHeader s ≡ refused n v
+      go (yes few) = rw (own-refused n v 14 few (next .stands) e)
+      go (no many) = fifteenth (eqb (getD got 0 0) 2) refl (next .more) many
 
   next-refused : (g : Group) {got rest : List ℕ} (n v : ℕ) → Next s g got rest
       → ((k : ℕ) → readFields (nextIn g) (outNumber g) (outValue g) (suc k) got s (behind g got) ≡ refused n v) → readJob s ≡ refused n v
-  unfolding readJob readHeader readRest readHazards writeNumbers
-  next-refused ofHeader n v next e = rw (own-refused n v next e)
+  unfolding readJob readRest readHazards
+  next-refused ofHeader n v next e = rw (header-refused n v next e)
   next-refused (ofHazard h zs) n v next e =
-      job-behind (suc (h .count - suc (length zs))) (next .stands) (omega (arith, next .has)) ∙ rw (own-refused n v next e)
+      job-behind (suc (h .count - suc (length zs))) (next .stands) (omega (arith, next .has)) ∙ rw (own-refused n v 6 (next .more) (next .stands) e)
 
   rest-behind : {g : Group} {got rest : List ℕ} → Stands s g got rest → drop (behind g got) s ≡ rest
   rest-behind {g} {got} {rest} stands = rw (stands .bytes) (drop-append-seam (writeNumbers (numbersBefore g ++ got)) rest)

@@ -2,11 +2,13 @@
 -- Assumes nothing.
 use Prim.Native.Nat.{ℕ, suc, _+_, _-_, _*_, _^_, _≤_, _<_}
 use native.Mathlib.Omega.{arith}
-use mathlib.Core.Path.{_≡_, refl, ap, _∙_}
-use mathlib.Core.Bool.{true}
+use mathlib.Core.Path.{_≡_, refl, sym, ap, _∙_}
+use mathlib.Core.Bool.{Bool, true, false}
 use mathlib.Core.List.{List, [], _∷_, _++_, append-nil, List·Memᴰ, List·Memᴰ·head, List·Memᴰ·tail}
 use lib.ListN.{length, length-append}
-use borrow.Author.Tests.{le-leb}
+use lib.Dec.{eqb}
+use borrow.Author.Tests.{le-leb, eqb-false}
+use Rattle.refusal.specs.Choice.{if_then_else_}
 use Rattle.refusal.specs.Answer.{accepted}
 use Rattle.refusal.proofs.TestLaws.{and-intro}
 use Rattle.number.specs.Number.{writeNumber, greatest}
@@ -14,8 +16,8 @@ use Rattle.number.proofs.NumberLaws.{length-below}
 pub use Rattle.number.proofs.NumberLaws.{Bytes}
 use Rattle.job.specs.declared.Header.{Header}
 use Rattle.job.specs.declared.Hazard.{Hazard}
-use Rattle.job.specs.Job.{Job, within, _to_, headerRanges, hazardRanges, nextInHeader, nextInHazard, readHazards, readJob, readRest}
-use Rattle.job.specs.Writing.{headerNumbers, hazardNumbers, hazardsNumbers, numbersOf, writeNumbers, writeJob}
+use Rattle.job.specs.Job.{Job, within, _to_, sharedRanges, headerRanges, hazardRanges, headerWith, headerOf, nextInHeader, nextInHazard, readHazards, readJob, readRest}
+use Rattle.job.specs.Writing.{sharedNumbers, lastNumbers, headerNumbers, hazardNumbers, hazardsNumbers, numbersOf, writeNumbers, writeJob}
 use Rattle.job.specs.Rows.{ofHazard, InRanges, Stands, behind}
 use Rattle.job.proofs.StandLaws.{numbers-append, job-behind}
 pub use Rattle.job.proofs.RowLaws.{job-is-written}
@@ -26,10 +28,18 @@ use Rattle.job.proofs.JobLaws.{HeaderFits, HazardFits, JobFits, job-fit
 in-range : (low high x : ℕ) → low ≤ x → x ≤ high → high ≤ greatest → (within (low to high) x ≡ true) × (x ≤ greatest)
 in-range low high x l h top = (and-intro (le-leb low x l) (le-leb x high h), omega arith)
 
-header-in : (h : Header) → HeaderFits h → InRanges nextInHeader [] (headerNumbers h)
-unfolding headerRanges
+last-in : (h : Header) → HeaderFits h → InRanges nextInHeader (sharedNumbers h) (lastNumbers h)
+unfolding headerRanges sharedRanges
+last-in h f = go (eqb (h .kind) 2) refl
+  where
+    go : (t : Bool) → eqb (h .kind) 2 ≡ t → InRanges nextInHeader (sharedNumbers h) (if t then h .panel ∷ h .count ∷ [] else h .count ∷ [])
+    go true e = rw e (in-range 1 10000 (h .panel) (f .panel-low) (f .panel-top) (omega arith), (in-range 0 256 (h .count) (omega arith) (f .count) (omega arith), tt))
+    go false e = rw e (in-range 0 256 (h .count) (omega arith) (f .count) (omega arith), tt)
+
+pub header-in : (h : Header) → HeaderFits h → InRanges nextInHeader [] (headerNumbers h)
+unfolding headerRanges sharedRanges
 header-in h f = (
-  in-range 1 1 (h .kind) (omega (arith, f .kind)) (omega (arith, f .kind)) (omega arith),
+  in-range 1 2 (h .kind) (f .kind-low) (f .kind-top) (omega arith),
   (
     in-range 0 1999999999 (h .begin) (omega arith) (omega (arith, f .road, f .road-end)) (omega arith),
     (
@@ -52,10 +62,7 @@ header-in h f = (
                       in-range 0 10 (h .across) (omega arith) (f .across-top) (omega arith),
                       (
                         in-range 0 100000 (h .straight) (omega arith) (f .straight-top) (omega arith),
-                        (
-                          in-range 0 200000 (h .continuity) (omega arith) (f .continuity-top) (omega arith),
-                          (in-range 0 256 (h .count) (omega arith) (f .count) (omega arith), tt),
-                        ),
+                        (in-range 0 200000 (h .continuity) (omega arith) (f .continuity-top) (omega arith), last-in h f),
                       ),
                     ),
                   ),
@@ -88,13 +95,24 @@ hazard-in h z road f = (
   ),
 )
 
+-- A header's numbers make it again.
+pub header-again : (h : Header) → HeaderFits h → headerOf (headerNumbers h) ≡ h
+header-again h f = go (eqb (h .kind) 2) refl
+  where
+    go : (t : Bool) → eqb (h .kind) 2 ≡ t → headerOf (sharedNumbers h ++ (if eqb (h .kind) 2 then h .panel ∷ h .count ∷ [] else h .count ∷ [])) ≡ h
+    go true e = rw e
+    go false e =
+        let other = eqb-false (h .kind) 2 e in
+        let plain : h .panel ≡ 1 = f .panel-plain (omega (arith, f .kind-low, f .kind-top)) in
+        rw e (ap (λ (p : ℕ). headerWith (sharedNumbers h ++ h .count ∷ []) p (h .count)) (sym plain))
+
 -- A job that fits reads back from its writing.
 pub job-written : (j : Job) → JobFits j → readJob (writeJob j) ≡ accepted j
 unfolding readRest readHazards writeJob
 job-written j fits =
     let g = ofHazard (j .header) (j .hazards) in
     let each : (z : Hazard) → List·Memᴰ z (j .hazards) → InRanges (nextInHazard (j .header)) [] (hazardNumbers z) = λ z m. hazard-in (j .header) z (fits .header .road-end) (fits .hazards .each z m) in
-    let stands : Stands (writeJob j) g [] [] = record { before = (header-in (j .header) (fits .header), each); own = tt; bytes = simp append-nil } in
+    let stands : Stands (writeJob j) g [] [] = record { before = (header-in (j .header) (fits .header), header-again (j .header) (fits .header), each); own = tt; bytes = simp append-nil } in
     job-behind 0 stands (omega (arith, fits .hazards .count)) ∙ rw (le-leb (length (writeJob j)) (behind g []) (omega (arith, ap length (stands .bytes), length-append (writeNumbers (numbersOf j ++ [])) [])))
 
 -- The length of a writing
@@ -104,10 +122,24 @@ number-within : (g n : ℕ) → n < 128 ^ suc g → length (writeNumber n) ≤ s
 unfolding writeNumber
 number-within g n h = length-below 5 g n h
 
-header-length : (h : Header) → HeaderFits h → length (writeNumbers (headerNumbers h)) ≤ 38
+last-length : (h : Header) → HeaderFits h → length (writeNumbers (lastNumbers h)) ≤ 4
+unfolding writeNumbers
+last-length h f = go (eqb (h .kind) 2)
+  where
+    panel : length (writeNumber (h .panel)) ≤ 2
+    panel = number-within 1 (h .panel) (omega (arith, f .panel-top))
+
+    count : length (writeNumber (h .count)) ≤ 2
+    count = number-within 1 (h .count) (omega (arith, f .count))
+
+    go : (t : Bool) → length (writeNumbers (if t then h .panel ∷ h .count ∷ [] else h .count ∷ [])) ≤ 4
+    go true = simp length-append (omega (arith, panel, count))
+    go false = simp length-append (omega (arith, count))
+
+header-length : (h : Header) → HeaderFits h → length (writeNumbers (headerNumbers h)) ≤ 40
 unfolding writeNumbers
 header-length h f =
-    let kind = number-within 0 (h .kind) (omega (arith, f .kind)) in
+    let kind = number-within 0 (h .kind) (omega (arith, f .kind-top)) in
     let begin = number-within 4 (h .begin) (omega (arith, f .road, f .road-end)) in
     let end = number-within 4 (h .end) (omega (arith, f .road-end)) in
     let forward = number-within 2 (h .forward) (omega (arith, f .forward-top)) in
@@ -120,8 +152,7 @@ header-length h f =
     let across = number-within 0 (h .across) (omega (arith, f .across-top)) in
     let straight = number-within 2 (h .straight) (omega (arith, f .straight-top)) in
     let continuity = number-within 2 (h .continuity) (omega (arith, f .continuity-top)) in
-    let count = number-within 1 (h .count) (omega (arith, f .count)) in
-    simp length-append (omega arith)
+    simp length-append (omega (arith, last-length h f))
 
 hazard-length : (h : Header) (z : Hazard) → h .end ≤ 2000000000 → HazardFits h z → length (writeNumbers (hazardNumbers z)) ≤ 18
 unfolding writeNumbers
@@ -142,12 +173,12 @@ hazards-length h (z ∷ zs) road fits =
     let others = hazards-length h zs road (λ y m. fits y (List·Memᴰ·tail m)) in
     rw (numbers-append (hazardNumbers z) (hazardsNumbers zs), length-append (writeNumbers (hazardNumbers z)) (writeNumbers (hazardsNumbers zs))) (omega arith)
 
--- "No accepted job is that long": 38 bytes of header and 18 of each hazard at most.
-pub written-length : (j : Job) → JobFits j → length (writeJob j) ≤ 4646
+-- "No accepted job is that long": 40 bytes of header and 18 of each hazard at most.
+pub written-length : (j : Job) → JobFits j → length (writeJob j) ≤ 4648
 unfolding writeJob numbersOf
 written-length j fits =
     rw (numbers-append (headerNumbers (j .header)) (hazardsNumbers (j .hazards)), length-append (writeNumbers (headerNumbers (j .header))) (writeNumbers (hazardsNumbers (j .hazards))))
     (omega (arith, header-length (j .header) (fits .header), hazards-length (j .header) (j .hazards) (fits .header .road-end) (fits .hazards .each), fits .hazards .count, fits .header .count))
 
-pub read-length : (s : List ℕ) (j : Job) → Bytes s → readJob s ≡ accepted j → length s ≤ 4646
+pub read-length : (s : List ℕ) (j : Job) → Bytes s → readJob s ≡ accepted j → length s ≤ 4648
 read-length s j b e = omega (arith, ap length (job-is-written s j b e), written-length j (job-fits s j e))

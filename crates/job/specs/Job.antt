@@ -4,7 +4,8 @@ use Prim.Native.Nat.{ℕ, zero, suc, _+_, _-_}
 use mathlib.Core.Bool.{Bool, _&&_}
 use mathlib.Core.List.{List, [], _∷_, _++_, map}
 use lib.ListN.{length, getD, take}
-use lib.Dec.{leb}
+use lib.Dec.{leb, eqb}
+use Rattle.refusal.specs.Choice.{if_then_else_}
 use Rattle.refusal.specs.Answer.{Answer, accepted, _>>=_, unless-refuse}
 use Rattle.number.specs.Number.{numberAt}
 use Rattle.job.specs.declared.Header.{Header}
@@ -41,11 +42,11 @@ l to h = record { low = l; high = h }
 abbrev pub within : Range → ℕ → Bool
 within r x = leb (r .low) x && leb x (r .high)
 
--- The header table's ranges, in order, where the road begins at A.
-unfoldable pub headerRanges : (A : ℕ) → List Range
-headerRanges A =
-    -- 1: kind
-    1 to 1
+-- The header table's ranges, in order, where the road begins at A: the thirteen numbers that every kind has.
+unfoldable pub sharedRanges : (A : ℕ) → List Range
+sharedRanges A =
+    -- 1: kind; 2 by document 02, request 4
+    1 to 2
     -- 2: A, road begin
     ∷ 0 to 1999999999
     -- 3: B, road end
@@ -69,9 +70,19 @@ headerRanges A =
     ∷ 0 to 100000
     -- 13: G, continuity limit
     ∷ 0 to 200000
-    -- 14: h, hazard count
-    ∷ 0 to 256
     ∷ []
+
+-- And those after G, by kind. Of kind 1, 14: h, hazard count. Document 02, request 4: "A kind 2 job has one more header number after G: panel
+-- length, 1 to 10,000. .. Number 15 is then the hazard count."
+abbrev pub lastRanges : (kind : ℕ) → List Range
+lastRanges kind = if eqb kind 2 then 1 to 10000 ∷ 0 to 256 ∷ [] else 0 to 256 ∷ []
+
+unfoldable pub headerRanges : (kind A : ℕ) → List Range
+headerRanges kind A = sharedRanges A ++ lastRanges kind
+
+-- "Header, 14 numbers"; of a kind 2 job 15 (law header-size). The last is the hazard count.
+abbrev pub headerSize : (kind : ℕ) → ℕ
+headerSize kind = if eqb kind 2 then 15 else 14
 
 -- "Side (0 right, 1 left); s, from A to B − 1; e, from s + 1 to B; near offset n from the travelled-way edge on its side, 0 to 60,000; far offset f, n to 60,000; level 1 to 6."
 unfoldable pub hazardRanges : (A B s n : ℕ) → List Range
@@ -79,7 +90,7 @@ hazardRanges A B s n = 0 to 1 ∷ A to (B - 1) ∷ (s + 1) to B ∷ 0 to 60000 �
 
 -- The range of the next number, after the numbers `got`.
 abbrev pub nextInHeader : (got : List ℕ) → Range
-nextInHeader got = getD (headerRanges (getD got 1 0)) (length got) (0 to 0)
+nextInHeader got = getD (headerRanges (getD got 0 0) (getD got 1 0)) (length got) (0 to 0)
 
 abbrev pub nextInHazard : Header → (got : List ℕ) → Range
 nextInHazard h got = getD (hazardRanges (h .begin) (h .end) (getD got 1 0) (getD got 3 0)) (length got) (0 to 0)
@@ -99,12 +110,19 @@ readFields rangeOf number valueOf (suc k) got s at =
     unless-refuse (within (rangeOf got) (x .value)) number (valueOf got) >>= λ _.
     readFields rangeOf number valueOf k (got ++ x .value ∷ []) s (x .next)
 
--- Refusal 3 returns the header number, 1 to 14.
-unfoldable pub readHeader : (s : List ℕ) → Answer Fields
-readHeader s = readFields nextInHeader 3 (λ got. length got + 1) 14 [] s 0
+-- How many header numbers are still to come after the first fourteen, `got`, of which the first is the kind.
+abbrev pub moreNumbers : (got : List ℕ) → ℕ
+moreNumbers got = headerSize (getD got 0 0) - 14
 
-abbrev pub headerOf : List ℕ → Header
-headerOf l = record {
+-- Refusal 3 returns the header number, 1 to 14, of a kind 2 job to 15.
+unfoldable pub readHeader : (s : List ℕ) → Answer Fields
+readHeader s =
+    readFields nextInHeader 3 (λ got. length got + 1) 14 [] s 0 >>= λ f.
+    readFields nextInHeader 3 (λ got. length got + 1) (moreNumbers (f .numbers)) (f .numbers) s (f .next)
+
+-- The thirteen numbers that every kind has, a panel length and a hazard count.
+abbrev pub headerWith : List ℕ → (panel count : ℕ) → Header
+headerWith l panel count = record {
   kind = getD l 0 0;
   begin = getD l 1 0;
   end = getD l 2 0;
@@ -118,8 +136,13 @@ headerOf l = record {
   across = getD l 10 0;
   straight = getD l 11 0;
   continuity = getD l 12 0;
-  count = getD l 13 0;
+  panel = panel;
+  count = count;
 }
+
+-- "Kind 1 acts as panel length 1."
+abbrev pub headerOf : List ℕ → Header
+headerOf l = if eqb (getD l 0 0) 2 then headerWith l (getD l 13 0) (getD l 14 0) else headerWith l 1 (getD l 13 0)
 
 abbrev pub hazardOf : List ℕ → Hazard
 hazardOf l = record { side = getD l 0 0; start = getD l 1 0; end = getD l 2 0; near = getD l 3 0; far = getD l 4 0; level = getD l 5 0 }

@@ -1,7 +1,8 @@
 -- What each reading function answers, and the part of the job's reading that it answers for.
 -- Assumes nothing.
-use Prim.Native.Nat.{ℕ}
+use Prim.Native.Nat.{ℕ, _+_}
 use mathlib.Core.List.{List, [], map}
+use lib.ListN.{length}
 use lib.Dec.{eqb}
 use Rattle.refusal.specs.Answer.{Answer, accepted, _>>=_, unless-refuse}
 use Rattle.refusal.specs.Refusal.{numberOf, valueOf, refusal, outcome}
@@ -21,7 +22,7 @@ use Rattle.job.specs.declared.hazard_fields.HazardRead.the-variants as H
 use Rattle.job.specs.declared.read.JobRead.{JobRead}
 use Rattle.job.specs.declared.read.Opening.{Opening}
 use Rattle.job.specs.declared.read.Opening.the-variants as Opening
-use Rattle.job.specs.Job.{Job, named, jobOf, Range, within, Fields, nextInHazard, readFields, readHeader, headerOf, hazardOf, readJob}
+use Rattle.job.specs.Job.{Job, named, jobOf, Range, within, headerSize, Fields, nextInHeader, nextInHazard, readFields, readHeader, headerWith, headerOf, hazardOf, readJob}
 
 -- One number, for 1, 2 and its range; out of range is the refusal `outside`.
 unfoldable pub fieldAt : Range → (outside : Refusal) (s : List ℕ) (at : ℕ) → Answer Reading
@@ -46,6 +47,10 @@ headerReading f = record { header = headerOf (f .numbers); next = f .next }
 unfoldable pub headerAt : (s : List ℕ) → Answer HeaderReading
 headerAt s = readHeader s >>= λ f. accepted (headerReading f)
 
+-- A kind 2 header whose first fourteen numbers are `got`: the fifteenth is read from byte index `at` on.
+unfoldable pub headerFrom : (got s : List ℕ) (at : ℕ) → Answer HeaderReading
+headerFrom got s at = readFields nextInHeader 3 (λ n. length n + 1) 1 got s at >>= λ f. accepted (headerReading f)
+
 abbrev pub headerAnswer : HeaderRead → Answer HeaderReading
 headerAnswer (HeaderRead.Header h n) = accepted (record { header = h; next = n })
 headerAnswer (HeaderRead.Refused r) = refusal r
@@ -68,7 +73,7 @@ hazardAnswer (HazardRead.Refused r) = refusal r
 
 -- No job: every number 0, and no hazard.
 abbrev pub noJob : Job
-noJob = record { header = headerOf []; hazards = [] }
+noJob = record { header = headerWith [] 0 0; hazards = [] }
 
 -- A place in which no hazard is stored.
 abbrev pub unused : NamedHazard
@@ -86,9 +91,9 @@ jobAnswer r = outcome (r .outcome) (jobOf (r .job))
 unfoldable pub jobHeader : (s : List ℕ) → Answer Header
 jobHeader s = readJob s >>= λ j. accepted (j .header)
 
--- Job bytes that carry no hazard, read as a job is: a hazard count above 0 is 3, at that number.
+-- Job bytes that carry no hazard, read as a job is: a hazard count above 0 is 3 at that number, and returns it: 14, of a kind 2 job 15.
 unfoldable pub readOpening : (s : List ℕ) → Answer Header
-readOpening s = headerAt s >>= λ x. unless-refuse (eqb (x .header .count) 0) 3 14 >>= λ _. jobHeader s
+readOpening s = headerAt s >>= λ x. unless-refuse (eqb (x .header .count) 0) 3 (headerSize (x .header .kind)) >>= λ _. jobHeader s
 
 abbrev pub openingAnswer : Opening → Answer Header
 openingAnswer (Opening.Header h) = accepted h

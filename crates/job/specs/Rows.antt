@@ -4,14 +4,14 @@ use Prim.Native.Nat.{ℕ, _+_, _≤_, _<_}
 use mathlib.Core.Path.{_≡_}
 use mathlib.Core.Bool.{true, false}
 use mathlib.Core.List.{List, [], _∷_, _++_, List·Memᴰ}
-use lib.ListN.{length}
+use lib.ListN.{length, getD}
 use Rattle.refusal.specs.declared.Refusal.{Refusal}
 use Rattle.refusal.specs.declared.Refusal.the-variants.{Ended, Malformed, HeaderRange, HazardRange, NearBarrier, OffRoad, LeftOver, Argument, Room, Schedule, Ranges, Name}
 use Rattle.number.specs.Number.{writeNumber, greatest}
 use Rattle.number.specs.Form.{EndsInside, IllFormed}
 use Rattle.job.specs.declared.Header.{Header}
 use Rattle.job.specs.declared.Hazard.{Hazard}
-use Rattle.job.specs.Job.{Job, Range, within, nextInHeader, nextInHazard}
+use Rattle.job.specs.Job.{Job, Range, within, headerSize, headerOf, nextInHeader, nextInHazard}
 use Rattle.job.specs.Writing.{headerNumbers, hazardNumbers, numbersOf, writeNumbers}
 
 -- A place in the job
@@ -21,14 +21,15 @@ pub data Group : Type 0 where
   ofHeader : Group
   ofHazard : (h : Header) (before : List Hazard) → Group
 
--- "Header, 14 numbers"; "then h hazards of six numbers".
+-- "Then h hazards of six numbers".
 abbrev pub HasGroup : Group → Type 0
 HasGroup ofHeader = Unit {0}
 HasGroup (ofHazard h before) = length before < h .count
 
-abbrev pub sizeOf : Group → ℕ
-sizeOf ofHeader = 14
-sizeOf (ofHazard h before) = 6
+-- How many numbers it has: the header's first, the kind, says so of the header.
+abbrev pub sizeOf : Group → (got : List ℕ) → ℕ
+sizeOf ofHeader got = headerSize (getD got 0 0)
+sizeOf (ofHazard h before) got = 6
 
 -- The range of its next number, after the numbers `got`.
 abbrev pub nextIn : Group → (got : List ℕ) → Range
@@ -47,7 +48,7 @@ InRanges rangeOf got (x ∷ xs) = ((within (rangeOf got) x ≡ true) × (x ≤ g
 abbrev pub BeforeInRanges : Group → Type 0
 BeforeInRanges ofHeader = Unit {0}
 BeforeInRanges (ofHazard h before) =
-    InRanges nextInHeader [] (headerNumbers h) × ((z : Hazard) → List·Memᴰ z before → InRanges (nextInHazard h) [] (hazardNumbers z))
+    InRanges nextInHeader [] (headerNumbers h) × (headerOf (headerNumbers h) ≡ h) × ((z : Hazard) → List·Memᴰ z before → InRanges (nextInHazard h) [] (hazardNumbers z))
 
 -- The bytes begin with the numbers before a group and `got` of its own, each in shortest form and in its range; `rest` follows.
 pub record Stands (s : List ℕ) (g : Group) (got rest : List ℕ) : Type 0 where
@@ -62,7 +63,7 @@ behind g got = length (writeNumbers (numbersBefore g ++ got))
 -- And the group has another number, which is to begin there.
 pub record Next (s : List ℕ) (g : Group) (got rest : List ℕ) : Type 0 where
   pub has : HasGroup g
-  pub more : length got < sizeOf g
+  pub more : length got < sizeOf g got
   pub stands : Stands s g got rest
 
 -- The rows
@@ -99,7 +100,7 @@ abbrev pub ReadRow : Refusal → (s : List ℕ) → Type 0
 ReadRow (Ended at) s = Unread EndsInside s at
 -- 2: "byte index where it begins"; "its fifth byte has the top bit set, or its value is too great, or it isn't in shortest form".
 ReadRow (Malformed at) s = Unread IllFormed s at
--- 3: "header number 1 to 14"; "header number outside its range".
+-- 3: "header number 1 to 14", of a kind 2 job to 15; "header number outside its range".
 ReadRow (HeaderRange number) s = (got : List ℕ) × OutOfRange s ofHeader got × (number ≡ length got + 1)
 -- 4: "hazard index from 0"; "hazard field outside its range".
 ReadRow (HazardRange index) s = (h : Header) × (before : List Hazard) × (got : List ℕ) × OutOfRange s (ofHazard h before) got × (index ≡ length before)

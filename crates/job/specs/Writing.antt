@@ -2,15 +2,23 @@
 -- Assumes nothing.
 use Prim.Native.Nat.{ℕ}
 use mathlib.Core.List.{List, [], _∷_, _++_}
+use lib.Dec.{eqb}
+use Rattle.refusal.specs.Choice.{if_then_else_}
 use Rattle.number.specs.Number.{writeNumber}
 use Rattle.job.specs.declared.Header.{Header}
 use Rattle.job.specs.declared.Hazard.{Hazard}
 use Rattle.job.specs.Job.{Job}
 
--- The fourteen numbers of the header table.
+-- The numbers of the header table: the thirteen that every kind has, and those after G, by kind.
+abbrev pub sharedNumbers : Header → List ℕ
+sharedNumbers h =
+    h .kind ∷ h .begin ∷ h .end ∷ h .forward ∷ h .opposite ∷ h .zone ∷ h .way ∷ h .offset ∷ h .deflection ∷ h .along ∷ h .across ∷ h .straight ∷ h .continuity ∷ []
+
+abbrev pub lastNumbers : Header → List ℕ
+lastNumbers h = if eqb (h .kind) 2 then h .panel ∷ h .count ∷ [] else h .count ∷ []
+
 abbrev pub headerNumbers : Header → List ℕ
-headerNumbers h =
-    h .kind ∷ h .begin ∷ h .end ∷ h .forward ∷ h .opposite ∷ h .zone ∷ h .way ∷ h .offset ∷ h .deflection ∷ h .along ∷ h .across ∷ h .straight ∷ h .continuity ∷ h .count ∷ []
+headerNumbers h = sharedNumbers h ++ lastNumbers h
 
 -- "Side; s; e; near offset n; far offset f; level."
 abbrev pub hazardNumbers : Hazard → List ℕ

@@ -1,13 +1,13 @@
-// The header's fourteen numbers.
+// The header's numbers: fourteen, of a kind 2 job fifteen.
 use super::Header;
 use super::field::Field;
 use super::field::read_field;
 use refusal::Refusal;
 ghost use mathlib.Core.Path.{_≡_};
 ghost use Prim.Native.Nat.{_<_, _≤_};
-ghost use lib.ListN.{getD};
-ghost use Rattle.job.specs.Job.{_to_, headerRanges, headerOf};
-ghost use Rattle.job.specs.Reply.{headerAt, headerAnswer};
+ghost use lib.ListN.{length, getD};
+ghost use Rattle.job.specs.Job.{_to_, headerRanges, headerSize, headerWith};
+ghost use Rattle.job.specs.Reply.{headerAt, headerFrom, headerAnswer};
 
 pub enum HeaderRead {
     // The header, and the index behind it.
@@ -18,9 +18,9 @@ pub enum HeaderRead {
 // The ends of a range, both included: low, then high.
 pub struct Bounds(pub u32, pub u32);
 
-// The header table's ranges, where the road begins at 0.
-const RANGES: [Bounds; 14] = [
-    Bounds(1, 1), // 1: kind
+// The header table's ranges of kind 2, where the road begins at 0. Kind 1 has no panel length, and its hazard count is number 14.
+const RANGES: [Bounds; 15] = [
+    Bounds(1, 2), // 1: kind
     Bounds(0, 1999999999), // 2: A
     Bounds(1, 2000000000), // 3: B, here above A = 0
     Bounds(1, 200000), // 4: LF
@@ -33,25 +33,39 @@ const RANGES: [Bounds; 14] = [
     Bounds(0, 10), // 11: b
     Bounds(0, 100000), // 12: T
     Bounds(0, 200000), // 13: G
-    Bounds(0, 256), // 14: h
+    Bounds(1, 10000), // 14: panel length
+    Bounds(0, 256), // 15: h
 ];
 
+// How many numbers a header has.
+pub fn header_size(kind: u32) -> usize
+    ensures { λ r. ⌜ r ≡ headerSize kind ⌝ }
+{
+    if kind == 2 { 15 } else { 14 }
+}
+
 // The range of the header number behind k others, where the road begins at begin; the road's end lies behind that.
-fn header_range(k: usize, begin: u32) -> Bounds
+fn header_range(k: usize, kind: u32, begin: u32) -> Bounds
     requires { ⌜ k < 14 ⌝ }
     requires { ⌜ begin ≤ 1999999999 ⌝ }
-    ensures { λ r. ⌜ (r .0) to (r .1) ≡ getD (headerRanges begin) k (0 to 0) ⌝ }
+    ensures { λ r. ⌜ (r .0) to (r .1) ≡ getD (headerRanges kind begin) k (0 to 0) ⌝ }
 {
     let range = RANGES[k];
     if k == 2 {
         return Bounds(begin + 1, range.1);
     }
+    if k == 13 {
+        if kind == 2 {
+            return range;
+        }
+        return RANGES[14];
+    }
     range
 }
 
-// The fourteen numbers by their names.
-pub fn header_of(numbers: [u32; 14]) -> Header
-    ensures { λ r. ⌜ r ≡ headerOf numbers ⌝ }
+// The numbers by their names.
+pub fn header_with(numbers: [u32; 14], panel: u32, count: u32) -> Header
+    ensures { λ r. ⌜ r ≡ headerWith numbers panel count ⌝ }
 {
     Header {
         kind: numbers[0],
@@ -67,7 +81,24 @@ pub fn header_of(numbers: [u32; 14]) -> Header
         across: numbers[10],
         straight: numbers[11],
         continuity: numbers[12],
-        count: numbers[13],
+        panel,
+        count,
+    }
+}
+
+// The fifteenth number of a kind 2 header, behind the fourteen before it.
+fn read_count(s: &[u8], numbers: [u32; 14], at: usize) -> HeaderRead
+    requires { ⌜ length numbers ≡ 14 ⌝ }
+    requires { ⌜ getD numbers 0 0 ≡ 2 ⌝ }
+    ensures { λ r. ⌜ headerAnswer r ≡ headerFrom numbers (now (s .entry)) at ⌝ }
+{
+    let range = RANGES[14];
+    match read_field(s, at, range.0, range.1, Refusal::HeaderRange(15)) {
+        Field::Number(reading) => HeaderRead::Header {
+            header: header_with(numbers, numbers[13], reading.value),
+            next: reading.next,
+        },
+        Field::Refused(refusal) => HeaderRead::Refused(refusal),
     }
 }
 
@@ -78,7 +109,7 @@ pub fn read_header(s: &[u8]) -> HeaderRead
     let mut at: usize = 0;
     let mut k: usize = 0;
     while k < 14 {
-        let range = header_range(k, numbers[1]);
+        let range = header_range(k, numbers[0], numbers[1]);
         match read_field(s, at, range.0, range.1, Refusal::HeaderRange(k + 1)) {
             Field::Number(reading) => {
                 numbers[k] = reading.value;
@@ -88,8 +119,11 @@ pub fn read_header(s: &[u8]) -> HeaderRead
         }
         k += 1;
     }
+    if numbers[0] == 2 {
+        return read_count(s, numbers, at);
+    }
     HeaderRead::Header {
-        header: header_of(numbers),
+        header: header_with(numbers, 1, numbers[13]),
         next: at,
     }
 }

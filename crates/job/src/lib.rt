@@ -1,4 +1,4 @@
-// A job: the header's fourteen numbers and up to 256 hazards, by value.
+// A job: the header's numbers and up to 256 hazards, by value.
 mod field; // a number with its range
 mod header_fields; // the header
 mod hazard_fields; // a hazard
@@ -32,6 +32,8 @@ pub struct Header {
     pub straight: u32,
     // G: the continuity limit.
     pub continuity: u32,
+    // The panel length; 1 in a job of kind 1.
+    pub panel: u32,
     // h: the hazard count.
     pub count: u32,
 }

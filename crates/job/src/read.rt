@@ -5,7 +5,8 @@ use super::StoredJob;
 use super::hazard_fields::HazardRead;
 use super::hazard_fields::read_hazard;
 use super::header_fields::HeaderRead;
-use super::header_fields::header_of;
+use super::header_fields::header_size;
+use super::header_fields::header_with;
 use super::header_fields::read_header;
 use super::named;
 use refusal::Outcome;
@@ -54,7 +55,7 @@ fn refused(refusal: Refusal) -> JobRead
 {
     JobRead {
         outcome: Outcome::Refused(refusal),
-        job: unfilled(header_of([0; 14])),
+        job: unfilled(header_with([0; 14], 0, 0)),
     }
 }
 
@@ -122,7 +123,7 @@ pub fn read_opening(s: &[u8]) -> Opening
     match read_header(s) {
         HeaderRead::Header { header, next: _ } => {
             if 0 < header.count {
-                return Opening::Refused(Refusal::HeaderRange(14));
+                return Opening::Refused(Refusal::HeaderRange(header_size(header.kind)));
             }
             read_to_end(s)
         }

@@ -21,7 +21,7 @@ use Rattle.job.specs.declared.Header.{Header}
 use Rattle.job.specs.declared.Hazard.{Hazard}
 use Rattle.job.specs.declared.NamedHazard.{NamedHazard}
 use Rattle.job.specs.declared.StoredJob.{StoredJob}
-use Rattle.job.specs.Job.{Job, Fields, named, unnamed, jobOf, readHeader, headerOf, readJob}
+use Rattle.job.specs.Job.{Job, Fields, named, unnamed, jobOf, headerSize, readHeader, headerOf, readJob}
 use Rattle.job.specs.Writing.{writeJob}
 use Rattle.job.specs.Reply.{unused, HeaderReading, headerReading, headerAt, jobHeader, readOpening}
 use Rattle.job.proofs.JobLaws.{HeaderFits, HazardFits, JobFits, job-fits}
@@ -84,14 +84,14 @@ module _ (s : List ℕ) where
       job (accepted j) none = ap (λ (zs : List Hazard). (testHazards (j .header) 0 zs >>= λ _. accepted j) >>= λ i. accepted (laidOut (i .header) [])) (none j refl)
 
       count : (f : Fields) → readHeader s ≡ accepted f → (b : Bool) → eqb (headerOf (f .numbers) .count) 0 ≡ b
-          → (unless-refuse b 3 14 >>= λ _. (readJob s >>= λ j. testHazards (j .header) 0 (j .hazards) >>= λ _. accepted j) >>= λ j. accepted (laidOut (j .header) []))
-          ≡ ((unless-refuse b 3 14 >>= λ _. readJob s >>= λ j. accepted (j .header)) >>= λ h. accepted (laidOut h []))
+          → (unless-refuse b 3 (headerSize (headerOf (f .numbers) .kind)) >>= λ _. (readJob s >>= λ j. testHazards (j .header) 0 (j .hazards) >>= λ _. accepted j) >>= λ j. accepted (laidOut (j .header) []))
+          ≡ ((unless-refuse b 3 (headerSize (headerOf (f .numbers) .kind)) >>= λ _. readJob s >>= λ j. accepted (j .header)) >>= λ h. accepted (laidOut h []))
       count f read true q = job (readJob s) (λ j e. none-read f j read q e)
       count f read false q = refl
 
       header : (a : Answer Fields) → readHeader s ≡ a
-          → (a >>= λ f. unless-refuse (eqb (headerOf (f .numbers) .count) 0) 3 14 >>= λ _. (readJob s >>= λ j. testHazards (j .header) 0 (j .hazards) >>= λ _. accepted j) >>= λ j. accepted (laidOut (j .header) []))
-          ≡ (((a >>= λ f. accepted (headerReading f)) >>= λ x. unless-refuse (eqb (x .header .count) 0) 3 14 >>= λ _. readJob s >>= λ j. accepted (j .header)) >>= λ h. accepted (laidOut h []))
+          → (a >>= λ f. unless-refuse (eqb (headerOf (f .numbers) .count) 0) 3 (headerSize (headerOf (f .numbers) .kind)) >>= λ _. (readJob s >>= λ j. testHazards (j .header) 0 (j .hazards) >>= λ _. accepted j) >>= λ j. accepted (laidOut (j .header) []))
+          ≡ (((a >>= λ f. accepted (headerReading f)) >>= λ x. unless-refuse (eqb (x .header .count) 0) 3 (headerSize (x .header .kind)) >>= λ _. readJob s >>= λ j. accepted (j .header)) >>= λ h. accepted (laidOut h []))
       header (refused k v) read = refl
       header (accepted f) read = count f read (eqb (headerOf (f .numbers) .count) 0) refl
 

@@ -9,18 +9,19 @@ use Rattle.refusal.specs.Answer.{Answer, accepted, refused, _>>=_, unless-refus
 use Rattle.refusal.specs.Refusal.{outcome}
 use Rattle.job.specs.declared.Hazard.{Hazard}
 use Rattle.job.specs.declared.StoredJob.{StoredJob}
-use Rattle.job.specs.Job.{named, jobOf, readHeader, headerOf}
+use Rattle.job.specs.Job.{named, jobOf, headerSize, readHeader, headerOf}
 use Rattle.job.specs.Writing.{writeJob}
 use Rattle.planning.specs.Envelope.{acceptJob}
 use Rattle.schedule.specs.Plan.{plan}
 use Rattle.open_memory.specs.Memory.{standing, laidOut, stands, inserted, without, admit, isOpenJob}
 use Rattle.open_job.specs.declared.Change.{Change}
 
--- "Opening takes job bytes that carry no hazard; it refuses as plan does without 9, and a hazard count above 0 is 3": of header number 14, at that number.
+-- "Opening takes job bytes that carry no hazard; it refuses as plan does without 9, and a hazard count above 0 is 3": at that number, which is
+-- returned, 14, of a kind 2 job 15.
 unfoldable pub openJob : (s : List ℕ) → Answer StoredJob
 openJob s =
     readHeader s >>= λ f.
-    unless-refuse (eqb (headerOf (f .numbers) .count) 0) 3 14 >>= λ _.
+    unless-refuse (eqb (headerOf (f .numbers) .count) 0) 3 (headerSize (headerOf (f .numbers) .kind)) >>= λ _.
     acceptJob s >>= λ j.
     accepted (laidOut (j .header) [])
 

@@ -4,17 +4,20 @@ use Prim.Native.Nat.{ℕ, _+_, _-_, _≤_, _<_}
 use native.Mathlib.Omega.{arith}
 use native.Mathlib.Decide.{decLt}
 use mathlib.Core.Path.{_≡_, refl, sym, ap, _∙_}
-use mathlib.Core.Bool.{Bool, true, false, _&&_, false≢true, and-true}
-use mathlib.Core.List.{List, [], _∷_}
-use lib.Dec.{leb, ltb}
-use borrow.Author.Tests.{le-leb, lt-leb, lt-ltb, le-ltb, leb-true}
+use mathlib.Core.Bool.{Bool, true, false, _&&_, _||_, false≢true, and-true}
+use mathlib.Core.List.{List, [], _∷_, _++_}
+use lib.ListN.{length}
+use lib.Dec.{leb, ltb, eqb}
+use borrow.Author.Tests.{le-leb, lt-leb, lt-ltb, le-ltb, leb-true, eqb-true, eqb-false, eq-eqb, ne-eqb}
+use Rattle.refusal.specs.Choice.{if_then_else_}
 use Rattle.refusal.proofs.TestLaws.{and-left, and-right, and-intro}
 use Rattle.job.specs.declared.Header.{Header}
 use Rattle.job.specs.declared.Hazard.{Hazard}
-use Rattle.job.specs.Job.{Range, within, headerRanges, hazardRanges}
-use Rattle.job.specs.Writing.{headerNumbers, hazardNumbers}
+use Rattle.job.specs.Job.{Range, within, _to_, sharedRanges, lastRanges, headerRanges, hazardRanges}
+use Rattle.job.specs.Writing.{sharedNumbers, lastNumbers, hazardNumbers}
 use Rattle.job.proofs.JobLaws.{HeaderFits, HazardFits}
 use Rattle.open_memory.specs.Memory.{counted, inRanges, headerInRange, hazardInRange}
+use Rattle.open_memory.specs.Steps.{lastInRange}
 
 -- The code's tests, beside each other and without those that always pass
 
@@ -96,14 +99,76 @@ in-ranges rs xs = and-all true (rangeTests rs xs) ∙ go rs xs
 
 -- The header
 
+-- Numbers in two parts.
+ranges-parts : (rs qs : List Range) (xs ys : List ℕ) → length rs ≡ length xs → inRanges (rs ++ qs) (xs ++ ys) ≡ (inRanges rs xs && inRanges qs ys)
+unfolding inRanges
+ranges-parts [] qs [] ys long = refl
+ranges-parts [] qs (x ∷ xs) ys long = absurd (omega arith)
+ranges-parts (r ∷ rs) qs [] ys long = absurd (omega arith)
+ranges-parts (r ∷ rs) qs (x ∷ xs) ys long =
+    ap (λ (b : Bool). within r x && b) (ranges-parts rs qs xs ys (omega arith)) ∙ sym (and-assoc (within r x) (inRanges rs xs) (inRanges qs ys))
+
+-- The thirteen numbers that every kind has, and then the others.
+pub header-parts : (h : Header) → headerInRange h ≡ (inRanges (sharedRanges (h .begin)) (sharedNumbers h) && lastInRange h)
+unfolding headerInRange lastInRange headerRanges sharedRanges
+header-parts h =
+    let shared = inRanges (sharedRanges (h .begin)) (sharedNumbers h) in
+    let last = inRanges (lastRanges (h .kind)) (lastNumbers h) in
+    let plain = eqb (h .kind) 2 || eqb (h .panel) 1 in
+    ap (λ (b : Bool). b && plain) (ranges-parts (sharedRanges (h .begin)) (lastRanges (h .kind)) (sharedNumbers h) (lastNumbers h) refl) ∙ and-assoc shared last plain
+
+-- The last numbers of a header, by kind.
+pub record LastFits (h : Header) : Type 0 where
+  pub plain : h .kind ≡ 1 → h .panel ≡ 1
+  pub low : 1 ≤ h .panel
+  pub top : h .panel ≤ 10000
+  pub count : h .count ≤ 256
+
+last-fits : (h : Header) → lastInRange h ≡ true → LastFits h
+unfolding lastInRange
+last-fits h e = go (eqb (h .kind) 2) refl e
+  where
+    go : (t : Bool) → eqb (h .kind) 2 ≡ t
+        → (inRanges (if t then 1 to 10000 ∷ 0 to 256 ∷ [] else 0 to 256 ∷ []) (if t then h .panel ∷ h .count ∷ [] else h .count ∷ []) && (t || eqb (h .panel) 1)) ≡ true → LastFits h
+    go true k w =
+        let a = in-all (1 to 10000 ∷ 0 to 256 ∷ []) (h .panel ∷ h .count ∷ []) (and-left _ true w) in
+        record { plain = λ one. absurd (omega (arith, eqb-true (h .kind) 2 k)); low = a .0 .0; top = a .0 .1; count = a .1 .0 .1 }
+    go false k w =
+        let a = in-all (0 to 256 ∷ []) (h .count ∷ []) (and-left _ (eqb (h .panel) 1) w) in
+        let one : h .panel ≡ 1 = eqb-true (h .panel) 1 (and-right (inRanges (0 to 256 ∷ []) (h .count ∷ [])) _ w) in
+        record { plain = λ _. one; low = omega arith; top = omega arith; count = a .0 .1 }
+
+last-ranged : (h : Header) → 1 ≤ h .kind → h .kind ≤ 2 → LastFits h → lastInRange h ≡ true
+unfolding lastInRange
+last-ranged h low top f = go (eqb (h .kind) 2) refl
+  where
+    go : (t : Bool) → eqb (h .kind) 2 ≡ t
+        → (inRanges (if t then 1 to 10000 ∷ 0 to 256 ∷ [] else 0 to 256 ∷ []) (if t then h .panel ∷ h .count ∷ [] else h .count ∷ []) && (t || eqb (h .panel) 1)) ≡ true
+    go true k = and-intro (all-in (1 to 10000 ∷ 0 to 256 ∷ []) (h .panel ∷ h .count ∷ []) ((f .low, f .top), ((omega arith, f .count), tt))) refl
+    go false k =
+        let other = eqb-false (h .kind) 2 k in
+        and-intro (all-in (0 to 256 ∷ []) (h .count ∷ []) ((omega arith, f .count), tt)) (eq-eqb (h .panel) 1 (f .plain (omega arith)))
+
+-- The code's tests of them.
+pub last-of-two : (h : Header) → h .kind ≡ 2 → ((leb 1 (h .panel) && leb (h .panel) 10000) && leb (h .count) 256) ≡ lastInRange h
+unfolding lastInRange inRanges
+last-of-two h two = simp (eq-eqb (h .kind) 2 two, from-zero, and-true)
+
+pub last-of-one : (h : Header) → (h .kind ≡ 2 → ⊥) → (leb (h .count) 256 && eqb (h .panel) 1) ≡ lastInRange h
+unfolding lastInRange inRanges
+last-of-one h other = simp (ne-eqb (h .kind) 2 other, from-zero, and-true)
+
 pub header-fits : (h : Header) → headerInRange h ≡ true → HeaderFits h
-unfolding headerInRange headerRanges
+unfolding sharedRanges
 header-fits h e =
-    let t1 = in-all (headerRanges (h .begin)) (headerNumbers h) e in
+    let both : (inRanges (sharedRanges (h .begin)) (sharedNumbers h) && lastInRange h) ≡ true = sym (header-parts h) ∙ e in
+    let last = last-fits h (and-right (inRanges (sharedRanges (h .begin)) (sharedNumbers h)) (lastInRange h) both) in
+    let t1 = in-all (sharedRanges (h .begin)) (sharedNumbers h) (and-left (inRanges (sharedRanges (h .begin)) (sharedNumbers h)) (lastInRange h) both) in
     let t2 = t1 .1 in let t3 = t2 .1 in let t4 = t3 .1 in let t5 = t4 .1 in let t6 = t5 .1 in let t7 = t6 .1 in
-    let t8 = t7 .1 in let t9 = t8 .1 in let t10 = t9 .1 in let t11 = t10 .1 in let t12 = t11 .1 in let t13 = t12 .1 in let t14 = t13 .1 in
+    let t8 = t7 .1 in let t9 = t8 .1 in let t10 = t9 .1 in let t11 = t10 .1 in let t12 = t11 .1 in let t13 = t12 .1 in
     record {
-      kind = omega (arith, t1 .0 .0, t1 .0 .1);
+      kind-low = t1 .0 .0;
+      kind-top = t1 .0 .1;
       road = omega (arith, t3 .0 .0);
       road-end = t3 .0 .1;
       forward-low = t4 .0 .0;
@@ -120,15 +185,18 @@ header-fits h e =
       across-top = t11 .0 .1;
       straight-top = t12 .0 .1;
       continuity-top = t13 .0 .1;
-      count = t14 .0 .1;
+      panel-plain = last .plain;
+      panel-low = last .low;
+      panel-top = last .top;
+      count = last .count;
     }
 
-pub header-ranged : (h : Header) → HeaderFits h → headerInRange h ≡ true
-unfolding headerInRange headerRanges
-header-ranged h f =
-    all-in (headerRanges (h .begin)) (headerNumbers h)
+shared-ranged : (h : Header) → HeaderFits h → inRanges (sharedRanges (h .begin)) (sharedNumbers h) ≡ true
+unfolding sharedRanges
+shared-ranged h f =
+    all-in (sharedRanges (h .begin)) (sharedNumbers h)
     ((
-      (omega (arith, f .kind), omega (arith, f .kind)),
+      (f .kind-low, f .kind-top),
       (
         (omega arith, omega (arith, f .road, f .road-end)),
         (
@@ -151,10 +219,7 @@ header-ranged h f =
                           (omega arith, f .across-top),
                           (
                             (omega arith, f .straight-top),
-                            (
-                              (omega arith, f .continuity-top),
-                              ((omega arith, f .count), tt),
-                            ),
+                            ((omega arith, f .continuity-top), tt),
                           ),
                         ),
                       ),
@@ -168,9 +233,16 @@ header-ranged h f =
       ),
     ))
 
+pub header-ranged : (h : Header) → HeaderFits h → headerInRange h ≡ true
+header-ranged h f =
+    header-parts h
+    ∙ and-intro (shared-ranged h f)
+    (last-ranged h (f .kind-low) (f .kind-top) (record { plain = f .panel-plain; low = f .panel-low; top = f .panel-top; count = f .count }))
+
 pub counted-fits : (h : Header) (n : ℕ) → HeaderFits h → n ≤ 256 → HeaderFits (counted h n)
 counted-fits h n f few = record {
-  kind = f .kind;
+  kind-low = f .kind-low;
+  kind-top = f .kind-top;
   road = f .road;
   road-end = f .road-end;
   forward-low = f .forward-low;
@@ -187,6 +259,9 @@ counted-fits h n f few = record {
   across-top = f .across-top;
   straight-top = f .straight-top;
   continuity-top = f .continuity-top;
+  panel-plain = f .panel-plain;
+  panel-low = f .panel-low;
+  panel-top = f .panel-top;
   count = few;
 }
 

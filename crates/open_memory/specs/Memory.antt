@@ -1,7 +1,7 @@
 -- An open job in the caller's memory: what stands in it, and which memory keeps the rules.
 -- Assumes nothing.
 use Prim.Native.Nat.{ℕ, _+_}
-use mathlib.Core.Bool.{Bool, true, false, _&&_, not}
+use mathlib.Core.Bool.{Bool, true, false, _&&_, _||_, not}
 use mathlib.Core.List.{List, [], _∷_}
 use lib.ListN.{length, take, drop}
 use lib.Dec.{leb, ltb, eqb}
@@ -47,6 +47,7 @@ counted h n = record {
   across = h .across;
   straight = h .straight;
   continuity = h .continuity;
+  panel = h .panel;
   count = n;
 }
 
@@ -80,8 +81,9 @@ inRanges [] [] = true
 inRanges [] (x ∷ xs) = false
 inRanges (r ∷ rs) [] = false
 
+-- Each of the header's numbers in its range; of kind 1, which has no panel length and "acts as panel length 1", the panel length is 1.
 unfoldable pub headerInRange : Header → Bool
-headerInRange h = inRanges (headerRanges (h .begin)) (headerNumbers h)
+headerInRange h = inRanges (headerRanges (h .kind) (h .begin)) (headerNumbers h) && (eqb (h .kind) 2 || eqb (h .panel) 1)
 
 unfoldable pub hazardInRange : Header → Hazard → Bool
 hazardInRange h z = inRanges (hazardRanges (h .begin) (h .end) (z .start) (z .near)) (hazardNumbers z)

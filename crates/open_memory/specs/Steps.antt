@@ -2,20 +2,25 @@
 -- Assumes nothing.
 use Prim.Native.Nat.{ℕ, suc, _+_, _-_}
 use mathlib.Core.Path.{_≡_}
-use mathlib.Core.Bool.{Bool, true, _&&_}
+use mathlib.Core.Bool.{Bool, true, _&&_, _||_}
 use mathlib.Core.List.{List, [], _∷_, _++_}
 use lib.ListN.{take, drop, replicate}
-use lib.Dec.{leb, ltb}
+use lib.Dec.{leb, ltb, eqb}
 use Rattle.refusal.specs.Choice.{if_then_else_, allOf}
 use Rattle.refusal.specs.Answer.{Answer, accepted, _>>=_, unless-refuse}
 use Rattle.job.specs.declared.Header.{Header}
 use Rattle.job.specs.declared.NamedHazard.{NamedHazard}
 use Rattle.job.specs.declared.StoredJob.{StoredJob}
-use Rattle.job.specs.Job.{unnamed, jobOf}
+use Rattle.job.specs.Job.{unnamed, jobOf, lastRanges}
+use Rattle.job.specs.Writing.{lastNumbers}
 use Rattle.job.specs.Reply.{unused}
 use Rattle.runs.specs.declared.Stretch.{Stretch}
 use Rattle.planning.specs.Envelope.{sideEnvelopes}
-use Rattle.open_memory.specs.Memory.{mostStanding, greatestName, standing, headerInRange, hazardInRange, isUnused, isOpenJob}
+use Rattle.open_memory.specs.Memory.{mostStanding, greatestName, standing, inRanges, headerInRange, hazardInRange, isUnused, isOpenJob}
+
+-- The header's numbers after the thirteen that every kind has.
+unfoldable pub lastInRange : Header → Bool
+lastInRange h = inRanges (lastRanges (h .kind)) (lastNumbers h) && (eqb (h .kind) 2 || eqb (h .panel) 1)
 
 -- A name that is a byte from `low` on, and a hazard in its ranges; and all of them, with rising names.
 unfoldable pub inOrderFrom : Header → (low : ℕ) → NamedHazard → Bool

@@ -15,20 +15,21 @@ ghost use Prim.Native.Nat.{_≤_};
 ghost use lib.ListN.{drop};
 ghost use Rattle.refusal.specs.Choice.{allOf};
 ghost use Rattle.refusal.specs.Stored.{acceptedOr};
-ghost use Rattle.job.specs.Job.{unnamed};
+ghost use Rattle.job.specs.Job.{unnamed, sharedRanges};
+ghost use Rattle.job.specs.Writing.{sharedNumbers};
 ghost use Rattle.planning.specs.Reply.{storedEnvelopes, sideAnswer};
-ghost use Rattle.open_memory.specs.Memory.{hazardGiven, standing, headerInRange, hazardInRange, isUnused, isOpenJob};
-ghost use Rattle.open_memory.specs.Steps.{inOrderFrom, allInOrder, inOrder, openEnvelopes};
+ghost use Rattle.open_memory.specs.Memory.{hazardGiven, standing, inRanges, headerInRange, hazardInRange, isUnused, isOpenJob};
+ghost use Rattle.open_memory.specs.Steps.{lastInRange, inOrderFrom, allInOrder, inOrder, openEnvelopes};
 
 // No hazard stands on this side: they are tested, and no envelope is kept.
 pub const NO_SIDE: u64 = 2;
 
-// Each of the header's numbers lies in its range, in the table's order.
-fn header_in_range(h: Header) -> bool
-    ensures { λ r. ⌜ r ≡ headerInRange h ⌝ }
+// Each of the thirteen header numbers that every kind has lies in its range, in the table's order.
+fn shared_in_range(h: Header) -> bool
+    ensures { λ r. ⌜ r ≡ inRanges (sharedRanges (h .begin)) (sharedNumbers h) ⌝ }
 {
     (1 <= h.kind)
-        & (h.kind <= 1)
+        & (h.kind <= 2)
         & (0 <= h.begin)
         & (h.begin <= 1999999999)
         & (h.begin as u64 + 1 <= h.end as u64)
@@ -53,8 +54,23 @@ fn header_in_range(h: Header) -> bool
         & (h.straight <= 100000)
         & (0 <= h.continuity)
         & (h.continuity <= 200000)
-        & (0 <= h.count)
-        & (h.count <= 256)
+}
+
+// So do the numbers after them, by kind. Kind 1 stores panel length 1.
+fn last_in_range(h: Header) -> bool
+    ensures { λ r. ⌜ r ≡ lastInRange h ⌝ }
+{
+    if h.kind == 2 {
+        (1 <= h.panel) & (h.panel <= 10000) & (h.count <= 256)
+    } else {
+        (h.count <= 256) & (h.panel == 1)
+    }
+}
+
+fn header_in_range(h: Header) -> bool
+    ensures { λ r. ⌜ r ≡ headerInRange h ⌝ }
+{
+    shared_in_range(h) & last_in_range(h)
 }
 
 // Each of a hazard's numbers lies in its range, in the paper's order.

@@ -3,3 +3,4 @@ pub mod KeptLaws
 pub mod ListLaws
 pub mod AddedLaws
 pub mod MeaningLaws
+pub mod BeforeLaws

@@ -36,7 +36,7 @@ planned : (j : Job) → AcceptedFits j → (side room : ℕ) → side ≤ 1 → 
 planned j f side room l = plan-written j f side room ∙ rw (le-leb side 1 l)
 
 counted-alike : (h : Header) (a b : ℕ) → Alike (counted h a) (counted h b)
-counted-alike h a b = record { kind = refl; begin = refl; end = refl; forward = refl; opposite = refl; zone = refl; way = refl; offset = refl; deflection = refl; along = refl; across = refl; straight = refl; continuity = refl }
+counted-alike h a b = record { kind = refl; begin = refl; end = refl; forward = refl; opposite = refl; zone = refl; way = refl; offset = refl; deflection = refl; along = refl; across = refl; straight = refl; continuity = refl; panel = refl }
 
 module _ (h : Header) (fits : HeaderFits h) (xs ys : List Hazard) (few : length xs ≤ 256) (less : length ys ≤ 256) (may : (z : Hazard) → List·Memᴰ z xs → Admitted h z)
     (xy : (z : Hazard) → List·Memᴰ z xs → List·Memᴰ z ys) (yx : (z : Hazard) → List·Memᴰ z ys → List·Memᴰ z xs) where

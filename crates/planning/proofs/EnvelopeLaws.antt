@@ -150,7 +150,7 @@ module _ (j : Job) (side : ℕ) (fits : AcceptedFits j) where
   pub side-count : length (sideEnvelopes j side) ≤ 256
   side-count = omega (arith, envelopes-length (j .header) side (j .hazards), fits .fits .hazards .count, fits .fits .header .count)
 
--- A traffic that reaches a hazard of an accepted job asks for a length in the formula's domain, and is promised its lengthening.
+-- A traffic that reaches a hazard of an accepted job asks for a length in the formula's domain.
 module _ (j : Job) (fits : AcceptedFits j) (z : Hazard) (m : List·Memᴰ z (j .hazards)) (t : Traffic) (r : reaches (j .header) z t ≡ true) where
   clear : j .header .offset + j .header .deflection ≤ z .near
   unfolding reached

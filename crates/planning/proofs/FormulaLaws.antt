@@ -1,5 +1,5 @@
--- Formula and rule and the envelope: an envelope has exactly the hazard's own millimetres and those upstream of it by less than the length
--- before rounding, through approach's promise.
+-- Formula, rule and raising and the envelope: an envelope has exactly the hazard's own millimetres and those upstream of it by less than the
+-- length in whole panels, through approach's promise.
 -- Assumes nothing.
 use Prim.Native.Nat.{ℕ, _+_, _-_, _≤_, _<_}
 use native.Mathlib.Omega.{arith}
@@ -10,8 +10,9 @@ use mathlib.Core.Bool.{Bool, true, false}
 use mathlib.Core.List.{List·Memᴰ}
 use Rattle.refusal.specs.Choice.{if_then_else_}
 use Rattle.refusal.proofs.TestLaws.{or-left, or-right}
-use Rattle.approach.specs.Approach.{approachLength}
-use Rattle.approach.proofs.ApproachLaws.{approach-below, divisor-some}
+use Rattle.approach.specs.Panel.{raisedLength}
+use Rattle.approach.proofs.ApproachLaws.{divisor-some}
+use Rattle.approach.proofs.PanelLaws.{raised-length-below}
 use Rattle.job.specs.declared.Hazard.{Hazard}
 use Rattle.job.specs.Job.{Job}
 use Rattle.runs.specs.Level.{Has}
@@ -26,19 +27,19 @@ module _ (j : Job) (fits : AcceptedFits j) (z : Hazard) (m : List·Memᴰ z (j .
   is-reached forward r = or-left (reaches (j .header) z opposite) r
   is-reached opposite r = or-right (reaches (j .header) z forward) r
 
-  -- A distance below the approach length before rounding is below the lengthening, and no other is.
+  -- A distance below the approach length in whole panels is below the lengthening, and no other is.
   nearer : (t : Traffic) → reaches (j .header) z t ≡ true → (d : ℕ) → BelowApproach (j .header) z t d → d < lengthening (j .header) z t
   unfolding lengthening
-  nearer t r d below = rw r (approach-below _ _ _ _ _ _ (divisor-some _ _ _ _ _ _ (domain-of j fits z m t r)) d .1 below)
+  nearer t r d below = rw r (raised-length-below _ _ _ _ _ _ _ (fits .fits .header .panel-low) (divisor-some _ _ _ _ _ _ (domain-of j fits z m t r)) d .1 below)
 
   lengthened : (t : Traffic) (d : ℕ) → d < lengthening (j .header) z t → (reaches (j .header) z t ≡ true) × BelowApproach (j .header) z t d
   unfolding lengthening
   lengthened t d l = go (reaches (j .header) z t) refl l
     where
       go : (b : Bool) → reaches (j .header) z t ≡ b
-          → d < (if b then approachLength (j .header .along) (j .header .across) (j .header .straight) (runout (j .header) t) (reachOf (j .header) z t) (offsetOf (j .header) z t) else 0)
+          → d < (if b then raisedLength (j .header .panel) (j .header .along) (j .header .across) (j .header .straight) (runout (j .header) t) (reachOf (j .header) z t) (offsetOf (j .header) z t) else 0)
           → (reaches (j .header) z t ≡ true) × BelowApproach (j .header) z t d
-      go true r k = (r, approach-below _ _ _ _ _ _ (divisor-some _ _ _ _ _ _ (domain-of j fits z m t r)) d .0 k)
+      go true r k = (r, raised-length-below _ _ _ _ _ _ _ (fits .fits .header .panel-low) (divisor-some _ _ _ _ _ _ (domain-of j fits z m t r)) d .0 k)
       go false r k = absurd (omega arith)
 
   -- A station upstream by less than the lengthening is in the envelope.

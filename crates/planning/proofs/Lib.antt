@@ -7,3 +7,4 @@ pub mod FormulaLaws
 pub mod JobRunLaws
 pub mod AcceptedLaws
 pub mod RowLaws
+pub mod BeforeLaws

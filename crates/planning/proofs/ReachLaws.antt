@@ -12,7 +12,8 @@ use borrow.Author.Tests.{ltb-true, lt-ltb, le-ltb, eq-eqb}
 use Rattle.refusal.specs.Choice.{if_then_else_}
 use Rattle.refusal.proofs.TestLaws.{and-left, and-right, and-intro, or-cases, or-left, or-right}
 use Rattle.approach.specs.Approach.{approachLength, Domain}
-use Rattle.approach.proofs.ApproachLaws.{length-fits}
+use Rattle.approach.specs.Panel.{LeastMultiple, raisedLength}
+use Rattle.approach.proofs.PanelLaws.{raised-least, raised-length-fits}
 use Rattle.job.specs.declared.Header.{Header}
 use Rattle.job.specs.declared.Hazard.{Hazard}
 use Rattle.job.proofs.JobLaws.{HeaderFits, HazardFits}
@@ -106,16 +107,22 @@ module _ (h : Header) (z : Hazard) (hf : HeaderFits h) (zf : HazardFits h z) (cl
       }
 
   -- Its lengthening is the length that the approach crate promises.
-  pub reaching-length : reaches h z t ≡ true → approachLength (h .along) (h .across) (h .straight) (runout h t) (reachOf h z t) (offsetOf h z t) ≡ lengthening h z t
+  pub reaching-length : reaches h z t ≡ true → raisedLength (h .panel) (h .along) (h .across) (h .straight) (runout h t) (reachOf h z t) (offsetOf h z t) ≡ lengthening h z t
   unfolding lengthening
   reaching-length r = rw r
 
-  pub lengthening-top : lengthening h z t ≤ 200000
+  -- "Each approach length is raised to the least multiple of it that is not smaller."
+  pub reaching-raised : reaches h z t ≡ true → LeastMultiple (h .panel) (approachLength (h .along) (h .across) (h .straight) (runout h t) (reachOf h z t) (offsetOf h z t)) (lengthening h z t)
+  unfolding lengthening raisedLength
+  reaching-raised r = rw r (raised-least _ _ (hf .panel-low))
+
+  pub lengthening-top : lengthening h z t < 210000
   unfolding lengthening
   lengthening-top = go (reaches h z t) reaching-domain
     where
-      go : (b : Bool) → (b ≡ true → Domain (h .along) (h .across) (h .straight) (runout h t) (reachOf h z t) (offsetOf h z t)) → (if b then approachLength (h .along) (h .across) (h .straight) (runout h t) (reachOf h z t) (offsetOf h z t) else 0) ≤ 200000
-      go true d = length-fits _ _ _ _ _ _ (d refl)
+      go : (b : Bool) → (b ≡ true → Domain (h .along) (h .across) (h .straight) (runout h t) (reachOf h z t) (offsetOf h z t))
+          → (if b then raisedLength (h .panel) (h .along) (h .across) (h .straight) (runout h t) (reachOf h z t) (offsetOf h z t) else 0) < 210000
+      go true d = raised-length-fits _ _ _ _ _ _ _ (hf .panel-low) (d refl) (hf .panel-top)
       go false d = omega arith
 
   -- The length asked for with a traffic's own numbers.
@@ -128,7 +135,7 @@ module _ (h : Header) (z : Hazard) (hf : HeaderFits h) (zf : HazardFits h z) (cl
     unfolding reachOf offsetOf
     lengthening-domain = rw (e, p, q) (reaching-domain asked-reaches)
 
-    pub lengthening-asked : approachLength (h .along) (h .across) (h .straight) L R (h .offset + w) ≡ lengthening h z t
+    pub lengthening-asked : raisedLength (h .panel) (h .along) (h .across) (h .straight) L R (h .offset + w) ≡ lengthening h z t
     unfolding reachOf offsetOf
     lengthening-asked = rw (e, p, q) (reaching-length asked-reaches)
 

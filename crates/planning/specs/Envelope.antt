@@ -7,7 +7,7 @@ use mathlib.Core.List.{List, [], _∷_}
 use lib.Dec.{ltb, eqb}
 use Rattle.refusal.specs.Choice.{if_then_else_}
 use Rattle.refusal.specs.Answer.{Answer, accepted, _>>=_, unless-refuse}
-use Rattle.approach.specs.Approach.{approachLength, BelowRule}
+use Rattle.approach.specs.Panel.{raisedLength, BelowRaised}
 use Rattle.job.specs.declared.Header.{Header}
 use Rattle.job.specs.declared.Hazard.{Hazard}
 use Rattle.job.specs.Job.{Job, readJob}
@@ -52,11 +52,11 @@ reachOf h z t = min (z .far + farther h (z .side) t) (h .zone)
 unfoldable pub offsetOf : Header → Hazard → Traffic → ℕ
 offsetOf h z t = h .offset + farther h (z .side) t
 
--- By how much a traffic lengthens the envelope at the end that it approaches: its approach length where it reaches the hazard.
+-- By how much a traffic lengthens the envelope at the end that it approaches: its approach length in whole panels where it reaches the hazard.
 unfoldable pub lengthening : Header → Hazard → Traffic → ℕ
 lengthening h z t =
     if reaches h z t
-    then approachLength (h .along) (h .across) (h .straight) (runout h t) (reachOf h z t) (offsetOf h z t)
+    then raisedLength (h .panel) (h .along) (h .across) (h .straight) (runout h t) (reachOf h z t) (offsetOf h z t)
     else 0
 
 -- Envelope
@@ -71,12 +71,12 @@ abbrev pub Upstream : Traffic → Hazard → (d t : ℕ) → Type 0
 Upstream forward z d t = t + d + 1 ≡ z .start
 Upstream opposite z d t = t ≡ z .end + d
 
--- A distance below a traffic's approach length before rounding, multiplied out: no division.
+-- A distance below a traffic's approach length in whole panels, multiplied out: no rounding and no division.
 abbrev pub BelowApproach : Header → Hazard → Traffic → (d : ℕ) → Type 0
-BelowApproach h z t d = BelowRule (h .along) (h .across) (h .straight) (runout h t) (reachOf h z t) (offsetOf h z t) d
+BelowApproach h z t d = BelowRaised (h .panel) (h .along) (h .across) (h .straight) (runout h t) (reachOf h z t) (offsetOf h z t) d
 
--- What an envelope is to have, by formula and rule themselves: the hazard's own millimetres, and upstream of it those whose end towards it is
--- nearer than a reaching traffic's length before rounding.
+-- What an envelope is to have, by formula, rule and raising themselves: the hazard's own millimetres, and upstream of it those whose end
+-- towards it is nearer than a reaching traffic's length in whole panels.
 pub data Asked (h : Header) (z : Hazard) (t : ℕ) : Type 0 where
   beside : z .start ≤ t → t < z .end → Asked h z t
   upstream : (traffic : Traffic) → reaches h z traffic ≡ true → (d : ℕ) → Upstream traffic z d t → BelowApproach h z traffic d → Asked h z t
@@ -93,7 +93,8 @@ sideEnvelopes j side = envelopes (j .header) side (j .hazards)
 
 -- Refusals 5 and 6
 
--- 5: "reached hazard with n < M + D". 6: "envelope begins before A or ends after B", by sums. Both return the hazard index.
+-- 5: "reached hazard with n < M + D". 6: "envelope begins before A or ends after B", by sums; "a raised envelope can leave the road and is
+-- refused 6". Both return the hazard index.
 unfoldable pub testHazard : Header → (index : ℕ) → Hazard → Answer (Unit {0})
 testHazard h i z =
     unless-refuse (not (reached h z && ltb (z .near) (h .offset + h .deflection))) 5 i >>= λ _.

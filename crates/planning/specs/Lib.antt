@@ -2,3 +2,4 @@ pub mod Envelope
 pub mod Required
 pub mod Reply
 pub mod Rows
+pub mod Before

@@ -65,7 +65,7 @@ fn lengthened_by(header: Header, hazard: Hazard, traffic: Traffic) -> u32
     requires { ⌜ HeaderFits header ⌝ }
     requires { ⌜ HazardFits header hazard ⌝ }
     requires { ⌜ header .offset + header .deflection ≤ hazard .near ⌝ }
-    ensures { λ r. ⌜ (r ≡ lengthening header hazard (trafficOf traffic)) × (r ≤ 200000) ⌝ }
+    ensures { λ r. ⌜ (r ≡ lengthening header hazard (trafficOf traffic)) × (r < 210000) ⌝ }
 {
     let runout = runout_length(header, traffic);
     let farther = farther_by(header, hazard.side, traffic);
@@ -77,7 +77,8 @@ fn lengthened_by(header: Header, hazard: Hazard, traffic: Traffic) -> u32
     }
     let reach = lesser(hazard.far + farther, header.zone);
     let offset = header.offset + farther;
-    approach::domain_length(
+    approach::raised_length(
+        header.panel,
         header.along,
         header.across,
         header.straight,

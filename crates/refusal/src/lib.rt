@@ -7,7 +7,7 @@ pub enum Refusal {
     Ended(usize),
     // The number that begins at this index is overlong, too great or not in shortest form.
     Malformed(usize),
-    // This header number, 1 to 14, is outside its range; 0 where the memory of an open job breaks the rules.
+    // This header number, 1 to 14 (of a kind 2 job to 15), is outside its range; 0 where the memory of an open job breaks the rules.
     HeaderRange(usize),
     // A field of the hazard with this index is outside its range.
     HazardRange(usize),

@@ -10,8 +10,9 @@ use Rattle.refusal.specs.Choice.{someOf, keep}
 use Rattle.refusal.specs.Answer.{Answer, accepted, refused}
 use Rattle.number.specs.Number.{writeIn, writeNumber, scan, readNumber, numberAt}
 use Rattle.approach.specs.Approach.{ceilDiv, formulaLength, approachLength}
+use Rattle.approach.specs.Panel.{raised, raisedLength}
 use Rattle.job.specs.Writing.{writeNumbers}
-use Rattle.job.specs.Job.{Job, headerRanges, hazardRanges, readFields, readHeader, readHazards, readJob, readRest}
+use Rattle.job.specs.Job.{Job, sharedRanges, headerRanges, hazardRanges, readFields, readHeader, readHazards, readJob, readRest}
 use Rattle.runs.specs.declared.Stretch.{Stretch}
 use Rattle.runs.specs.Level.{filled, highest, requiredLevel}
 use Rattle.runs.specs.Required.{insertStation, endPoints, put, runsBetween, requiredRuns}
@@ -105,5 +106,5 @@ report-fits s = go (acceptJob s) refl
 -- The job on paper
 
 pub printed-report : reported (writeNumbers printedJob) ≡ printedText
-unfolding writeNumbers printedJob printedText someOf keep writeIn writeNumber scan readNumber numberAt ceilDiv formulaLength approachLength headerRanges hazardRanges readFields readHeader readHazards readRest readJob farther reachOf offsetOf reaches reached lengthening envelope envelopes testHazard testHazards acceptJob filled highest requiredLevel insertStation endPoints put runsBetween requiredRuns jobRuns digitsIn decimal fields line runLines covered runsReport reported
+unfolding writeNumbers printedJob printedText someOf keep writeIn writeNumber scan readNumber numberAt ceilDiv formulaLength approachLength raised raisedLength sharedRanges headerRanges hazardRanges readFields readHeader readHazards readRest readJob farther reachOf offsetOf reaches reached lengthening envelope envelopes testHazard testHazards acceptJob filled highest requiredLevel insertStation endPoints put runsBetween requiredRuns jobRuns digitsIn decimal fields line runLines covered runsReport reported
 printed-report = refl

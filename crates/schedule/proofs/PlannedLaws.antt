@@ -9,8 +9,9 @@ use mathlib.Core.List.{List, List·Memᴰ}
 use lib.ListN.{length}
 use borrow.Author.Tests.{le-leb}
 use Rattle.refusal.specs.Answer.{accepted}
-use Rattle.approach.specs.Approach.{approachLength}
-use Rattle.approach.proofs.ApproachLaws.{approach-below, divisor-some}
+use Rattle.approach.specs.Panel.{raisedLength}
+use Rattle.approach.proofs.ApproachLaws.{divisor-some}
+use Rattle.approach.proofs.PanelLaws.{raised-length-below}
 use Rattle.job.specs.declared.Hazard.{Hazard}
 use Rattle.job.specs.Job.{Job}
 use Rattle.planning.specs.Envelope.{Traffic, runout, reaches, reachOf, offsetOf, Upstream}
@@ -45,12 +46,12 @@ module _ (j : Job) (side : ℕ) (fits : AcceptedFits j) where
 pub planned-length : (s : List ℕ) (j : Job) (side : ℕ) (w : List ℕ) → Accepted s j → side ≤ 1 → Planned s side w
     → (z : Hazard) → List·Memᴰ z (j .hazards) → z .side ≡ side → (traffic : Traffic) → reaches (j .header) z traffic ≡ true
     → (d t : ℕ) → Upstream traffic z d t
-    → let h = j .header in d < approachLength (h .along) (h .across) (h .straight) (runout h traffic) (reachOf h z traffic) (offsetOf h z traffic)
+    → let h = j .header in d < raisedLength (h .panel) (h .along) (h .across) (h .straight) (runout h traffic) (reachOf h z traffic) (offsetOf h z traffic)
     → z .level ≤ scheduleLevel w t
 planned-length s j side w a h p z m on traffic r d t u l =
     let fits = accepted-fits s j a in
     let some = divisor-some _ _ _ _ _ _ (domain-of j fits z m traffic r) in
-    let required = formula-level j fits z m traffic r d t u (approach-below _ _ _ _ _ _ some d .0 l) in
+    let required = formula-level j fits z m traffic r d t u (raised-length-below _ _ _ _ _ _ _ (fits .fits .header .panel-low) some d .0 l) in
     let shown : scheduleLevel w t ≡ jobLevel j (z .side) t =
     ap (λ (x : List ℕ). scheduleLevel x t) (planned-only s j side w a h p) ∙ job-shown j side fits t ∙ ap (λ (x : ℕ). jobLevel j x t) (sym on) in
     subst (λ (x : ℕ). z .level ≤ x) (sym shown) required

@@ -81,14 +81,17 @@ pub mod c {
     #[repr(C)]
     #[derive(Clone, Copy)]
     pub struct OpenJob {
-        header: [u32; 14],
+        header: [u32; 15],
         standing: [Standing; 256],
     }
+
+    // As barrier.h has it: the engine writes this many bytes.
+    const _: () = assert!(size_of::<OpenJob>() == 5_180);
 
     impl OpenJob {
         /// All 0: memory that was never opened.
         pub const UNOPENED: OpenJob = OpenJob {
-            header: [0; 14],
+            header: [0; 15],
             standing: [Standing {
                 offsets_and_stations: [0; 4],
                 name: 0,

@@ -1,7 +1,7 @@
 //! The jobs of the measurement: all hazards on the right side, each reached by
 //! both traffics, the same bytes on every run.
 
-use cases::draft::Draft;
+use cases::draft::{Draft, Header};
 use cases::{Memory, Random};
 use reference::Stretch;
 use reference::job::Hazard;
@@ -46,14 +46,23 @@ impl Order {
 /// The road of every job.
 pub const ROAD_END: u64 = 2_000_000_000;
 
-const HEADER: [u64; 13] = [
-    1, 0, ROAD_END, 101_000, 88_000, 9_000, 1_500, 1_800, 1_000, 15, 1, 13_340, 5_000,
+const HEADER: Header = [
+    1, 0, ROAD_END, 101_000, 88_000, 9_000, 1_500, 1_800, 1_000, 15, 1, 13_340, 5_000, 1,
 ];
 
 /// No approach length of this header is greater.
 const MARGIN: u64 = 101_000;
 
 pub fn job(kind: Kind, order: Order, hazards: u64) -> Vec<u8> {
+    draft(kind, order, hazards).bytes()
+}
+
+/// The same job in whole panels of this length.
+pub fn job_in_panels(kind: Kind, order: Order, hazards: u64, length: u64) -> Vec<u8> {
+    draft(kind, order, hazards).in_panels(length).bytes()
+}
+
+fn draft(kind: Kind, order: Order, hazards: u64) -> Draft {
     let mut random = Random::new(hazards, kind.name());
     let mut draft = Draft {
         header: HEADER,
@@ -67,7 +76,7 @@ pub fn job(kind: Kind, order: Order, hazards: u64) -> Vec<u8> {
         Order::Station => draft.hazards.sort_by_key(|hazard| hazard[1]),
         Order::Shuffled => random.shuffle(&mut draft.hazards),
     }
-    draft.bytes()
+    draft
 }
 
 fn hazard(random: &mut Random, start: u64, length: u64, level: u64) -> [u64; 6] {

@@ -7,8 +7,9 @@ use cases::calls::{contract, record, reply};
 
 use crate::jobs::{self, Kind, Order, ROAD_END};
 
-pub const NAMES: [&str; 12] = [
+pub const NAMES: [&str; 13] = [
     "sparse-shuffled",
+    "sparse-shuffled-panels-4000",
     "dense-shuffled",
     "runs511-shuffled",
     "runs511-ordered",
@@ -56,10 +57,14 @@ pub fn read(arguments: &[String]) -> Option<Single> {
 impl Single {
     pub fn run(&self) {
         match self.name.as_str() {
-            "sparse-shuffled" => self.plan(Kind::Sparse, Order::Shuffled),
-            "dense-shuffled" => self.plan(Kind::Dense, Order::Shuffled),
-            "runs511-shuffled" => self.plan(Kind::Islands, Order::Shuffled),
-            "runs511-ordered" => self.plan(Kind::Islands, Order::Station),
+            "sparse-shuffled" => self.plan(jobs::job(Kind::Sparse, Order::Shuffled, 256)),
+            "sparse-shuffled-panels-4000" => {
+                let job = jobs::job_in_panels(Kind::Sparse, Order::Shuffled, 256, 4_000);
+                self.plan(job)
+            }
+            "dense-shuffled" => self.plan(jobs::job(Kind::Dense, Order::Shuffled, 256)),
+            "runs511-shuffled" => self.plan(jobs::job(Kind::Islands, Order::Shuffled, 256)),
+            "runs511-ordered" => self.plan(jobs::job(Kind::Islands, Order::Station, 256)),
             "quantity-511" => self.quantity(),
             "quantities-64-all" => self.quantities(&jobs::schedule_of_one_level(3), 3),
             "quantities-64-half" => self.quantities(&schedule_511(), 1),
@@ -71,8 +76,7 @@ impl Single {
         }
     }
 
-    fn plan(&self, kind: Kind, order: Order) {
-        let job = jobs::job(kind, order, 256);
+    fn plan(&self, job: Vec<u8>) {
         let mut out = vec![0; 8_192];
         for _ in 0..self.times {
             black_box(match self.who {

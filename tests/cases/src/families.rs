@@ -7,8 +7,8 @@ use reference::{Stretch, planned, schedule};
 use crate::Random;
 use crate::compare::{Checker, Difference};
 use crate::draft::{
-    B, C, Draft, FIELDS, FLARE_B, G, LF, LO, M, N, PRINTED, S, SIDE, T, W, number_bytes, printed,
-    range,
+    B, C, Draft, FIELDS, FLARE_B, G, KIND, LF, LO, M, N, PRINTED, S, SIDE, T, W, number_bytes,
+    printed, range,
 };
 use crate::faults::{Broken, FAULTS, wrong_forms};
 use crate::{jobs, open};
@@ -25,6 +25,7 @@ pub const ALL: &[Family] = &[
     family("the paper's own cases", paper),
     family("ends of every range", range_ends),
     family("every refusal in every place", every_place),
+    family("envelopes at the road's ends", road_ends),
     family("two faults at once", two_faults),
     family("jobs cut at every byte", cut_jobs),
     family("schedules cut at every byte", cut_schedules),
@@ -99,6 +100,19 @@ pub fn accepted(random: &mut Random, least: usize, most: usize) -> Draft {
     }
 }
 
+/// The same of this kind.
+pub fn accepted_of_kind(random: &mut Random, kind: u64, least: usize, most: usize) -> Draft {
+    loop {
+        let draft = accepted(random, least, most);
+        if draft.header[KIND] == kind {
+            return draft;
+        }
+    }
+}
+
+/// The kinds of a job.
+pub const KINDS: [u64; 2] = [1, 2];
+
 /// The planned schedules, right and left, of a random accepted job.
 fn schedules(random: &mut Random, least: usize, most: usize) -> (Vec<u8>, Vec<u8>) {
     let job = accepted(random, least, most).bytes();
@@ -109,7 +123,7 @@ fn schedules(random: &mut Random, least: usize, most: usize) -> (Vec<u8>, Vec<u8
 // The paper's own cases.
 
 /// K1 to K10 with both halves, headwalls protected before the flare begins and
-/// just not, and each on the left side too.
+/// just not, each of them in whole panels too, and all on the left side too.
 fn paper_jobs() -> Vec<Draft> {
     let k2 = printed().with(FLARE_B, 0);
     let k4 = k2.clone().with(LO, 101_000).with(W, 3_500);
@@ -127,7 +141,7 @@ fn paper_jobs() -> Vec<Draft> {
         k2.clone().with_hazard(S, 67_334),
         k2.clone().with_hazard(S, 67_333),
         k4.clone().with(B, 238_056),
-        k4.with(B, 238_055),
+        k4.clone().with(B, 238_055),
         k9(49_999),
         k9(50_000),
         k10(50),
@@ -144,6 +158,16 @@ fn paper_jobs() -> Vec<Draft> {
     // 28,000 without flare.
     for straight in [27_999, 28_000, 28_001] {
         list.push(worked_example_3().with(T, straight));
+    }
+    // 514 measures 67,334, 941 measures 44,227, and 4,000 measures 28,000.
+    let in_panels =
+        |draft: &Draft| [1, 514, 941, 4_000].map(|panel| draft.clone().in_panels(panel));
+    let raised: Vec<Draft> = list.iter().flat_map(in_panels).collect();
+    list.extend(raised);
+    // The road's ends: 67,334 raised to 68,000, 28,056 to 32,000.
+    let k4 = k4.in_panels(4_000);
+    for (start, end) in [(68_000, 242_000), (67_999, 242_000), (68_000, 241_999)] {
+        list.push(k4.clone().with_hazard(S, start).with(B, end));
     }
     let left: Vec<Draft> = list.iter().map(on_the_left).collect();
     list.extend(left);
@@ -177,7 +201,7 @@ fn k10(continuity: u64) -> Draft {
 /// Document 004's third example, with the straight length of its data.
 fn worked_example_3() -> Draft {
     let header = [
-        1, 0, 1_000_000, 46_000, 0, 5_000, 0, 1_800, 1_000, 21, 1, 7_600, 0,
+        1, 0, 1_000_000, 46_000, 0, 5_000, 0, 1_800, 1_000, 21, 1, 7_600, 0, 1,
     ];
     Draft {
         header,
@@ -200,8 +224,8 @@ fn paper(checker: &mut Checker, random: &mut Random) -> Outcome {
 
 /// Each number of a job set to each end of its range and one beyond.
 fn range_ends(checker: &mut Checker, random: &mut Random) -> Outcome {
-    for _ in 0..3 {
-        let numbers = accepted(random, 1, 3).numbers();
+    for kind in [KINDS, KINDS].concat() {
+        let numbers = accepted_of_kind(random, kind, 1, 3).numbers();
         for place in 0..numbers.len() {
             for value in around(range(&numbers, place)) {
                 let mut changed = numbers.clone();
@@ -224,9 +248,13 @@ pub fn around((low, high): (u64, u64)) -> Vec<u64> {
 
 /// All header numbers at once at ends of their ranges.
 fn full_ranges(checker: &mut Checker, random: &mut Random) -> Outcome {
-    for _ in 0..200 {
-        let mut numbers = PRINTED.numbers();
-        for place in 0..numbers.len() - 1 {
+    for index in 0..200 {
+        let draft = match index % 2 {
+            0 => PRINTED,
+            _ => PRINTED.in_panels(1),
+        };
+        let mut numbers = draft.numbers();
+        for place in 1..numbers.len() - 1 {
             let (low, high) = range(&numbers, place);
             numbers[place] = if random.percent(50) { low } else { high };
         }
@@ -243,11 +271,18 @@ fn full_ranges(checker: &mut Checker, random: &mut Random) -> Outcome {
     Ok(())
 }
 
+fn every_place(checker: &mut Checker, random: &mut Random) -> Outcome {
+    for kind in KINDS {
+        let draft = accepted_of_kind(random, kind, 1, 4);
+        every_place_of(checker, random, &draft)?;
+    }
+    Ok(())
+}
+
 /// For every number of a job: the bytes end before and inside it, it has a
 /// wrong form (with and without bytes behind it), it is out of range. Then
 /// bytes left over, and each hazard too near and off the road.
-fn every_place(checker: &mut Checker, random: &mut Random) -> Outcome {
-    let draft = accepted(random, 1, 4);
+fn every_place_of(checker: &mut Checker, random: &mut Random, draft: &Draft) -> Outcome {
     let numbers = draft.numbers();
     for place in 0..numbers.len() {
         let before = number_bytes(&numbers[..place]);
@@ -265,7 +300,7 @@ fn every_place(checker: &mut Checker, random: &mut Random) -> Outcome {
         let cut = [&before[..], &outside].concat();
         plan_both_sides(checker, random, &cut)?;
     }
-    faulty_hazards(checker, random, &draft)?;
+    faulty_hazards(checker, random, draft)?;
     left_over(checker, random, &draft.bytes())
 }
 
@@ -292,6 +327,19 @@ fn left_over(checker: &mut Checker, random: &mut Random, job: &[u8]) -> Outcome 
     let mut long = job.to_vec();
     long.resize(8_192, random.draw() as u8);
     plan_both_sides(checker, random, &long)
+}
+
+/// One hazard of a job at each end of its road and beyond it.
+fn road_ends(checker: &mut Checker, random: &mut Random) -> Outcome {
+    for _ in 0..100 {
+        let mut draft = accepted(random, 1, 6);
+        let hazard = random.index(draft.hazards.len());
+        for moved in jobs::at_road_ends(&draft, draft.hazards[hazard]) {
+            draft.hazards[hazard] = moved;
+            plan_both_sides(checker, random, &draft.bytes())?;
+        }
+    }
+    Ok(())
 }
 
 /// Two or more faults in one job: the order of refusals.
@@ -380,8 +428,8 @@ fn see_runs(checker: &mut Checker, schedule: &[u8]) {
 // Bytes cut and changed.
 
 fn cut_jobs(checker: &mut Checker, random: &mut Random) -> Outcome {
-    for _ in 0..6 {
-        let job = accepted(random, 0, 4).bytes();
+    for kind in [KINDS, KINDS, KINDS].concat() {
+        let job = accepted_of_kind(random, kind, 0, 4).bytes();
         for length in 0..=job.len() {
             plan_both_sides(checker, random, &job[..length])?;
         }
@@ -396,13 +444,15 @@ fn cut_jobs(checker: &mut Checker, random: &mut Random) -> Outcome {
 
 /// Every other value of every byte of a job, and some of a large one.
 fn changed_jobs(checker: &mut Checker, random: &mut Random) -> Outcome {
-    let job = accepted(random, 1, 2).bytes();
-    for at in 0..job.len() {
-        for other in 1..=255u8 {
-            let mut changed = job.clone();
-            changed[at] ^= other;
-            let side = random.below(2);
-            plan_one_length(checker, random, &changed, side)?;
+    for kind in KINDS {
+        let job = accepted_of_kind(random, kind, 1, 2).bytes();
+        for at in 0..job.len() {
+            for other in 1..=255u8 {
+                let mut changed = job.clone();
+                changed[at] ^= other;
+                let side = random.below(2);
+                plan_one_length(checker, random, &changed, side)?;
+            }
         }
     }
     let job = jobs::sparse(random, 100).bytes();

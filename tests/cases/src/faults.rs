@@ -1,7 +1,7 @@
 //! Jobs with faults: one for each row of the refusal table, alone or together.
 
 use crate::Random;
-use crate::draft::{A, B, Draft, E, FIELDS, HEADER, N, S, number_bytes, range};
+use crate::draft::{A, B, Draft, E, FIELDS, KIND, N, S, header_length, number_bytes, range};
 
 /// One way to break a job.
 #[derive(Clone, Copy, Debug)]
@@ -118,8 +118,13 @@ impl Broken {
             .push((place, number_bytes(&[outside[random.index(choices)]])));
     }
 
+    /// Where the hazards begin.
+    fn header_length(&self) -> usize {
+        header_length(self.numbers[KIND])
+    }
+
     pub fn hazard_count(&self) -> usize {
-        (self.numbers.len() - HEADER) / FIELDS
+        (self.numbers.len() - self.header_length()) / FIELDS
     }
 
     fn pick_hazard(&self, random: &mut Random) -> usize {
@@ -139,7 +144,8 @@ impl Broken {
 
     fn set_field(&mut self, hazard: usize, field: usize, value: u64) {
         if hazard < self.hazard_count() {
-            self.numbers[HEADER + FIELDS * hazard + field] = value;
+            let first = self.header_length() + FIELDS * hazard;
+            self.numbers[first + field] = value;
         }
     }
 }

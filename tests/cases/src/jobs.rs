@@ -1,12 +1,14 @@
 //! Random jobs, most of them accepted.
 
-use reference::approach::formula;
-use reference::envelope::{self, Approach, Envelope};
+use reference::approach::{formula, raised};
+use reference::envelope::{self, Approach, Direction, Envelope};
 use reference::job::Job;
 use reference::{Stretch, job, level};
 
 use crate::Random;
-use crate::draft::{A, B, C, D, Draft, E, FIELDS, G, LF, LO, M, N, S, SIDE, T, W};
+use crate::draft::{
+    A, B, C, D, Draft, E, FIELDS, G, Header, KIND, LF, LO, M, N, PANEL, S, SIDE, T, W,
+};
 
 /// How great the numbers of a random job are.
 struct World {
@@ -16,6 +18,7 @@ struct World {
     deflection: u64,
     straight: u64,
     continuity: u64,
+    panel: u64,
     hazard_length: u64,
 }
 
@@ -27,6 +30,7 @@ const SMALL: World = World {
     deflection: 8,
     straight: 30,
     continuity: 40,
+    panel: 12,
     hazard_length: 25,
 };
 
@@ -38,6 +42,7 @@ const WIDE: World = World {
     deflection: 5_000,
     straight: 100_000,
     continuity: 200_000,
+    panel: 10_000,
     hazard_length: 300_000,
 };
 
@@ -70,6 +75,10 @@ fn job_in(world: &World, random: &mut Random, count: u64) -> Draft {
     if random.percent(50) {
         set_straight(&mut draft, random);
     }
+    if draft.header[KIND] == 2 && random.percent(50) {
+        set_panel(&mut draft, random);
+        place_again(&mut draft, world, random);
+    }
     if random.percent(60) {
         bring_together(&mut draft, random);
     }
@@ -79,7 +88,7 @@ fn job_in(world: &World, random: &mut Random, count: u64) -> Draft {
     draft
 }
 
-fn header(world: &World, random: &mut Random) -> [u64; 13] {
+fn header(world: &World, random: &mut Random) -> Header {
     let begin = match random.below(4) {
         0 => random.edgy(0, world.station - 1),
         1 => random.edgy(0, world.station / 5),
@@ -108,8 +117,9 @@ fn header(world: &World, random: &mut Random) -> [u64; 13] {
     } else {
         0
     };
+    let [kind, panel] = kind(random, world.panel);
     [
-        1,
+        kind,
         begin,
         end,
         random.edgy(1, world.runout),
@@ -122,7 +132,16 @@ fn header(world: &World, random: &mut Random) -> [u64; 13] {
         across,
         random.edgy(0, world.straight),
         random.edgy(0, world.continuity),
+        panel,
     ]
+}
+
+/// Kind 1, or kind 2 with a panel length; kind 1 acts as panel length 1.
+fn kind(random: &mut Random, longest: u64) -> [u64; 2] {
+    match random.percent(50) {
+        true => [1, 1],
+        false => [2, random.edgy(1, longest)],
+    }
 }
 
 /// M and D, mostly such that a reached hazard can stand behind them.
@@ -136,7 +155,7 @@ fn barrier(world: &World, random: &mut Random, clear: u64) -> (u64, u64) {
     (barrier, random.edgy(1, room.clamp(1, world.deflection)))
 }
 
-fn hazard(header: &[u64; 13], world: &World, random: &mut Random) -> [u64; FIELDS] {
+fn hazard(header: &Header, world: &World, random: &mut Random) -> [u64; FIELDS] {
     let (start, end) = hazard_stations(header, world, random);
     let near = near_offset(header, random);
     let far = near + random.edgy(0, world.offset.min(60_000 - near));
@@ -148,13 +167,13 @@ fn hazard(header: &[u64; 13], world: &World, random: &mut Random) -> [u64; FIELD
     [random.below(2), start, end, near, far, level]
 }
 
-/// No approach length is above the greater of LF and LO, so a hazard that keeps
-/// away from the road's ends by that much stays on it.
-fn margin(header: &[u64; 13]) -> u64 {
-    header[LF].max(header[LO])
+/// No approach length is above the greater of LF and LO in whole panels, so a
+/// hazard that keeps away from the road's ends by that much stays on it.
+fn margin(header: &Header) -> u64 {
+    raised(header[LF].max(header[LO]), header[PANEL])
 }
 
-fn hazard_stations(header: &[u64; 13], world: &World, random: &mut Random) -> (u64, u64) {
+fn hazard_stations(header: &Header, world: &World, random: &mut Random) -> (u64, u64) {
     let (begin, end) = (header[A], header[B]);
     let margin = margin(header);
     let room = end - begin > 2 * margin;
@@ -176,7 +195,7 @@ fn stations(random: &mut Random, low: u64, high: u64, longest: u64) -> (u64, u64
 
 /// Mostly behind barrier and deflection and inside the clear zone; at times
 /// at the ends of both reaches.
-fn near_offset(header: &[u64; 13], random: &mut Random) -> u64 {
+fn near_offset(header: &Header, random: &mut Random) -> u64 {
     let (clear, half) = (header[C], header[W]);
     let least = header[M] + header[D];
     let far_reach = clear.saturating_sub(half);
@@ -195,18 +214,7 @@ fn near_offset(header: &[u64; 13], random: &mut Random) -> u64 {
 /// Sets T to the length without flare of one approach, next to it, or somewhere
 /// between those of the two traffics that reach one hazard.
 fn set_straight(draft: &mut Draft, random: &mut Random) {
-    let count = draft.hazards.len();
-    let Ok(job) = job::read(&draft.bytes()) else {
-        return;
-    };
-    if count == 0 {
-        return;
-    }
-    let hazard = &job.hazards[random.index(count)];
-    let lengths: Vec<u64> = envelope::approaches(&job, hazard)
-        .iter()
-        .map(|approach| without_flare(&job, approach))
-        .collect();
+    let lengths = some_lengths(draft, random, without_flare);
     let straight = match lengths[..] {
         [adjacent, far] if random.percent(40) => {
             random.between(adjacent.min(far), adjacent.max(far))
@@ -220,6 +228,49 @@ fn set_straight(draft: &mut Draft, random: &mut Random) {
         }
     };
     draft.header[T] = straight.min(100_000);
+}
+
+/// The lengths of the approaches to one hazard; none where nobody reaches it.
+fn some_lengths(
+    draft: &Draft,
+    random: &mut Random,
+    length: fn(&Job, &Approach) -> u64,
+) -> Vec<u64> {
+    let Ok(job) = job::read(&draft.bytes()) else {
+        return Vec::new();
+    };
+    if job.hazards.is_empty() {
+        return Vec::new();
+    }
+    let hazard = &job.hazards[random.index(job.hazards.len())];
+    envelope::approaches(&job, hazard)
+        .iter()
+        .map(|approach| length(&job, approach))
+        .collect()
+}
+
+/// Sets the panel length such that one approach is a multiple of it, or a
+/// millimetre to either side of one.
+fn set_panel(draft: &mut Draft, random: &mut Random) {
+    let lengths = some_lengths(draft, random, envelope::before_raising);
+    if lengths.is_empty() {
+        return;
+    }
+    let length = random.pick(&lengths);
+    let below = length.saturating_sub(1);
+    let multiple = random.pick(&[length, length, length + 1, below]);
+    let panels: Vec<u64> = (2..=10_000).filter(|panel| multiple % panel == 0).collect();
+    if !panels.is_empty() {
+        draft.header[PANEL] = random.pick(&panels);
+    }
+}
+
+/// Other stations for every hazard, as far from the road's ends as the header
+/// wants them now.
+fn place_again(draft: &mut Draft, world: &World, random: &mut Random) {
+    for hazard in &mut draft.hazards {
+        (hazard[S], hazard[E]) = hazard_stations(&draft.header, world, random);
+    }
 }
 
 /// The length of an approach without flare.
@@ -303,31 +354,60 @@ fn tighten_continuity(draft: &mut Draft, envelopes: &[Envelope], random: &mut Ra
 }
 
 fn tighten_road(draft: &mut Draft, envelopes: &[Envelope], random: &mut Random) {
-    let hazard_starts = draft.hazards.iter().map(|h| h[S]);
-    let hazard_ends = draft.hazards.iter().map(|h| h[E]);
-    let starts = envelopes.iter().map(|e| e.stretch.start);
-    let ends = envelopes.iter().map(|e| e.stretch.end);
-    if let Some(first) = starts.chain(hazard_starts).min() {
-        draft.header[A] = first + u64::from(random.percent(20));
-    }
-    if let Some(last) = ends.chain(hazard_ends).max() {
-        draft.header[B] = last - u64::from(random.percent(20));
+    if let Some(taken) = taken(&draft.hazards, envelopes) {
+        draft.header[A] = taken.start + u64::from(random.percent(20));
+        draft.header[B] = taken.end - u64::from(random.percent(20));
     }
     if draft.header[A] >= draft.header[B] {
         draft.header[B] = draft.header[A] + 1;
     }
 }
 
+/// The least stretch that has all hazards and envelopes; none without hazards.
+pub fn taken(hazards: &[[u64; FIELDS]], envelopes: &[Envelope]) -> Option<Stretch> {
+    let hazards = hazards
+        .iter()
+        .map(|hazard| Stretch::new(hazard[S], hazard[E]));
+    let all = hazards.chain(envelopes.iter().map(|envelope| envelope.stretch));
+    all.reduce(|a, b| Stretch::new(a.start.min(b.start), a.end.max(b.end)))
+}
+
+/// The hazard moved to each end of the road: so that its envelope ends there, is
+/// a millimetre beyond, or ends there before it is raised to whole panels.
+pub fn at_road_ends(draft: &Draft, fields: [u64; FIELDS]) -> Vec<[u64; FIELDS]> {
+    let alone = draft.clone().with_hazards(&[fields]);
+    let Ok(job) = job::read(&alone.bytes()) else {
+        return Vec::new();
+    };
+    let length = fields[E] - fields[S];
+    let mut list = Vec::new();
+    for approach in envelope::approaches(&job, &job.hazards[0]) {
+        let in_panels = envelope::length(&job, &approach);
+        let before = envelope::before_raising(&job, &approach);
+        for away in [in_panels, in_panels.saturating_sub(1), before] {
+            let mut moved = fields;
+            moved[S] = match approach.direction {
+                Direction::Forward => job.road_begin + away,
+                Direction::Opposite => job.road_end.saturating_sub(away + length),
+            };
+            moved[E] = moved[S] + length;
+            list.push(moved);
+        }
+    }
+    list
+}
+
 /// A header for large jobs, with room for every hazard between the reaches.
-fn large_header(random: &mut Random, end: u64) -> [u64; 13] {
+fn large_header(random: &mut Random, end: u64) -> Header {
     let two_way = random.percent(50);
     let opposite = if two_way {
         random.between(1, 100_000)
     } else {
         0
     };
+    let [kind, panel] = kind(random, WIDE.panel);
     [
-        1,
+        kind,
         0,
         end,
         random.between(1, 100_000),
@@ -340,11 +420,12 @@ fn large_header(random: &mut Random, end: u64) -> [u64; 13] {
         random.between(0, 2),
         random.between(0, 50_000),
         0,
+        panel,
     ]
 }
 
 /// Mostly the right side, so that one side has many hazards.
-fn large_hazard(header: &[u64; 13], random: &mut Random, start: u64, end: u64) -> [u64; FIELDS] {
+fn large_hazard(header: &Header, random: &mut Random, start: u64, end: u64) -> [u64; FIELDS] {
     let near = random.between(header[M] + header[D], header[C] + 300);
     let side = u64::from(random.percent(10));
     let far = near + random.below(5_000);
@@ -417,7 +498,7 @@ pub fn islands(random: &mut Random, side: u64, higher: u64) -> Draft {
 }
 
 fn reached(
-    header: &[u64; 13],
+    header: &Header,
     random: &mut Random,
     side: u64,
     start: u64,

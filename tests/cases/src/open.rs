@@ -2,14 +2,17 @@
 
 use std::collections::BTreeMap;
 
-use reference::job::{self, Hazard};
+use reference::envelope;
+use reference::job::{self, Hazard, Job};
 use reference::memory::{self, BYTES, HEADER, HEADER_BYTES, PLACE_BYTES, PLACES};
-use reference::planned;
+use reference::{Stretch, planned};
 
 use crate::Random;
 use crate::compare::{Checker, Step};
-use crate::draft::{D, Draft, FIELDS, LEVEL, M, N, SIDE, number_bytes, range};
-use crate::families::{Outcome, accepted, around};
+use crate::draft::{
+    A, B, D, Draft, FIELDS, LEVEL, M, N, PANEL, SIDE, header_range, number_bytes, range,
+};
+use crate::families::{KINDS, Outcome, accepted, accepted_of_kind, around};
 use crate::faults::{Broken, FAULTS, wrong_forms};
 use crate::jobs;
 
@@ -198,7 +201,8 @@ fn few_names(random: &mut Random) -> Vec<u8> {
 }
 
 /// At times a field at an end of its range or beyond it, one that 32 bits or
-/// one byte do not hold, or a hazard too near or off the road.
+/// one byte do not hold, a hazard too near or off the road, or one at an end of
+/// the road.
 fn faulty(random: &mut Random, draft: &Draft, fields: [u64; FIELDS]) -> [u64; FIELDS] {
     let mut changed = fields;
     match random.below(12) {
@@ -225,6 +229,12 @@ fn faulty(random: &mut Random, draft: &Draft, fields: [u64; FIELDS]) -> [u64; FI
             }
             let first = broken.numbers.len() - FIELDS;
             changed.copy_from_slice(&broken.numbers[first..]);
+        }
+        4..=5 => {
+            let moved = jobs::at_road_ends(draft, fields);
+            if !moved.is_empty() {
+                changed = random.pick(&moved);
+            }
         }
         _ => (),
     }
@@ -286,8 +296,8 @@ fn opening(random: &mut Random, draft: &Draft) -> Vec<u8> {
 /// Every refusal of an opening in every place, on memory of any content and on
 /// memory of an open job with hazards.
 pub fn openings(checker: &mut Checker, random: &mut Random) -> Outcome {
-    for _ in 0..3 {
-        let draft = accepted(random, 1, 4);
+    for kind in [KINDS, KINDS].concat() {
+        let draft = accepted_of_kind(random, kind, 1, 4);
         let mut memory = standing(checker, random, &draft)?.memory;
         let empty = draft.clone().with_hazards(&[]);
         let numbers = empty.numbers();
@@ -362,10 +372,11 @@ fn standing(checker: &mut Checker, random: &mut Random, draft: &Draft) -> Result
 }
 
 pub fn damaged_memory(checker: &mut Checker, random: &mut Random) -> Outcome {
-    for _ in 0..2 {
-        let draft = accepted(random, 2, 6);
+    for kind in KINDS {
+        let draft = accepted_of_kind(random, kind, 2, 6);
         let open = standing(checker, random, &draft)?;
         damaged_header(checker, random, &open)?;
+        narrowed_road(checker, random, &open)?;
         damaged_places(checker, random, &open)?;
         damaged_names(checker, random, &open)?;
         unused_places(checker, random, &open)?;
@@ -420,9 +431,9 @@ fn set_number(memory: &mut [u8; BYTES], at: usize, value: u64) {
 
 /// Each header number at and beyond the ends of its range, and each count.
 fn damaged_header(checker: &mut Checker, random: &mut Random, open: &Open) -> Outcome {
-    let numbers = open.header.numbers();
+    let numbers = open.header.header;
     for place in 0..HEADER - 1 {
-        for value in around(range(&numbers, place)) {
+        for value in around(header_range(&numbers, place)) {
             let mut memory = open.memory;
             set_number(&mut memory, 4 * place, value);
             ask(checker, random, open, memory)?;
@@ -442,6 +453,37 @@ fn damaged_header(checker: &mut Checker, random: &mut Random, open: &Open) -> Ou
     ] {
         let mut memory = open.memory;
         set_number(&mut memory, HEADER_BYTES - 4, value);
+        ask(checker, random, open, memory)?;
+    }
+    Ok(())
+}
+
+/// A road that just has every envelope, and one a millimetre shorter; then one
+/// that just has every envelope as it is before it is raised to whole panels.
+fn narrowed_road(checker: &mut Checker, random: &mut Random, open: &Open) -> Outcome {
+    let Ok(job) = job::read(&open.job(random)) else {
+        return Ok(());
+    };
+    let before_raising = Job {
+        panel: 1,
+        ..job.clone()
+    };
+    let hazards: Vec<[u64; FIELDS]> = open.standing.values().copied().collect();
+    for job in [job, before_raising] {
+        let envelopes = envelope::envelopes(&job).expect("the hazards that stand are accepted");
+        let Some(Stretch { start, end }) = jobs::taken(&hazards, &envelopes) else {
+            continue;
+        };
+        for (place, value) in [(A, start), (A, start + 1), (B, end), (B, end - 1)] {
+            let mut memory = open.memory;
+            set_number(&mut memory, 4 * place, value);
+            ask(checker, random, open, memory)?;
+        }
+    }
+    // Another panel length, which may leave the road.
+    for _ in 0..4 {
+        let mut memory = open.memory;
+        set_number(&mut memory, 4 * PANEL, random.edgy(1, 10_000));
         ask(checker, random, open, memory)?;
     }
     Ok(())

@@ -3,7 +3,7 @@
 
 use std::ops::Range;
 
-use reference::approach::{Flare, formula, fraction, whole};
+use reference::approach::{Flare, formula, fraction, raised, whole};
 use reference::calls::MOST_RANGES;
 use reference::envelope::{self, Approach, Direction, Envelope, Lengthening};
 use reference::job::{self, Hazard, Job, Reader};
@@ -16,7 +16,7 @@ use crate::calls::{
     Calls, Contract, PlanCall, QuantitiesCall, QuantityCall, Record, Reply, contract, record,
     reply, right,
 };
-use crate::draft::number_bytes;
+use crate::draft::{G, KIND, PANEL, number_bytes};
 use crate::wrong_open;
 
 /// Every wrong engine with the name of its slip.
@@ -24,6 +24,8 @@ pub fn all() -> Vec<(&'static str, Calls)> {
     let mut list = drawing_practice();
     list.extend(wrong_envelopes());
     list.extend(wrong_straight_parts());
+    list.extend(wrong_panels());
+    list.extend(wrong_kinds());
     list.extend(wrong_levels());
     list.extend(wrong_refusals());
     list.extend(wrong_memory());
@@ -64,7 +66,14 @@ fn with_lookup(call: fn(&[u8], &[u8], u64, u64) -> Record) -> Calls {
 #[derive(Clone, Copy)]
 struct Rules {
     approaches: fn(&Job, &Hazard) -> Vec<Approach>,
+    /// The length before it is raised to whole panels.
     length: fn(&Job, &Approach) -> u64,
+    /// The raising of one traffic's length.
+    raise: fn(&Job, &Approach, u64) -> u64,
+    /// A raising of what both traffics' lengths make together.
+    raise_both: fn(&Job, &Hazard, Lengthening) -> Lengthening,
+    /// Whether the envelope is looked at for refusal 6 before it is raised.
+    refused_before_raising: bool,
     refuse: fn(&Job, usize, &Hazard, &Lengthening) -> Result<(), Refusal>,
     runs: fn(&[Envelope], &Job) -> Vec<Run>,
     /// Whether the hazards are looked at before the bytes left over.
@@ -77,7 +86,10 @@ struct Rules {
 
 const RIGHT: Rules = Rules {
     approaches: envelope::approaches,
-    length: envelope::length,
+    length: envelope::before_raising,
+    raise: |job, _, length| raised(length, job.panel),
+    raise_both: |_, _, longer| longer,
+    refused_before_raising: false,
     refuse: five_before_six,
     runs: |envelopes, job| Required::new(envelopes, job.continuity).runs(),
     hazards_before_left_over: false,
@@ -144,20 +156,34 @@ fn envelope_by(
     if approaches.is_empty() && !rules.unreached {
         return Ok(None);
     }
-    let mut longer = Lengthening::default();
-    for approach in &approaches {
-        match approach.direction {
-            Direction::Forward => longer.lower += (rules.length)(job, approach),
-            Direction::Opposite => longer.higher += (rules.length)(job, approach),
-        }
-    }
-    (rules.refuse)(job, index, hazard, &longer)?;
+    let before = lengthening_by(&approaches, |approach| (rules.length)(job, approach));
+    let each = lengthening_by(&approaches, |approach| {
+        (rules.raise)(job, approach, (rules.length)(job, approach))
+    });
+    let mut longer = (rules.raise_both)(job, hazard, each);
+    let refused = if rules.refused_before_raising {
+        &before
+    } else {
+        &longer
+    };
+    (rules.refuse)(job, index, hazard, refused)?;
     if approaches.is_empty() {
         return Ok(None);
     }
     // A slip may let an envelope begin before station 0.
     longer.lower = longer.lower.min(hazard.start);
     Ok(Some(envelope::lengthened(hazard, &longer)))
+}
+
+fn lengthening_by(approaches: &[Approach], length: impl Fn(&Approach) -> u64) -> Lengthening {
+    let mut longer = Lengthening::default();
+    for approach in approaches {
+        match approach.direction {
+            Direction::Forward => longer.lower += length(approach),
+            Direction::Opposite => longer.higher += length(approach),
+        }
+    }
+    longer
 }
 
 fn five_before_six(
@@ -421,12 +447,12 @@ fn other_runout(job: &Job, approach: &Approach) -> u64 {
         swapped.runout_forward = job.runout_opposite;
         swapped.runout_opposite = job.runout_forward;
     }
-    envelope::length(&swapped, approach)
+    envelope::before_raising(&swapped, approach)
 }
 
 /// T taken along even where there is no flare.
 fn straight_always(job: &Job, approach: &Approach) -> u64 {
-    let length = envelope::length(job, approach);
+    let length = envelope::before_raising(job, approach);
     match job.flare_across {
         0 => length.max(job.straight),
         _ => length,
@@ -444,13 +470,13 @@ fn wrong_straight_parts() -> Vec<(&'static str, Calls)> {
             "the straight part for adjacent traffic alone",
             length(|job, approach| match approach.far {
                 true => with_flare(job, approach),
-                false => envelope::length(job, approach),
+                false => envelope::before_raising(job, approach),
             }),
         ),
         (
             "the straight part for far traffic alone",
             length(|job, approach| match approach.far {
-                true => envelope::length(job, approach),
+                true => envelope::before_raising(job, approach),
                 false => with_flare(job, approach),
             }),
         ),
@@ -489,14 +515,14 @@ fn wrong_straight_parts() -> Vec<(&'static str, Calls)> {
             "the whole straight part built",
             length(|job, approach| match without_flare(job, approach) {
                 without if without <= job.straight && job.flare_across > 0 => job.straight,
-                _ => envelope::length(job, approach),
+                _ => envelope::before_raising(job, approach),
             }),
         ),
         (
             "a length in the straight part rounded down",
             length(|job, approach| match without_flare(job, approach) {
                 without if without <= job.straight => down(job, approach).max(1),
-                _ => envelope::length(job, approach),
+                _ => envelope::before_raising(job, approach),
             }),
         ),
         (
@@ -514,6 +540,230 @@ fn where_straight(job: &Job, approach: &Approach, straight: bool) -> u64 {
         true => without_flare(job, approach),
         false => with_flare(job, approach),
     }
+}
+
+// Approaches in whole panels.
+
+fn wrong_panels() -> Vec<(&'static str, Calls)> {
+    let raise = |raise| by(Rules { raise, ..RIGHT });
+    let raise_both = |raise_both| {
+        by(Rules {
+            raise: |_, _, length| length,
+            raise_both,
+            ..RIGHT
+        })
+    };
+    vec![
+        ("the panel length passed over", raise(|_, _, length| length)),
+        (
+            "lengths that end in the straight part not raised",
+            raise(
+                |job, approach, length| match without_flare(job, approach) <= job.straight {
+                    true => length,
+                    false => raised(length, job.panel),
+                },
+            ),
+        ),
+        (
+            "lengths with flare not raised",
+            raise(
+                |job, approach, length| match without_flare(job, approach) <= job.straight {
+                    true => raised(length, job.panel),
+                    false => length,
+                },
+            ),
+        ),
+        (
+            "always one panel more",
+            raise(|job, _, length| match job.kind {
+                2 => length / job.panel * job.panel + job.panel,
+                _ => length,
+            }),
+        ),
+        (
+            "raised down",
+            raise(|job, _, length| length / job.panel * job.panel),
+        ),
+        (
+            "raised to the nearest multiple",
+            raise(|job, _, length| (2 * length + job.panel) / (2 * job.panel) * job.panel),
+        ),
+        (
+            "raised for adjacent traffic alone",
+            raise(|job, approach, length| match approach.far {
+                true => length,
+                false => raised(length, job.panel),
+            }),
+        ),
+        (
+            "raised for far traffic alone",
+            raise(|job, approach, length| match approach.far {
+                true => raised(length, job.panel),
+                false => length,
+            }),
+        ),
+        (
+            "one panel laid for a whole approach",
+            raise(|job, _, length| length.max(job.panel)),
+        ),
+        (
+            "the panel length added",
+            raise(|job, _, length| match job.kind {
+                2 => length + job.panel,
+                _ => length,
+            }),
+        ),
+        (
+            "panel lengths in one byte",
+            raise(|job, _, length| raised(length, (job.panel & 0xFF).max(1))),
+        ),
+        (
+            "both approaches raised together",
+            raise_both(|job, _, longer| {
+                let sum = longer.lower + longer.higher;
+                at_an_end(longer, raised(sum, job.panel) - sum)
+            }),
+        ),
+        (
+            "the whole envelope raised",
+            raise_both(|job, hazard, longer| {
+                let whole = longer.lower + (hazard.end - hazard.start) + longer.higher;
+                at_an_end(longer, raised(whole, job.panel) - whole)
+            }),
+        ),
+        (
+            "refusal 6 by the envelope before it is raised",
+            by(Rules {
+                refused_before_raising: true,
+                ..RIGHT
+            }),
+        ),
+    ]
+}
+
+/// What is missing to whole panels, at the end where a traffic approaches.
+fn at_an_end(longer: Lengthening, missing: u64) -> Lengthening {
+    match longer.lower {
+        0 => Lengthening {
+            higher: longer.higher + missing,
+            ..longer
+        },
+        lower => Lengthening {
+            lower: lower + missing,
+            ..longer
+        },
+    }
+}
+
+// The header of both kinds.
+
+fn wrong_kinds() -> Vec<(&'static str, Calls)> {
+    // The job's numbers changed before they are planned.
+    let numbers = |change: fn(&mut [u64])| {
+        with_plan(Box::new(move |job, side, room, lent| {
+            let Some(mut numbers) = all_numbers(job) else {
+                return (right().plan)(job, side, room, lent);
+            };
+            change(&mut numbers);
+            (right().plan)(&mut number_bytes(&numbers), side, room, lent)
+        }))
+    };
+    vec![
+        (
+            "14 for the hazard count of kind 2",
+            changed_reply(|reply, _, _| {
+                if (reply.number, reply.value) == (3, 15) {
+                    reply.value = 14;
+                }
+            }),
+        ),
+        (
+            "15 for the hazard count of kind 1",
+            changed_reply(|reply, job, _| {
+                if (reply.number, reply.value) == (3, 14) && job[0] == 1 {
+                    reply.value = 15;
+                }
+            }),
+        ),
+        (
+            "15 for the panel length",
+            changed_reply(|reply, job, _| {
+                if (reply.number, reply.value) == (3, 14) && job[0] == 2 {
+                    reply.value = 15;
+                }
+            }),
+        ),
+        (
+            "kind 2 refused",
+            changed_reply(|reply, job, _| {
+                if reply.number != 8 && job.first() == Some(&2) {
+                    (reply.number, reply.value) = (3, 1);
+                }
+            }),
+        ),
+        (
+            "kind 2 read as kind 1",
+            numbers(|list| other_kind(list, 2, 1)),
+        ),
+        (
+            "kind 1 read as kind 2",
+            numbers(|list| other_kind(list, 1, 2)),
+        ),
+        (
+            "kind 3 read as kind 2",
+            numbers(|list| other_kind(list, 3, 2)),
+        ),
+        (
+            "kind 0 read as kind 1",
+            numbers(|list| other_kind(list, 0, 1)),
+        ),
+        (
+            "a panel length of 0 taken as 1",
+            numbers(|list| other_panel(list, 0, 1)),
+        ),
+        (
+            "a panel length of 10,001 taken",
+            numbers(|list| other_panel(list, 10_001, 10_000)),
+        ),
+        (
+            "a panel length of 10,000 refused",
+            numbers(|list| other_panel(list, 10_000, 10_001)),
+        ),
+        (
+            "the panel length before G",
+            numbers(|list| {
+                if list.first() == Some(&2) && list.len() > PANEL {
+                    list.swap(G, PANEL);
+                }
+            }),
+        ),
+    ]
+}
+
+/// One kind taken as another.
+fn other_kind(numbers: &mut [u64], kind: u64, other: u64) {
+    if numbers.first() == Some(&kind) {
+        numbers[KIND] = other;
+    }
+}
+
+/// One panel length of kind 2 taken as another.
+fn other_panel(numbers: &mut [u64], panel: u64, other: u64) {
+    if numbers.first() == Some(&2) && numbers.get(PANEL) == Some(&panel) {
+        numbers[PANEL] = other;
+    }
+}
+
+/// The numbers of the bytes, if they are all in the number form.
+fn all_numbers(bytes: &[u8]) -> Option<Vec<u64>> {
+    let mut list = Vec::new();
+    let mut at = 0;
+    while at < bytes.len() {
+        let number = number::read(bytes, at).ok()?;
+        list.push(number.value);
+        at = number.next;
+    }
+    Some(list)
 }
 
 // Levels.

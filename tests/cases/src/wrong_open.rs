@@ -8,7 +8,7 @@ use reference::{OpenJob, Refusal, add, open, open_schedule, planned, schedule, w
 
 use crate::calls::{AddCall, Calls, Memory, OpenCall, OpenScheduleCall, Reply, WithdrawCall};
 use crate::calls::{reply, right};
-use crate::draft::{number_bytes, range};
+use crate::draft::{Draft, KIND, PANEL, header_range};
 
 /// Every wrong open job with the name of its slip.
 pub fn all() -> Vec<(&'static str, Calls)> {
@@ -73,8 +73,7 @@ fn put_last(memory: &mut Memory, name: u8, hazard: &Hazard) {
     let last = count(memory);
     if last < PLACES {
         place(memory, last).copy_from_slice(&place_bytes(name, hazard));
-        let count = (last as u32 + 1).to_le_bytes();
-        memory.job[HEADER_BYTES - 4..HEADER_BYTES].copy_from_slice(&count);
+        set_number(memory, HEADER - 1, last as u32 + 1);
     }
 }
 
@@ -267,6 +266,20 @@ fn wrong_adds() -> Vec<(&'static str, Calls)> {
             }),
         ),
         (
+            "the panel length passed over in add",
+            other(|memory, name, hazard| {
+                let reply = reply(add(&mut memory.job, name, hazard));
+                if let (6, Some(mut open)) = (reply.number, memory::read(&memory.job))
+                    && envelope::envelope(&in_no_panels(&open.header), 0, &hazard).is_ok()
+                {
+                    open.standing.insert(name, hazard);
+                    memory::write(&open, &mut memory.job);
+                    return DONE;
+                }
+                reply
+            }),
+        ),
+        (
             "the name before the memory in add",
             after(|reply, memory, name, _| {
                 if *reply == BROKEN && name_stands(&memory.job, name) {
@@ -285,6 +298,14 @@ fn wrong_adds() -> Vec<(&'static str, Calls)> {
     ]
 }
 
+/// The same job with approaches as they are before they are raised.
+fn in_no_panels(job: &Job) -> Job {
+    Job {
+        panel: 1,
+        ..job.clone()
+    }
+}
+
 /// The reply to memory that breaks the rules.
 const BROKEN: Reply = Reply {
     number: 3,
@@ -295,6 +316,10 @@ const BROKEN: Reply = Reply {
 fn name_stands(memory: &[u8; BYTES], name: u8) -> bool {
     let count = number_at(memory, HEADER - 1).min(PLACES as u64) as usize;
     (0..count).any(|place| name_at(memory, place) == u64::from(name))
+}
+
+fn set_number(memory: &mut Memory, place: usize, value: u32) {
+    memory.job[4 * place..4 * place + 4].copy_from_slice(&value.to_le_bytes());
 }
 
 /// The header number at this place, counted from 0.
@@ -408,8 +433,8 @@ fn without_place(memory: &mut Memory, index: usize) {
     let at = HEADER_BYTES + PLACE_BYTES * index;
     memory.job.copy_within(at + PLACE_BYTES.., at);
     memory.job[BYTES - PLACE_BYTES..].fill(0);
-    let left = (number_at(&memory.job, HEADER - 1) as u32 - 1).to_le_bytes();
-    memory.job[HEADER_BYTES - 4..HEADER_BYTES].copy_from_slice(&left);
+    let left = number_at(&memory.job, HEADER - 1) as u32 - 1;
+    set_number(memory, HEADER - 1, left);
 }
 
 /// A withdrawal marks the last place with the name; an add takes the mark as
@@ -473,6 +498,10 @@ fn wrong_schedules() -> Vec<(&'static str, Calls)> {
                 };
                 writing(&job, side)
             }),
+        ),
+        (
+            "the panel length passed over in an open job's schedule",
+            planning(|open, side| writing(&in_no_panels(&open.job()), side)),
         ),
         (
             "the side before the memory",
@@ -633,7 +662,7 @@ fn wrong_openings() -> Vec<(&'static str, Calls)> {
         (
             "a hazard count above 0 with the bytes behind it",
             after(|reply, _, _, bytes| {
-                if (reply.number, reply.value) == (3, job::COUNT)
+                if refused_count(reply, bytes)
                     && let Err(Refusal { number, value }) = job::read(bytes)
                 {
                     (reply.number, reply.value) = (number, value);
@@ -642,9 +671,51 @@ fn wrong_openings() -> Vec<(&'static str, Calls)> {
         ),
         (
             "a hazard count above 0 with 0 in place of its number",
-            after(|reply, _, _, _| {
-                if (reply.number, reply.value) == (3, job::COUNT) {
+            after(|reply, _, _, bytes| {
+                if refused_count(reply, bytes) {
                     reply.value = 0;
+                }
+            }),
+        ),
+        (
+            "14 for the hazard count of kind 2 when opening",
+            after(|reply, _, _, bytes| {
+                if refused_count(reply, bytes) {
+                    reply.value = job::count_number(1);
+                }
+            }),
+        ),
+        (
+            "kind 2 opened as kind 1",
+            after(|reply, memory, _, _| {
+                if reply.number == 0 {
+                    set_number(memory, KIND, 1);
+                    set_number(memory, PANEL, 1);
+                }
+            }),
+        ),
+        (
+            "panel length 1 opened as kind 1",
+            after(|reply, memory, _, _| {
+                if reply.number == 0 && number_at(&memory.job, PANEL) == 1 {
+                    set_number(memory, KIND, 1);
+                }
+            }),
+        ),
+        (
+            "0 as the panel length of kind 1",
+            after(|reply, memory, _, _| {
+                if reply.number == 0 && number_at(&memory.job, KIND) == 1 {
+                    set_number(memory, PANEL, 0);
+                }
+            }),
+        ),
+        (
+            "kind 2 not opened",
+            after(|reply, memory, before, bytes| {
+                if bytes.first() == Some(&2) {
+                    *memory = before.clone();
+                    (reply.number, reply.value) = (3, 1);
                 }
             }),
         ),
@@ -678,11 +749,19 @@ fn wrong_openings() -> Vec<(&'static str, Calls)> {
     ]
 }
 
+/// Whether an opening was refused for the hazard count of its job.
+fn refused_count(reply: &Reply, bytes: &[u8]) -> bool {
+    let kind = bytes.first().copied().unwrap_or(0);
+    (reply.number, reply.value) == (3, job::count_number(kind.into()))
+}
+
 /// The bytes of the same header without hazards.
 fn header_bytes(job: &Job) -> Vec<u8> {
-    let mut numbers = memory::header_numbers(job).to_vec();
-    numbers.push(0);
-    number_bytes(&numbers)
+    let draft = Draft {
+        header: memory::header_numbers(job),
+        hazards: Vec::new(),
+    };
+    draft.bytes()
 }
 
 // The test of the memory.
@@ -693,6 +772,10 @@ pub enum Rule {
     Kind,
     /// Another header number is in its range.
     Header,
+    /// The panel length of kind 2 is in its range.
+    Panel,
+    /// The panel length of kind 1 is 1.
+    NoPanel,
     /// At most 256 hazards.
     Count,
     /// A name is a byte.
@@ -709,25 +792,29 @@ pub enum Rule {
     Unused,
 }
 
-/// Every rule that the memory breaks. Where the header or the count does, the
-/// hazards are not looked at.
+/// Every rule that the memory breaks. Where the count or a header number does
+/// without which a hazard cannot be asked, the hazards are not looked at.
 pub fn broken(memory: &[u8; BYTES]) -> Vec<Rule> {
     let numbers: Vec<u64> = (0..HEADER).map(|place| number_at(memory, place)).collect();
     let mut list = Vec::new();
-    for place in 0..HEADER {
-        let (low, high) = range(&numbers, place);
+    for place in 0..HEADER - 1 {
+        let (rule, (low, high)) = match place {
+            KIND => (Rule::Kind, header_range(&numbers, place)),
+            PANEL if numbers[KIND] == 1 => (Rule::NoPanel, (1, 1)),
+            PANEL => (Rule::Panel, header_range(&numbers, place)),
+            _ => (Rule::Header, header_range(&numbers, place)),
+        };
         if !(low..=high).contains(&numbers[place]) {
-            list.push(match place {
-                0 => Rule::Kind,
-                _ if place == HEADER - 1 => Rule::Count,
-                _ => Rule::Header,
-            });
+            list.push(rule);
         }
     }
-    if list.iter().any(|rule| *rule != Rule::Kind) {
+    let count = numbers[HEADER - 1] as usize;
+    if count > PLACES {
+        list.push(Rule::Count);
+    }
+    if list.contains(&Rule::Header) || count > PLACES || numbers[PANEL] == 0 {
         return list;
     }
-    let count = numbers[HEADER - 1] as usize;
     let used = HEADER_BYTES + PLACE_BYTES * count;
     let header = job_of(&numbers);
     let mut previous = None;
@@ -754,6 +841,7 @@ pub fn broken(memory: &[u8; BYTES]) -> Vec<Rule> {
 /// The job of these header numbers, which are in their ranges.
 fn job_of(numbers: &[u64]) -> Job {
     Job {
+        kind: numbers[0],
         road_begin: numbers[1],
         road_end: numbers[2],
         runout_forward: numbers[3],
@@ -766,6 +854,7 @@ fn job_of(numbers: &[u64]) -> Job {
         flare_across: numbers[10],
         straight: numbers[11],
         continuity: numbers[12],
+        panel: numbers[13],
         hazards: Vec::new(),
     }
 }
@@ -839,6 +928,11 @@ fn wrong_tests() -> Vec<(&'static str, Calls)> {
     let names = [
         ("the kind in the memory not tested", Rule::Kind),
         ("the header in the memory not tested", Rule::Header),
+        ("the panel length in the memory not tested", Rule::Panel),
+        (
+            "kind 1 in the memory with another panel length taken",
+            Rule::NoPanel,
+        ),
         ("a count above 256 in the memory taken", Rule::Count),
         ("a name above 255 in the memory taken", Rule::Name),
         ("a name twice in the memory taken", Rule::Twice),
@@ -848,17 +942,34 @@ fn wrong_tests() -> Vec<(&'static str, Calls)> {
         ("a hazard off the road in the memory taken", Rule::OffRoad),
         ("places that are not used not tested", Rule::Unused),
     ];
-    list.extend(names.map(|(name, rule)| (name, untested(rule))));
+    list.extend(names.map(|(name, rule)| (name, untested(move |memory| breaks(memory, rule)))));
+    list.push((
+        "the panel length passed over in the test of the memory",
+        untested(off_road_when_raised),
+    ));
     list
 }
 
-/// Memory that breaks this rule alone is taken by every call: nothing is done
-/// with it, and the reply says that all is well.
-fn untested(rule: Rule) -> Calls {
-    let taken = move |memory: &Memory, reply: Reply| {
-        let broken = broken(&memory.job);
-        let alone = !broken.is_empty() && broken.iter().all(|other| *other == rule);
-        if alone { DONE } else { reply }
+/// Whether the memory breaks this rule alone.
+fn breaks(memory: &Memory, rule: Rule) -> bool {
+    let broken = broken(&memory.job);
+    !broken.is_empty() && broken.iter().all(|other| *other == rule)
+}
+
+/// Whether all is well but for hazards that leave the road when they are raised
+/// to whole panels.
+fn off_road_when_raised(memory: &Memory) -> bool {
+    let mut before_raising = memory.clone();
+    set_number(&mut before_raising, PANEL, 1);
+    breaks(memory, Rule::OffRoad) && broken(&before_raising.job).is_empty()
+}
+
+/// This memory is taken by every call: nothing is done with it, and the reply
+/// says that all is well.
+fn untested(passed_over: impl Fn(&Memory) -> bool + Copy + 'static) -> Calls {
+    let taken = move |memory: &Memory, reply: Reply| match passed_over(memory) {
+        true => DONE,
+        false => reply,
     };
     Calls {
         add: Box::new(move |memory, name, hazard| {

@@ -1,6 +1,6 @@
 //! What the owner demands of the schedules, asked of the reference.
 
-use cases::draft::Draft;
+use cases::draft::{Draft, G, KIND};
 use cases::{Random, jobs};
 use reference::calls::required;
 use reference::envelope::{self, Envelope};
@@ -65,7 +65,7 @@ fn each_envelope_is_covered_and_no_short_gap_is_left() {
             }
             for v in 1..=level::HIGHEST {
                 let gaps = level::gaps(&shown(&runs, v));
-                assert!(gaps.iter().all(|gap| gap.length() >= draft.header[12]));
+                assert!(gaps.iter().all(|gap| gap.length() >= draft.header[G]));
             }
         }
     }
@@ -104,6 +104,18 @@ fn a_further_hazard_lowers_no_level() {
             let more = required_on(&draft, side);
             for run in runs(&planned(&fewer, side)) {
                 assert!(covers(more.set(run.level), &run.stretch));
+            }
+        }
+    }
+}
+
+#[test]
+fn kind_1_acts_as_panel_length_1() {
+    for draft in accepted("kinds") {
+        if draft.header[KIND] == 1 {
+            for side in 0..2 {
+                let in_panels = draft.clone().in_panels(1);
+                assert_eq!(planned(&draft, side), planned(&in_panels, side));
             }
         }
     }

@@ -1,7 +1,9 @@
 //! The test is itself tested: one round reaches every row of the refusal table,
 //! finds every wrong engine, and finds nothing where nothing is wrong.
 
+use cases::draft::{Draft, KIND};
 use cases::{Checker, Random, SEED, calls, jobs, round, wrong};
+use reference::job::Job;
 use reference::{envelope, job, planned};
 
 /// The comparison may not find a difference where both are the same.
@@ -22,7 +24,7 @@ fn the_reference_passes_and_every_row_is_seen() {
 #[test]
 fn every_wrong_engine_is_found() {
     // As many as README.md says.
-    assert_eq!(wrong::all().len(), 185);
+    assert_eq!(wrong::all().len(), 221);
     for (name, calls) in wrong::all() {
         let mut checker = Checker::new(calls);
         let Err(found) = round(&mut checker, SEED) else {
@@ -48,12 +50,15 @@ fn the_same_seed_gives_the_same_difference() {
 fn most_random_jobs_are_accepted() {
     let mut random = Random::new(SEED, "accepted");
     for make in [jobs::small, jobs::wide] {
-        let accepted = (0..2_000)
-            .filter(|_| planned(&make(&mut random).bytes(), 0).is_ok())
-            .count();
-        assert!(accepted > 1_000, "{accepted} of 2,000");
+        let drafts: Vec<Draft> = (0..2_000).map(|_| make(&mut random)).collect();
+        for kind in [1, 2] {
+            let of_kind = drafts.iter().filter(|draft| draft.header[KIND] == kind);
+            let accepted = of_kind.filter(|draft| planned(&draft.bytes(), 0).is_ok());
+            let accepted = accepted.count();
+            assert!(accepted > 500, "{accepted} of kind {kind} in 2,000");
+        }
     }
-    for _ in 0..10 {
+    for _ in 0..20 {
         let dense = jobs::dense(&mut random, 256).bytes();
         let sparse = jobs::sparse(&mut random, 256).bytes();
         let islands = jobs::islands(&mut random, 0, 255).bytes();
@@ -61,6 +66,13 @@ fn most_random_jobs_are_accepted() {
             assert!(planned(&job, 0).is_ok());
         }
     }
+}
+
+/// The accepted ones among 2,000 jobs.
+fn accepted_jobs(make: fn(&mut Random) -> Draft, random: &mut Random) -> Vec<Job> {
+    let made = (0..2_000).filter_map(|_| job::read(&make(random).bytes()).ok());
+    made.filter(|job| envelope::envelopes(job).is_ok())
+        .collect()
 }
 
 /// With a flare, lengths without flare of T, next to T and on both sides of it,
@@ -71,11 +83,8 @@ fn random_jobs_meet_both_sides_of_the_straight_part() {
         let mut random = Random::new(SEED, "straight");
         let [mut below, mut at, mut next, mut above] = [0; 4];
         let [mut far_alone, mut adjacent_alone] = [0; 2];
-        for _ in 0..2_000 {
-            let Ok(job) = job::read(&make(&mut random).bytes()) else {
-                continue;
-            };
-            if job.flare_across == 0 || envelope::envelopes(&job).is_err() {
+        for job in accepted_jobs(make, &mut random) {
+            if job.flare_across == 0 {
                 continue;
             }
             for hazard in &job.hazards {
@@ -100,5 +109,40 @@ fn random_jobs_meet_both_sides_of_the_straight_part() {
         assert!([below, above].iter().all(|count| *count > 1_000));
         assert!([at, next].iter().all(|count| *count > 100));
         assert!([far_alone, adjacent_alone].iter().all(|count| *count > 50));
+    }
+}
+
+/// Lengths that are a multiple of the panel length, a millimetre to either side
+/// of one and between two; among them some that end in the straight part, some
+/// of both traffics at one hazard.
+#[test]
+fn random_jobs_meet_whole_panels() {
+    for make in [jobs::small, jobs::wide] {
+        let mut random = Random::new(SEED, "panels");
+        let [mut exact, mut below, mut above, mut between] = [0; 4];
+        let [mut straight, mut both] = [0; 2];
+        for job in accepted_jobs(make, &mut random) {
+            if job.panel < 4 {
+                continue;
+            }
+            for hazard in &job.hazards {
+                let approaches = envelope::approaches(&job, hazard);
+                for approach in &approaches {
+                    match envelope::before_raising(&job, approach) % job.panel {
+                        0 => exact += 1,
+                        1 => above += 1,
+                        over if over + 1 == job.panel => below += 1,
+                        _ => between += 1,
+                    }
+                    let without = jobs::without_flare(&job, approach);
+                    straight += u64::from(job.flare_across > 0 && without <= job.straight);
+                }
+                both += u64::from(approaches.len() == 2);
+            }
+        }
+        println!("{exact} multiples, {below} below, {above} above, {between} between");
+        println!("{straight} in the straight part, {both} of both traffics");
+        assert!([exact, below, above].iter().all(|count| *count > 100));
+        assert!([between, straight, both].iter().all(|count| *count > 500));
     }
 }

@@ -56,11 +56,10 @@ impl From<Hazard> for c::Hazard {
     }
 }
 
-// The memory of an open job is compared byte by byte, so its size is known.
-const _: () = assert!(size_of::<c::OpenJob>() == BYTES);
-
-/// The open job inside its guard bytes.
+/// The open job inside its guard bytes. It is compared byte by byte, so its size
+/// is known.
 fn open_job(memory: &mut Memory) -> *mut c::OpenJob {
+    assert_eq!(size_of::<c::OpenJob>(), BYTES, "bytes of an open job");
     let memory: *mut Memory = memory;
     let job = memory.wrapping_byte_add(offset_of!(Memory, job));
     let job = job.cast::<c::OpenJob>();

@@ -7,7 +7,7 @@ use std::process::{Child, Command, ExitCode, Output, Stdio};
 use std::thread::sleep;
 use std::time::{Duration, Instant};
 
-use cases::draft::{A, LEVEL, LO, M, PRINTED, PRINTED_HAZARD, S, SIDE, printed};
+use cases::draft::{A, LEVEL, LO, M, PRINTED, PRINTED_HAZARD, S, SIDE, number_bytes, printed};
 use cases::{Random, jobs};
 
 /// No input takes the program longer than this.
@@ -162,6 +162,12 @@ fn inputs() -> Vec<Input> {
     let two_sided = printed()
         .with(LO, 90_000)
         .with_hazards(&[PRINTED_HAZARD, left]);
+    let in_panels = printed().in_panels(4_000);
+    let mut numbers = in_panels.numbers();
+    numbers[14] = 257;
+    let too_many = number_bytes(&numbers);
+    numbers[0] = 3;
+    let no_kind = number_bytes(&numbers);
     let mut random = Random::new(1, "program");
     let many = jobs::islands(&mut random, 0, 255).bytes();
     let mut list = vec![
@@ -187,6 +193,21 @@ fn inputs() -> Vec<Input> {
         input("two sides", two_sided.bytes()),
         input("no hazards", PRINTED.bytes()),
         input("511 runs", many.clone()),
+        input("in whole panels", in_panels.bytes()),
+        input(
+            "two sides in whole panels",
+            two_sided.in_panels(10_000).bytes(),
+        ),
+        input("no such kind (3)", no_kind),
+        input(
+            "a panel length too great (3)",
+            printed().in_panels(10_001).bytes(),
+        ),
+        input("too many hazards in whole panels (3)", too_many),
+        input(
+            "a raised approach before the road (6)",
+            in_panels.with_hazard(S, 47_999).bytes(),
+        ),
     ];
     for _ in 0..40 {
         list.push(input(

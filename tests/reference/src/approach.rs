@@ -31,6 +31,12 @@ pub fn length(runout: u64, reach: u64, offset: u64, flare: Flare) -> u64 {
     }
 }
 
+/// A length in whole panels: the least multiple of the panel length that is not
+/// smaller.
+pub fn raised(length: u64, panel: u64) -> u64 {
+    length.next_multiple_of(panel)
+}
+
 /// L × (a × R + b × T − a × m) / (b × L + a × R), rounded up to the next whole
 /// millimetre if not whole.
 ///
@@ -147,6 +153,18 @@ mod tests {
             assert_eq!(unrounded, without <= straight);
             if without == straight {
                 assert_eq!(with, straight);
+            }
+        }
+    }
+
+    /// Of all multiples the least that is not smaller, for every panel length.
+    #[test]
+    fn the_least_multiple_not_smaller() {
+        for panel in 1..=60 {
+            for length in 1..=200 {
+                let multiples = (0..=200).map(|count| count * panel);
+                let least = multiples.filter(|multiple| *multiple >= length).min();
+                assert_eq!(Some(raised(length, panel)), least);
             }
         }
     }

@@ -17,9 +17,19 @@ pub const FLARE_A: usize = 9;
 pub const FLARE_B: usize = 10;
 pub const T: usize = 11;
 pub const G: usize = 12;
+/// In kind 2 alone.
+pub const PANEL: usize = 13;
 
-/// Header numbers with the hazard count.
-pub const HEADER: usize = 14;
+/// The header numbers of kind 2, without the hazard count.
+pub type Header = [u64; 14];
+
+/// How many header numbers stand before the hazards, the hazard count with them.
+pub fn header_length(kind: u64) -> usize {
+    match kind {
+        2 => PANEL + 2,
+        _ => PANEL + 1,
+    }
+}
 
 /// Places in a hazard.
 pub const SIDE: usize = 0;
@@ -35,7 +45,7 @@ pub const FIELDS: usize = 6;
 /// The job on paper without its hazard.
 pub const PRINTED: Draft = Draft {
     header: [
-        1, 0, 1_000_000, 101_000, 0, 9_000, 0, 3_000, 1_000, 15, 1, 13_340, 0,
+        1, 0, 1_000_000, 101_000, 0, 9_000, 0, 3_000, 1_000, 15, 1, 13_340, 0, 1,
     ],
     hazards: Vec::new(),
 };
@@ -48,10 +58,11 @@ pub fn printed() -> Draft {
     PRINTED.with_hazards(&[PRINTED_HAZARD])
 }
 
-/// The numbers of a job; the hazard count is that of the list.
+/// The numbers of a job; the hazard count is that of the list. The panel length
+/// stands in the bytes of kind 2 alone.
 #[derive(Clone, Debug)]
 pub struct Draft {
-    pub header: [u64; 13],
+    pub header: Header,
     pub hazards: Vec<[u64; FIELDS]>,
 }
 
@@ -72,8 +83,14 @@ impl Draft {
         self
     }
 
+    /// The same job in whole panels of this length.
+    pub fn in_panels(self, length: u64) -> Draft {
+        self.with(KIND, 2).with(PANEL, length)
+    }
+
     pub fn numbers(&self) -> Vec<u64> {
-        let mut numbers = self.header.to_vec();
+        let before_count = header_length(self.header[KIND]) - 1;
+        let mut numbers = self.header[..before_count].to_vec();
         numbers.push(self.hazards.len() as u64);
         numbers.extend(self.hazards.iter().flatten());
         numbers
@@ -92,11 +109,31 @@ pub fn number_bytes(numbers: &[u64]) -> Vec<u8> {
     bytes
 }
 
-/// The range of the number at a place, which may hang on numbers before it.
+/// The range of the number at a place of a job, which may hang on numbers before
+/// it.
 pub fn range(numbers: &[u64], place: usize) -> (u64, u64) {
+    let header = header_length(numbers[KIND]);
+    if place + 1 == header {
+        return (0, 256);
+    }
+    if place < header {
+        return header_range(numbers, place);
+    }
+    match (place - header) % FIELDS {
+        SIDE => (0, 1),
+        S => (numbers[A], numbers[B] - 1),
+        E => (numbers[place - 1] + 1, numbers[B]),
+        N => (0, 60_000),
+        F => (numbers[place - 1], 60_000),
+        _ => (1, 6),
+    }
+}
+
+/// The range of a number of the header that is not the hazard count.
+pub fn header_range(numbers: &[u64], place: usize) -> (u64, u64) {
     const LAST: u64 = 2_000_000_000;
     match place {
-        KIND => (1, 1),
+        KIND => (1, 2),
         A => (0, LAST - 1),
         B => (numbers[A] + 1, LAST),
         LF => (1, 200_000),
@@ -108,14 +145,6 @@ pub fn range(numbers: &[u64], place: usize) -> (u64, u64) {
         FLARE_B => (0, 10),
         T => (0, 100_000),
         G => (0, 200_000),
-        13 => (0, 256),
-        _ => match (place - HEADER) % FIELDS {
-            SIDE => (0, 1),
-            S => (numbers[A], numbers[B] - 1),
-            E => (numbers[place - 1] + 1, numbers[B]),
-            N => (0, 60_000),
-            F => (numbers[place - 1], 60_000),
-            _ => (1, 6),
-        },
+        _ => (1, 10_000),
     }
 }

@@ -86,8 +86,13 @@ pub fn approaches(job: &Job, hazard: &Hazard) -> Vec<Approach> {
     list
 }
 
-/// The approach length of one reaching traffic.
+/// The approach length of one reaching traffic, in whole panels.
 pub fn length(job: &Job, approach: &Approach) -> u64 {
+    approach::raised(before_raising(job, approach), job.panel)
+}
+
+/// The same before it is raised to whole panels.
+pub fn before_raising(job: &Job, approach: &Approach) -> u64 {
     let runout = runout(job, approach.direction);
     approach::length(runout, approach.reach, approach.offset, flare(job))
 }

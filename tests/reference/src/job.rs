@@ -1,4 +1,5 @@
-//! The job in bytes: 14 header numbers, then six numbers for each hazard.
+//! The job in bytes: 14 header numbers, 15 for kind 2, then six numbers for each
+//! hazard.
 
 use crate::number::{self, Fault};
 use crate::refusal::Refusal;
@@ -10,6 +11,8 @@ pub const LAST_STATION: u64 = 2_000_000_000;
 /// named in the comments.
 #[derive(Clone, Debug, PartialEq, Eq)]
 pub struct Job {
+    /// 1, or 2 for approaches in whole panels
+    pub kind: u64,
     /// A
     pub road_begin: u64,
     /// B
@@ -34,6 +37,8 @@ pub struct Job {
     pub straight: u64,
     /// G
     pub continuity: u64,
+    /// Kind 1 acts as panel length 1.
+    pub panel: u64,
     pub hazards: Vec<Hazard>,
 }
 
@@ -52,8 +57,17 @@ pub struct Hazard {
     pub level: u64,
 }
 
-/// The header number of the hazard count.
-pub const COUNT: u64 = 14;
+/// The header number of a kind 2 job's panel length.
+pub const PANEL: u64 = 14;
+
+/// The header number of the hazard count, which stands behind the panel length
+/// where there is one.
+pub fn count_number(kind: u64) -> u64 {
+    match kind {
+        2 => PANEL + 1,
+        _ => PANEL,
+    }
+}
 
 /// Reads a job. The numbers are looked at as they stand, each for refusals 1
 /// and 2 and for its range (3 or 4); then comes refusal 7.
@@ -75,7 +89,7 @@ pub fn nothing_follows(reader: &Reader) -> Result<(), Refusal> {
 /// The numbers of a job, without a look at what stands behind the last.
 pub fn read_numbers(reader: &mut Reader) -> Result<Job, Refusal> {
     let mut job = read_header(reader)?;
-    let hazard_count = reader.header(COUNT, 0, 256)?;
+    let hazard_count = reader.header(count_number(job.kind), 0, 256)?;
     for index in 0..hazard_count as usize {
         let hazard = read_hazard(reader, index, job.road_begin, job.road_end)?;
         job.hazards.push(hazard);
@@ -85,10 +99,11 @@ pub fn read_numbers(reader: &mut Reader) -> Result<Job, Refusal> {
 
 /// The header without the hazard count.
 pub fn read_header(reader: &mut Reader) -> Result<Job, Refusal> {
-    let _kind = reader.header(1, 1, 1)?;
+    let kind = reader.header(1, 1, 2)?;
     let road_begin = reader.header(2, 0, LAST_STATION - 1)?;
     let road_end = reader.header(3, road_begin + 1, LAST_STATION)?;
     Ok(Job {
+        kind,
         road_begin,
         road_end,
         runout_forward: reader.header(4, 1, 200_000)?,
@@ -101,6 +116,10 @@ pub fn read_header(reader: &mut Reader) -> Result<Job, Refusal> {
         flare_across: reader.header(11, 0, 10)?,
         straight: reader.header(12, 0, 100_000)?,
         continuity: reader.header(13, 0, 200_000)?,
+        panel: match kind {
+            2 => reader.header(PANEL, 1, 10_000)?,
+            _ => 1,
+        },
         hazards: Vec::new(),
     })
 }

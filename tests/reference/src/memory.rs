@@ -8,8 +8,8 @@ use crate::job::{self, Hazard, Job};
 use crate::number;
 use crate::open::OpenJob;
 
-/// Numbers of the header, four bytes each; the last is the count.
-pub const HEADER: usize = 14;
+/// Numbers of the header, four bytes each: those of kind 2, the last the count.
+pub const HEADER: usize = 15;
 
 /// The bytes of the header.
 pub const HEADER_BYTES: usize = 4 * HEADER;
@@ -41,10 +41,11 @@ pub fn write(open: &OpenJob, memory: &mut [u8]) {
     memory.copy_from_slice(&bytes);
 }
 
-/// The numbers of a header in the paper's order, without the hazard count.
+/// The numbers of a header in the paper's order, without the hazard count. Kind
+/// 1 has panel length 1 among them.
 pub fn header_numbers(job: &Job) -> [u64; HEADER - 1] {
     [
-        1,
+        job.kind,
         job.road_begin,
         job.road_end,
         job.runout_forward,
@@ -57,6 +58,7 @@ pub fn header_numbers(job: &Job) -> [u64; HEADER - 1] {
         job.flare_across,
         job.straight,
         job.continuity,
+        job.panel,
     ]
 }
 
@@ -122,8 +124,8 @@ fn place(bytes: &[u8]) -> (u64, Hazard) {
 /// bytes are read as any job's are.
 fn accepted(header: &[u64], hazards: &[Hazard]) -> Option<Job> {
     let mut bytes = Vec::new();
-    for value in header {
-        number::write(*value, &mut bytes);
+    for value in in_job_bytes(header)? {
+        number::write(value, &mut bytes);
     }
     for hazard in hazards {
         for value in job::fields(hazard) {
@@ -133,4 +135,14 @@ fn accepted(header: &[u64], hazards: &[Hazard]) -> Option<Job> {
     let job = job::read(&bytes).ok()?;
     envelope::envelopes(&job).ok()?;
     Some(job)
+}
+
+/// The header numbers as a job's bytes have them: kind 1 has no panel length
+/// there, and no opening leaves another than 1 in its place.
+fn in_job_bytes(header: &[u64]) -> Option<Vec<u64>> {
+    let mut numbers = header.to_vec();
+    if numbers[0] == 1 && numbers.remove(job::PANEL as usize - 1) != 1 {
+        return None;
+    }
+    Some(numbers)
 }

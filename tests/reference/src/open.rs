@@ -21,7 +21,7 @@ impl OpenJob {
     pub fn open(bytes: &[u8]) -> Result<OpenJob, Refusal> {
         let mut reader = Reader { bytes, at: 0 };
         let header = job::read_header(&mut reader)?;
-        reader.header(job::COUNT, 0, 0)?;
+        reader.header(job::count_number(header.kind), 0, 0)?;
         job::nothing_follows(&reader)?;
         Ok(OpenJob {
             header,

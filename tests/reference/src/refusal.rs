@@ -18,7 +18,7 @@ impl Refusal {
         refusal(2, begin as u64)
     }
 
-    /// 3: a header number, 1 to 14, is outside its range; with 0, the memory of
+    /// 3: a header number, 1 to 15, is outside its range; with 0, the memory of
     /// an open job breaks the rules.
     pub fn header_range(header_number: u64) -> Refusal {
         refusal(3, header_number)

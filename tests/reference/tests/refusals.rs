@@ -15,9 +15,14 @@ fn refused(job: &[u8]) -> (u64, u64) {
     (right.number, right.value)
 }
 
-/// The printed job with the bytes of one number, counted from 0, exchanged.
-fn with_number_bytes(index: usize, replaced: &[u8]) -> (Vec<u8>, usize) {
-    let list = printed().numbers();
+/// The printed job of each kind.
+fn both_kinds() -> [Draft; 2] {
+    [printed(), printed().in_panels(4_000)]
+}
+
+/// The job with the bytes of one number, counted from 0, exchanged.
+fn with_number_bytes(draft: &Draft, index: usize, replaced: &[u8]) -> (Vec<u8>, usize) {
+    let list = draft.numbers();
     let mut job = number_bytes(&list[..index]);
     let begin = job.len();
     job.extend(replaced);
@@ -27,16 +32,18 @@ fn with_number_bytes(index: usize, replaced: &[u8]) -> (Vec<u8>, usize) {
 
 #[test]
 fn row_1_bytes_end() {
-    let job = printed().bytes();
-    let mut begin = 0;
-    for value in printed().numbers() {
-        let size = number_bytes(&[value]).len();
-        for end in begin..begin + size {
-            assert_eq!(refused(&job[..end]), (1, begin as u64));
+    for draft in both_kinds() {
+        let job = draft.bytes();
+        let mut begin = 0;
+        for value in draft.numbers() {
+            let size = number_bytes(&[value]).len();
+            for end in begin..begin + size {
+                assert_eq!(refused(&job[..end]), (1, begin as u64));
+            }
+            begin += size;
         }
-        begin += size;
+        assert_eq!(begin, job.len());
     }
-    assert_eq!(begin, job.len());
 }
 
 #[test]
@@ -48,10 +55,12 @@ fn row_2_number_form() {
         &[0x80, 0x80, 0x80, 0x80, 0x80],
         &[0x80, 0x80, 0x80, 0x80, 0x80, 0x00],
     ];
-    for index in 0..printed().numbers().len() {
-        for replaced in wrong {
-            let (job, begin) = with_number_bytes(index, replaced);
-            assert_eq!(refused(&job), (2, begin as u64));
+    for draft in both_kinds() {
+        for index in 0..draft.numbers().len() {
+            for replaced in wrong {
+                let (job, begin) = with_number_bytes(&draft, index, replaced);
+                assert_eq!(refused(&job), (2, begin as u64));
+            }
         }
     }
 }
@@ -64,9 +73,9 @@ fn row_2_at_the_very_end() {
     assert_eq!(refused(&[0x80; 4]), (1, 0));
 }
 
-/// Least and greatest value of each header number, with A = 0.
-const HEADER_RANGES: [(u64, u64); 14] = [
-    (1, 1),
+/// Least and greatest value of each header number of kind 2, with A = 0.
+const HEADER_RANGES: [(u64, u64); 15] = [
+    (1, 2),
     (0, 1_999_999_999),
     (1, 2_000_000_000),
     (1, 200_000),
@@ -79,29 +88,53 @@ const HEADER_RANGES: [(u64, u64); 14] = [
     (0, 10),
     (0, 100_000),
     (0, 200_000),
+    (1, 10_000),
     (0, 256),
 ];
 
-fn header_refusal(no: usize, value: u64) -> Option<u64> {
-    let mut list = printed().with_hazards(&[]).numbers();
+/// Where refusal 3 is returned for a header without hazards that has this value
+/// as this number.
+fn header_refusal(header: &Draft, no: usize, value: u64) -> Option<u64> {
+    let mut list = header.numbers();
     list[no - 1] = value;
     let refusal = plan(&number_bytes(&list), 0, &mut [0; 8]).err()?;
     (refusal.number == 3).then_some(refusal.value)
 }
 
-#[test]
-fn row_3_header_ranges() {
-    for (index, (low, high)) in HEADER_RANGES.into_iter().enumerate() {
+fn header_ranges(header: &Draft, ranges: &[(u64, u64)]) {
+    assert_eq!(header.numbers().len(), ranges.len());
+    let refusal = |no, value| header_refusal(header, no, value);
+    // Another kind gives the numbers from 14 on another meaning.
+    for (index, (low, high)) in ranges.iter().enumerate().skip(1) {
         let no = index + 1;
         // A at its greatest value leaves the printed B out of range.
-        let greatest = if no == 2 { 999_999 } else { high };
-        assert_eq!(header_refusal(no, low), None, "{no}");
-        assert_eq!(header_refusal(no, greatest), None, "{no}");
-        assert_eq!(header_refusal(no, high + 1), Some(no as u64), "{no}");
-        if low > 0 {
-            assert_eq!(header_refusal(no, low - 1), Some(no as u64), "{no}");
+        let greatest = if no == 2 { 999_999 } else { *high };
+        assert_eq!(refusal(no, *low), None, "{no}");
+        assert_eq!(refusal(no, greatest), None, "{no}");
+        assert_eq!(refusal(no, high + 1), Some(no as u64), "{no}");
+        if *low > 0 {
+            assert_eq!(refusal(no, low - 1), Some(no as u64), "{no}");
         }
     }
+    for kind in [0, 3, 4, 255, 4_294_967_295] {
+        assert_eq!(refusal(1, kind), Some(1), "kind {kind}");
+    }
+}
+
+#[test]
+fn row_3_header_ranges() {
+    let mut of_kind_1 = HEADER_RANGES.to_vec();
+    of_kind_1.remove(PANEL);
+    header_ranges(&PRINTED, &of_kind_1);
+    header_ranges(&PRINTED.in_panels(4_000), &HEADER_RANGES);
+}
+
+/// The hazard count of one kind is the panel length of the other.
+#[test]
+fn row_3_the_other_kind() {
+    assert_eq!(header_refusal(&PRINTED, 1, 2), Some(14), "panel length 0");
+    let count_too_great = PRINTED.in_panels(257);
+    assert_eq!(header_refusal(&count_too_great, 1, 1), Some(14));
 }
 
 #[test]

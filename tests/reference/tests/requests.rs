@@ -193,8 +193,12 @@ fn hazard([side, start, end, near, far, level]: [u64; 6]) -> Hazard {
 
 /// The printed job's header, opened.
 fn opened() -> Vec<u8> {
+    opened_in(PRINTED)
+}
+
+fn opened_in(header: Draft) -> Vec<u8> {
     let mut memory = vec![0xA5; memory::BYTES];
-    assert_eq!(open(&mut memory, &PRINTED.bytes()), Ok(0));
+    assert_eq!(open(&mut memory, &header.bytes()), Ok(0));
     memory
 }
 
@@ -216,29 +220,29 @@ fn schedule(memory: &[u8], side: u64) -> Vec<u8> {
 #[test]
 fn the_memory_byte_by_byte() {
     let mut memory = opened();
-    assert_eq!(memory.len(), 5_176);
+    assert_eq!(memory.len(), 5_180);
     let header = [
-        1, 0, 1_000_000, 101_000, 0, 9_000, 0, 3_000, 1_000, 15, 1, 13_340, 0, 0u32,
+        1, 0, 1_000_000, 101_000, 0, 9_000, 0, 3_000, 1_000, 15, 1, 13_340, 0, 1, 0u32,
     ];
-    assert_eq!(memory[..56], header.map(u32::to_le_bytes).concat());
-    assert_eq!(memory[56..], [0; 5_120]);
+    assert_eq!(memory[..60], header.map(u32::to_le_bytes).concat());
+    assert_eq!(memory[60..], [0; 5_120]);
 
     let second = [1, 300_000, 310_001, 5_001, 60_000, 6];
     assert_eq!(add(&mut memory, 255, hazard(PRINTED_HAZARD)), Ok(0));
     assert_eq!(add(&mut memory, 7, hazard(second)), Ok(0));
-    assert_eq!(memory[52..56], 2u32.to_le_bytes());
+    assert_eq!(memory[56..60], 2u32.to_le_bytes());
     let first = [300_000, 310_001, 5_001, 60_000u32].map(u32::to_le_bytes);
-    assert_eq!(memory[56..72], first.concat());
-    assert_eq!(memory[72..76], [7, 0, 1, 6]);
+    assert_eq!(memory[60..76], first.concat());
+    assert_eq!(memory[76..80], [7, 0, 1, 6]);
     let behind = [200_000, 210_000, 5_000, 9_000u32].map(u32::to_le_bytes);
-    assert_eq!(memory[76..92], behind.concat());
-    assert_eq!(memory[92..96], [255, 0, 0, 3]);
-    assert_eq!(memory[96..], [0; 5_080]);
+    assert_eq!(memory[80..96], behind.concat());
+    assert_eq!(memory[96..100], [255, 0, 0, 3]);
+    assert_eq!(memory[100..], [0; 5_080]);
 
     // A withdrawal closes the row and clears the place behind it.
     assert_eq!(withdraw(&mut memory, 7), Ok(0));
-    assert_eq!(memory[92..96], [0; 4]);
-    assert_eq!(memory[72..76], [255, 0, 0, 3]);
+    assert_eq!(memory[96..100], [0; 4]);
+    assert_eq!(memory[76..80], [255, 0, 0, 3]);
     assert_eq!(withdraw(&mut memory, 255), Ok(0));
     assert_eq!(memory, opened());
 }
@@ -428,21 +432,35 @@ fn broken(memory: &[u8]) -> bool {
     all
 }
 
-#[test]
-fn memory_that_breaks_the_rules() {
-    let mut right = opened();
+/// The same with two hazards: from 300,000 under 7, from 200,000 under 9.
+fn two_standing(header: Draft) -> Vec<u8> {
+    let mut memory = opened_in(header);
     for (name, start) in [(7, 300_000), (9, 200_000)] {
         let fields = [0, start, start + 10_000, 5_000, 9_000, 3];
-        assert_eq!(add(&mut right, name, hazard(fields)), Ok(0));
+        assert_eq!(add(&mut memory, name, hazard(fields)), Ok(0));
     }
-    assert!(!broken(&right));
-    let with = |at: usize, bytes: &[u8]| {
-        let mut memory = right.clone();
-        memory[at..at + bytes.len()].copy_from_slice(bytes);
-        broken(&memory)
-    };
-    let number = |no: usize, value: u32| with(4 * (no - 1), &value.to_le_bytes());
-    assert!(number(1, 0) && number(1, 2) && !number(1, 1));
+    assert!(!broken(&memory));
+    memory
+}
+
+/// Whether memory with these bytes in this place is broken.
+fn broken_with(right: &[u8], at: usize, bytes: &[u8]) -> bool {
+    let mut memory = right.to_vec();
+    memory[at..at + bytes.len()].copy_from_slice(bytes);
+    broken(&memory)
+}
+
+/// Whether memory with another header number is broken; numbers from 1.
+fn broken_with_number(right: &[u8], no: usize, value: u32) -> bool {
+    broken_with(right, 4 * (no - 1), &value.to_le_bytes())
+}
+
+#[test]
+fn memory_that_breaks_the_rules() {
+    let right = two_standing(PRINTED);
+    let with = |at: usize, bytes: &[u8]| broken_with(&right, at, bytes);
+    let number = |no: usize, value: u32| broken_with_number(&right, no, value);
+    assert!(number(1, 0) && number(1, 3) && !number(1, 1) && !number(1, 2));
     assert!(number(2, 1_000_000) && !number(2, 100_000));
     assert!(number(3, 0) && number(3, 2_000_000_001) && !number(3, 2_000_000_000));
     assert!(number(4, 0) && number(4, 200_001) && !number(4, 200_000));
@@ -450,24 +468,26 @@ fn memory_that_breaks_the_rules() {
     assert!(number(10, 0) && number(10, 101) && !number(10, 100));
     assert!(number(11, 11) && !number(11, 10));
     assert!(number(13, 200_001) && !number(13, 200_000));
+    // Kind 1 has no panel length: no opening leaves another than 1.
+    assert!(number(14, 0) && number(14, 2) && number(14, 10_000) && !number(14, 1));
     // The count: a hazard too few or too many.
-    assert!(number(14, 0) && number(14, 1) && number(14, 3));
-    assert!(number(14, 257) && number(14, u32::MAX));
+    assert!(number(15, 0) && number(15, 1) && number(15, 3));
+    assert!(number(15, 257) && number(15, u32::MAX));
     // A header under which a hazard is refused 5, 6 or 4.
     assert!(number(8, 4_001) && !number(8, 4_000));
     assert!(number(2, 155_774) && !number(2, 155_773));
     assert!(number(3, 309_999) && !number(3, 310_000));
     // Names.
-    assert!(with(72, &[9]) && with(72, &[10]) && !with(72, &[8]));
-    assert!(with(92, &[9, 1]) && with(92, &[0, 1]) && !with(92, &[255]));
+    assert!(with(76, &[9]) && with(76, &[10]) && !with(76, &[8]));
+    assert!(with(96, &[9, 1]) && with(96, &[0, 1]) && !with(96, &[255]));
     // Hazards.
-    assert!(with(74, &[2]) && !with(74, &[1]));
-    assert!(with(75, &[0]) && with(75, &[7]) && !with(75, &[6]));
-    assert!(with(64, &3_999u32.to_le_bytes()) && !with(64, &4_000u32.to_le_bytes()));
-    assert!(with(56, &310_000u32.to_le_bytes()) && with(56, &44_226u32.to_le_bytes()));
-    assert!(!with(56, &44_227u32.to_le_bytes()));
+    assert!(with(78, &[2]) && !with(78, &[1]));
+    assert!(with(79, &[0]) && with(79, &[7]) && !with(79, &[6]));
+    assert!(with(68, &3_999u32.to_le_bytes()) && !with(68, &4_000u32.to_le_bytes()));
+    assert!(with(60, &310_000u32.to_le_bytes()) && with(60, &44_226u32.to_le_bytes()));
+    assert!(!with(60, &44_227u32.to_le_bytes()));
     // Places that are not used.
-    for at in [96, 115, 116, 3_000, 5_175] {
+    for at in [100, 119, 120, 3_000, 5_179] {
         assert!(with(at, &[1]) && !with(at, &[0]));
     }
     assert!(broken(&[0; memory::BYTES]) && broken(&[0xFF; memory::BYTES]));
@@ -476,8 +496,12 @@ fn memory_that_breaks_the_rules() {
 #[test]
 fn lists_of_calls() {
     let mut random = Random::new(1, "lists of calls");
-    for _ in 0..300 {
-        let mut open = OpenJob::open(&PRINTED.bytes()).unwrap();
+    for round in 0..300 {
+        let header = match round % 2 {
+            0 => PRINTED,
+            _ => PRINTED.in_panels(random.between(1, 10_000)),
+        };
+        let mut open = OpenJob::open(&header.bytes()).unwrap();
         let mut list: Vec<(u8, [u64; 6])> = Vec::new();
         for _ in 0..30 {
             let name = random.pick(&[0, 1, 2, 100, 254, 255]);
@@ -499,7 +523,7 @@ fn lists_of_calls() {
         }
         random.shuffle(&mut list);
         let hazards: Vec<[u64; 6]> = list.into_iter().map(|(_, fields)| fields).collect();
-        let job = PRINTED.with_hazards(&hazards).bytes();
+        let job = header.with_hazards(&hazards).bytes();
         let mut memory = vec![0; memory::BYTES];
         memory::write(&open, &mut memory);
         assert_eq!(memory::read(&memory), Some(open));
@@ -507,4 +531,142 @@ fn lists_of_calls() {
             assert_eq!(schedule(&memory, side), planned(&job, side).unwrap());
         }
     }
+}
+
+// 4: approaches in whole panels.
+
+#[test]
+fn an_approach_in_whole_panels() {
+    // 44,227 is 47 panels of 941.
+    for (panel, length) in [
+        (1, 44_227),
+        (2, 44_228),
+        (940, 45_120),
+        (941, 44_227),
+        (942, 44_274),
+        (4_000, 48_000),
+        (10_000, 50_000),
+    ] {
+        let run = (200_000 - length, 210_000, 3);
+        assert_eq!(printed().in_panels(panel).right(), [run], "{panel}");
+    }
+}
+
+#[test]
+fn a_straight_approach_in_whole_panels() {
+    // The straight part is asked before the raising: 67,334 is at most T.
+    for straight in [67_334, 80_000] {
+        let run = (200_000 - 70_000, 210_000, 3);
+        assert_eq!(k1_with(straight).in_panels(10_000).right(), [run]);
+    }
+    // A length that is a multiple already stays: 67,334 is 131 panels of 514.
+    let run = (200_000 - 67_334, 210_000, 3);
+    assert_eq!(k1_with(80_000).in_panels(514).right(), [run]);
+}
+
+/// K4 in whole panels: 67,334 of adjacent traffic, 28,056 of far traffic.
+fn k4_in_panels(length: u64) -> Draft {
+    two_way(0).with(FLARE_B, 0).in_panels(length)
+}
+
+#[test]
+fn each_traffic_raised_by_itself() {
+    let both = |length| {
+        let job = k4_in_panels(length);
+        let left = job.clone().with_hazard(SIDE, 1).runs(1).unwrap();
+        (job.right()[0], left[0])
+    };
+    let (right, left) = both(4_000);
+    assert_eq!(right, (200_000 - 68_000, 210_000 + 32_000, 3));
+    assert_eq!(left, (200_000 - 32_000, 210_000 + 68_000, 3));
+    // One of them a multiple already.
+    let (right, left) = both(514);
+    assert_eq!(right, (200_000 - 67_334, 210_000 + 28_270, 3));
+    assert_eq!(left, (200_000 - 28_270, 210_000 + 67_334, 3));
+}
+
+#[test]
+fn a_raised_envelope_can_leave_the_road() {
+    let before = |start| k4_in_panels(4_000).with_hazard(S, start);
+    assert_eq!(before(68_000).right(), [(0, 242_000, 3)]);
+    assert_eq!(before(67_999).refused(), (6, 0));
+    let behind = |end| k4_in_panels(4_000).with(B, end);
+    assert_eq!(behind(242_000).right(), [(132_000, 242_000, 3)]);
+    assert_eq!(behind(241_999).refused(), (6, 0));
+}
+
+#[test]
+fn gaps_between_raised_envelopes() {
+    let apart = |gap: u64| {
+        let second = 210_000 + gap + 48_000;
+        let job = PRINTED.with(G, 50_000).in_panels(4_000);
+        job.with_hazards(&[
+            [0, 200_000, 210_000, 5_000, 9_000, 2],
+            [0, second, second + 1_000, 5_000, 9_000, 2],
+        ])
+    };
+    assert_eq!(apart(49_999).right(), [(152_000, 308_999, 2)]);
+    let (first, second) = ((152_000, 210_000, 2), (260_000, 309_000, 2));
+    assert_eq!(apart(50_000).right(), [first, second]);
+}
+
+/// Each refusal of the header has the number of kind 2.
+#[test]
+fn the_header_of_kind_2() {
+    let in_panels = printed().in_panels(4_000);
+    assert_eq!(in_panels.clone().in_panels(0).refused(), (3, 14));
+    assert_eq!(in_panels.clone().in_panels(10_001).refused(), (3, 14));
+    assert_eq!(in_panels.clone().with(G, 200_001).refused(), (3, 13));
+    let mut numbers = in_panels.numbers();
+    numbers[14] = 257;
+    let refusal = planned(&number_bytes(&numbers), 0).unwrap_err();
+    assert_eq!((refusal.number, refusal.value), (3, 15));
+}
+
+#[test]
+fn an_open_job_in_whole_panels() {
+    let mut memory = opened_in(PRINTED.in_panels(4_000));
+    assert_eq!(memory[..4], 2u32.to_le_bytes());
+    assert_eq!(memory[52..60], [4_000, 0u32].map(u32::to_le_bytes).concat());
+    assert_eq!(add(&mut memory, 3, hazard(PRINTED_HAZARD)), Ok(0));
+    let job = printed().in_panels(4_000).bytes();
+    assert_eq!(schedule(&memory, 0), planned(&job, 0).unwrap());
+    let mut adding = |start| {
+        let fields = [0, start, 210_000, 5_000, 9_000, 3];
+        refused(&mut memory, |memory| add(memory, 4, hazard(fields)))
+    };
+    assert_eq!(adding(44_227), (6, 4), "on the road before raising");
+    assert_eq!(adding(47_999), (6, 4));
+    let at_the_begin = hazard([0, 48_000, 210_000, 5_000, 9_000, 3]);
+    assert_eq!(add(&mut memory, 4, at_the_begin), Ok(0));
+}
+
+#[test]
+fn opening_in_whole_panels() {
+    let header = PRINTED.in_panels(4_000);
+    let mut memory = opened();
+    let mut opening = |bytes: &[u8]| refused(&mut memory, |memory| open(memory, bytes));
+    let bytes = header.bytes();
+    let count_at = bytes.len() - 1;
+    assert_eq!(opening(&bytes[..count_at]), (1, count_at as u64));
+    assert_eq!(opening(&[&bytes[..count_at], &[0x01]].concat()), (3, 15));
+    assert_eq!(opening(&printed().in_panels(4_000).bytes()), (3, 15));
+    for panel in [0, 10_001] {
+        assert_eq!(opening(&PRINTED.in_panels(panel).bytes()), (3, 14));
+    }
+    // Panel length 1 stays of kind 2, although it acts as kind 1.
+    let memory = opened_in(PRINTED.in_panels(1));
+    assert_eq!(memory[..4], 2u32.to_le_bytes());
+    assert_eq!(memory[4..], opened()[4..]);
+}
+
+#[test]
+fn memory_in_whole_panels() {
+    let right = two_standing(PRINTED.in_panels(4_000));
+    let number = |no: usize, value: u32| broken_with_number(&right, no, value);
+    assert!(number(14, 0) && number(14, 10_001) && number(14, u32::MAX));
+    assert!(!number(14, 1) && !number(14, 10_000));
+    assert!(number(1, 0) && number(1, 1) && number(1, 3), "kind");
+    // The hazard at 200,000 has a raised approach of 48,000.
+    assert!(number(2, 152_001) && !number(2, 152_000));
 }

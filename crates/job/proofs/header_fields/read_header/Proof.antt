@@ -1,10 +1,11 @@
--- `job::header_fields::read_header` meets its contract. The loop's invariant: the numbers read stand in the array, and what is left to read
--- gives the answer. The measure is how many are left.
+-- `job::header_fields::read_header` meets its contract. The loop's invariant: the numbers read stand in the array, and what is left of the
+-- first fourteen gives the answer. The measure is how many are left.
 -- Assumes nothing.
 use Prim.Native.Nat.{_-_}
 use native.Mathlib.Omega.{arith}
+use mathlib.Core.Path.{_∙_}
 use borrow.Author.Needs.{needs}
-use Rattle.job.proofs.HeaderLaws.{HeaderLeft, all-left, one-less, header-refused, header-read}
+use Rattle.job.proofs.HeaderLaws.{HeaderLeft, all-left, one-less, header-refused, header-plain, header-counted}
 use Rattle.job.proofs.header_fields.read_header.Statement.{statement}
 use Rattle.job.proofs.header_fields.read_header.Tie as tie
 
@@ -26,12 +27,18 @@ loop-again c =
     let l = r .before .before .before .loop in
     one-less (r .read-field .result) (l .inv) (r .before .before .loop-test .taken) (r .before .header-range .ensures) (r .read-field .ensures) (c .before .reading .given .1)
 
+read-count-requires : tie.Need-read-count-requires Inv-loop μ-loop
+read-count-requires c κs = (c .before .before .loop .inv .room, c .if1 .taken)
+
 returns-2 : tie.Need-returns-2 Inv-loop μ-loop
-returns-2 c = rw (c .header-of .ensures) (header-read (c .before .before .loop .inv) (c .before .loop-test .left))
+returns-2 c = c .read-count .ensures ∙ header-counted (c .before .before .before .loop .inv) (c .before .before .loop-test .left) (c .before .if1 .taken)
+
+returns-3 : tie.Need-returns-3 Inv-loop μ-loop
+returns-3 c = rw (c .header-with .ensures) (header-plain (c .before .before .before .loop .inv) (c .before .before .loop-test .left) (c .before .if1 .left))
 
 pub read-header-spec : {M : Type 1} → statement M
 read-header-spec =
     tie.close
-    (tie.spec Inv-loop μ-loop (λ c. all-left) (λ c. search needs) (λ c κs. search needs) (λ c. omega arith) (λ c κs. search needs)
+    (tie.spec Inv-loop μ-loop (λ c. all-left) (λ c. search needs) (λ c. search needs) (λ c κs. search needs) (λ c. omega arith) (λ c κs. search needs)
     (λ c. search needs) (λ c. omega arith) (λ c. search needs) (λ c. search needs) returns
-    (λ c. omega arith) (λ c. omega arith) loop-again (λ c κs. search needs) returns-2)
+    (λ c. omega arith) (λ c. omega arith) loop-again (λ c. search needs) read-count-requires returns-2 (λ c. search needs) (λ c κs. search needs) returns-3)

@@ -1,8 +1,9 @@
 -- `job::read::read_opening` meets its contract: the header, then its count, then the job as it is read. Assumes nothing.
+use Prim.Native.Nat.{ℕ}
 use native.Mathlib.Omega.{arith}
 use mathlib.Core.Path.{_≡_, sym, ap, _∙_}
 use borrow.Author.Needs.{needs}
-use Rattle.refusal.specs.Answer.{accepted}
+use Rattle.refusal.specs.Answer.{accepted, refused}
 use Rattle.job.specs.Reply.{headerAt, headerAnswer}
 use Rattle.job.proofs.OpeningLaws.{opening-unread, opening-counted, opening-empty}
 use Rattle.job.proofs.read.read_opening.Statement.{statement}
@@ -13,7 +14,9 @@ read : (c : tie.After-header) → headerAt (c .before .before .before .before .a
 read c = sym (c .before .before .read-header .ensures) ∙ ap headerAnswer (c .header .given .1)
 
 returns : tie.Need-returns
-returns c = sym (opening-counted _ (read (c .before .before .before)) (c .if1 .taken))
+returns c =
+    let counted = opening-counted _ (read (c .before .before .before .before)) (c .before .if1 .taken) in
+    ap (λ (n : ℕ). refused 3 n) (c .header-size .ensures) ∙ sym counted
 
 returns-2 : tie.Need-returns-2
 returns-2 c = c .read-to-end .ensures ∙ sym (opening-empty _ (read (c .before .before .before .before)) (omega (arith, c .before .if1 .left)))
@@ -24,4 +27,6 @@ returns-3 c =
     sym (opening-unread _ (c .before .refusal .given .0 .0) (sym (r .read-header .ensures) ∙ ap headerAnswer (c .before .refusal .given .1)))
 
 pub read-opening-spec : {M : Type 1} → statement M
-read-opening-spec = tie.close (tie.spec (λ c κs. search needs) (λ c. search needs) returns (λ c κs. search needs) (λ c. search needs) returns-2 returns-3)
+read-opening-spec =
+    tie.close
+    (tie.spec (λ c κs. search needs) (λ c. search needs) (λ c κs. search needs) returns (λ c κs. search needs) (λ c. search needs) returns-2 returns-3)

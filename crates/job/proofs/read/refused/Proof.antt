@@ -5,4 +5,4 @@ use Rattle.job.proofs.read.refused.Statement.{statement}
 use Rattle.job.proofs.read.refused.Tie as tie
 
 pub refused-spec : {M : Type 1} → statement M
-refused-spec = tie.close (tie.spec (λ c κs. search needs) (λ c κs. search needs) (λ c. rw (c .unfilled .ensures, c .before .header-of .ensures) refl))
+refused-spec = tie.close (tie.spec (λ c κs. search needs) (λ c κs. search needs) (λ c. rw (c .unfilled .ensures, c .before .header-with .ensures) refl))

@@ -24,14 +24,20 @@ returns-2 c =
     (lengthening-beyond (a .header) (a .hazard) (trafficOf (a .traffic)) (omega arith), omega arith)
 
 -- The formula is asked in its domain.
-domain-length-requires : tie.Need-domain-length-requires
-domain-length-requires c κs =
+raised-length-requires : tie.Need-raised-length-requires
+raised-length-requires c κs =
     let start = c .before .before .before .before .before .before .before .before .before in
     let a = start .args in
     let runout = c .before .before .before .before .before .before .before .before .runout-length in
     let farther = c .before .before .before .before .before .before .before .farther-by in
-    lengthening-domain (a .header) (a .hazard) (start .pre .0) (start .pre .1 .0) (start .pre .1 .1) (trafficOf (a .traffic))
-    (runout .ensures) (farther .ensures) (c .before .lesser .ensures) (omega arith) (omega arith)
+    let fits = start .pre .0 in (
+      omega (arith, fits .panel-low),
+      (
+        omega (arith, fits .panel-top),
+        lengthening-domain (a .header) (a .hazard) (start .pre .0) (start .pre .1 .0) (start .pre .1 .1) (trafficOf (a .traffic))
+            (runout .ensures) (farther .ensures) (c .before .lesser .ensures) (omega arith) (omega arith),
+      ),
+    )
 
 returns-3 : tie.Need-returns-3
 returns-3 c =
@@ -39,7 +45,7 @@ returns-3 c =
     let a = start .args in
     let runout = c .before .before .before .before .before .before .before .before .before .runout-length in
     let farther = c .before .before .before .before .before .before .before .before .farther-by in
-    let e = c .domain-length .ensures ∙ lengthening-asked (a .header) (a .hazard) (start .pre .0) (start .pre .1 .0) (start .pre .1 .1) (trafficOf (a .traffic))
+    let e = c .raised-length .ensures ∙ lengthening-asked (a .header) (a .hazard) (start .pre .0) (start .pre .1 .0) (start .pre .1 .1) (trafficOf (a .traffic))
     (runout .ensures) (farther .ensures) (c .before .before .lesser .ensures) (omega arith) (omega arith) in
     (e, omega (arith, lengthening-top (a .header) (a .hazard) (start .pre .0) (start .pre .1 .0) (start .pre .1 .1) (trafficOf (a .traffic))))
 
@@ -55,5 +61,5 @@ lengthened-by-spec =
     (λ c. search needs)
     (λ c κs. search needs)
     (λ c. search needs)
-    domain-length-requires
+    raised-length-requires
     returns-3)

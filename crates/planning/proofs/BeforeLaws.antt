@@ -1,0 +1,174 @@
+-- Bytes whose first number is not 2 are read and tested as before document 02's request 4, and so are their envelopes. "Kind 1 acts as panel length 1."
+-- Assumes nothing.
+use Prim.Native.Nat.{ℕ, zero, suc, _+_, _-_, _≤_, _<_}
+use native.Mathlib.Omega.{arith}
+use native.Mathlib.Decide.{ℕ-discrete}
+use mathlib.Core.Path.{_≡_, refl, sym, ap, _∙_}
+use mathlib.Core.Logic.{_⊎_, inl, inr, ⊎-elim}
+use mathlib.Core.Bool.{Bool, true, false, _&&_, and-false}
+use mathlib.Core.List.{List, [], _∷_, _++_}
+use lib.ListN.{length, getD}
+use lib.Dec.{leb, eqb}
+use borrow.Author.Tests.{lt-leb, ne-eqb}
+use Rattle.refusal.specs.Choice.{if_then_else_}
+use Rattle.refusal.specs.Answer.{Answer, accepted, refused, _>>=_, unless-refuse}
+use Rattle.refusal.proofs.AnswerLaws.{bound}
+use Rattle.number.specs.Number.{Reading, numberAt}
+use Rattle.approach.specs.Approach.{approachLength}
+use Rattle.approach.specs.Panel.{raisedLength}
+use Rattle.approach.proofs.PanelLaws.{raised-length-one}
+use Rattle.job.specs.declared.Header.{Header}
+use Rattle.job.specs.declared.Hazard.{Hazard}
+use Rattle.job.specs.Job.{Job, Range, within, _to_, sharedRanges, headerRanges, nextInHeader, Fields, readFields, moreNumbers, readHeader, headerWith, headerOf, Hazards, readHazards, readRest, readJob}
+use Rattle.job.proofs.JobLaws.{FieldsIn, fields-in, within-high}
+use Rattle.runs.specs.declared.Stretch.{Stretch}
+use Rattle.planning.specs.Envelope.{Traffic, forward, opposite, runout, reaches, reachOf, offsetOf, lengthening, envelope, envelopes, testHazard, testHazards, acceptJob}
+use Rattle.planning.specs.Before.{NotKindTwo, nextBefore, readHeaderBefore, headerBefore, readJobBefore, lengtheningBefore, envelopesBefore, testHazardBefore, testHazardsBefore, acceptJobBefore}
+
+-- Reading
+
+-- Two tables that agree behind the first number.
+fields-alike : (a b : List ℕ → Range) (number : ℕ) (valueOf : List ℕ → ℕ) (x : ℕ) → ((g : List ℕ) → a (x ∷ g) ≡ b (x ∷ g)) → (k : ℕ) (g s : List ℕ) (at : ℕ)
+    → readFields a number valueOf k (x ∷ g) s at ≡ readFields b number valueOf k (x ∷ g) s at
+unfolding readFields
+fields-alike a b number valueOf x same zero g s at = refl
+fields-alike a b number valueOf x same (suc k) g s at = go (numberAt s at) (fields-alike a b number valueOf x same k)
+  where
+    Later : Type 0
+    Later = (l t : List ℕ) (i : ℕ) → readFields a number valueOf k (x ∷ l) t i ≡ readFields b number valueOf k (x ∷ l) t i
+
+    test : (t : Bool) (y : Reading) → Later
+        → (unless-refuse t number (valueOf (x ∷ g)) >>= λ _. readFields a number valueOf k (x ∷ (g ++ y .value ∷ [])) s (y .next))
+        ≡ (unless-refuse t number (valueOf (x ∷ g)) >>= λ _. readFields b number valueOf k (x ∷ (g ++ y .value ∷ [])) s (y .next))
+    test true y later = later (g ++ y .value ∷ []) s (y .next)
+    test false y later = refl
+
+    go : (r : Answer Reading) → Later
+        → (r >>= λ y. unless-refuse (within (a (x ∷ g)) (y .value)) number (valueOf (x ∷ g)) >>= λ _. readFields a number valueOf k (x ∷ (g ++ y .value ∷ [])) s (y .next))
+        ≡ (r >>= λ y. unless-refuse (within (b (x ∷ g)) (y .value)) number (valueOf (x ∷ g)) >>= λ _. readFields b number valueOf k (x ∷ (g ++ y .value ∷ [])) s (y .next))
+    go (accepted y) later = rw (same g) (test (within (b (x ∷ g)) (y .value)) y later)
+    go (refused n v) later = refl
+
+-- The first number of a group, and the others.
+fields-first : (rangeOf : List ℕ → Range) (number : ℕ) (valueOf : List ℕ → ℕ) (k : ℕ) (s : List ℕ) (at : ℕ)
+    → readFields rangeOf number valueOf (suc k) [] s at
+    ≡ (numberAt s at >>= λ x. unless-refuse (within (rangeOf []) (x .value)) number (valueOf []) >>= λ _. readFields rangeOf number valueOf k (x .value ∷ []) s (x .next))
+unfolding readFields
+fields-first rangeOf number valueOf k s at = refl
+
+-- Numbers read behind a first one keep it.
+first-kept : (rangeOf : List ℕ → Range) (k x : ℕ) (g numbers : List ℕ) → FieldsIn rangeOf k (x ∷ g) numbers → getD numbers 0 0 ≡ x
+first-kept rangeOf zero x g numbers f = ap (λ (l : List ℕ). getD l 0 0) (sym f)
+first-kept rangeOf (suc k) x g numbers f = first-kept rangeOf k x (g ++ f .0 ∷ []) numbers (f .2)
+
+-- A number that is no kind, by either range.
+outside : (high x : ℕ) → (x ≡ 0) ⊎ (high < x) → within (1 to high) x ≡ false
+outside high x (inl e) = rw e
+outside high x (inr l) = rw (lt-leb x high l) (and-false (leb 1 x))
+
+module _ (s : List ℕ) (plain : NotKindTwo s) where
+  no-kind : (x n : ℕ) → numberAt s 0 ≡ accepted (record { value = x; next = n }) → (x ≡ 1 → ⊥) → (x ≡ 0) ⊎ (2 < x)
+  no-kind x n e other = go (ℕ-discrete x 0) (ℕ-discrete x 2)
+    where
+      go : Dec (x ≡ 0) → Dec (x ≡ 2) → (x ≡ 0) ⊎ (2 < x)
+      go (yes z) d = inl z
+      go (no z) (yes two) = absurd (plain n (e ∙ ap (λ (v : ℕ). accepted (record { value = v; next = n })) two))
+      go (no z) (no two) = inr (omega arith)
+
+  -- A header of kind 1, behind its first number.
+  behind-kind : (at : ℕ) → readFields nextInHeader 3 (λ got. length got + 1) 13 (1 ∷ []) s at ≡ readFields nextBefore 3 (λ got. length got + 1) 13 (1 ∷ []) s at
+  unfolding headerRanges sharedRanges
+  behind-kind at = fields-alike nextInHeader nextBefore 3 (λ got. length got + 1) 1 (λ g. refl) 13 [] s at
+
+  abbrev further : Fields → Answer Fields
+  further f = readFields nextInHeader 3 (λ got. length got + 1) (moreNumbers (f .numbers)) (f .numbers) s (f .next)
+
+  -- No number follows its fourteen.
+  no-more : (n : ℕ) (a : Answer Fields) → readFields nextInHeader 3 (λ got. length got + 1) 13 (1 ∷ []) s n ≡ a → (a >>= λ f. further f) ≡ a
+  unfolding readFields
+  no-more n (accepted f) e =
+      let kind = first-kept nextInHeader 13 1 [] (f .numbers) (fields-in nextInHeader 3 (λ got. length got + 1) 13 (1 ∷ []) s n f e) in
+      rw kind
+  no-more n (refused k v) e = refl
+
+  pub header-alike : readHeader s ≡ readHeaderBefore s
+  unfolding readHeader readHeaderBefore headerRanges sharedRanges
+  header-alike =
+      ap (λ (a : Answer Fields). a >>= λ f. further f) (fields-first nextInHeader 3 (λ got. length got + 1) 13 s 0) ∙ go (numberAt s 0) refl
+      ∙ sym (fields-first nextBefore 3 (λ got. length got + 1) 13 s 0)
+    where
+      kinds : (x n : ℕ) → numberAt s 0 ≡ accepted (record { value = x; next = n }) → Dec (x ≡ 1)
+          → ((unless-refuse (within (1 to 2) x) 3 1 >>= λ _. readFields nextInHeader 3 (λ got. length got + 1) 13 (x ∷ []) s n) >>= λ f. further f)
+          ≡ (unless-refuse (within (1 to 1) x) 3 1 >>= λ _. readFields nextBefore 3 (λ got. length got + 1) 13 (x ∷ []) s n)
+      kinds x n e (yes one) = rw one (no-more n (readFields nextInHeader 3 (λ got. length got + 1) 13 (1 ∷ []) s n) refl ∙ behind-kind n)
+      kinds x n e (no other) =
+          let w = no-kind x n e other in
+          rw (outside 2 x w, outside 1 x (⊎-elim inl (λ (l : 2 < x). inr (omega arith)) w))
+
+      go : (a : Answer Reading) → numberAt s 0 ≡ a
+          → ((a >>= λ x. unless-refuse (within (1 to 2) (x .value)) 3 1 >>= λ _. readFields nextInHeader 3 (λ got. length got + 1) 13 (x .value ∷ []) s (x .next)) >>= λ f. further f)
+          ≡ (a >>= λ x. unless-refuse (within (1 to 1) (x .value)) 3 1 >>= λ _. readFields nextBefore 3 (λ got. length got + 1) 13 (x .value ∷ []) s (x .next))
+      go (accepted x) e = kinds (x .value) (x .next) e (ℕ-discrete (x .value) 1)
+      go (refused k v) e = refl
+
+  -- The header that was read has kind 1, and so panel length 1.
+  pub first-number : (f : Fields) → readHeader s ≡ accepted f → eqb (getD (f .numbers) 0 0) 2 ≡ false
+  unfolding readHeaderBefore headerRanges sharedRanges
+  first-number f e =
+      let in14 = fields-in nextBefore 3 (λ got. length got + 1) 14 [] s 0 f (sym header-alike ∙ e) in
+      let kind = first-kept nextBefore 13 (in14 .0) [] (f .numbers) (in14 .2) in
+      let one : in14 .0 ≤ 1 = within-high (1 to 1) (in14 .0) (in14 .1) in
+      ne-eqb (getD (f .numbers) 0 0) 2 (λ two. omega arith)
+
+  pub read-alike : readJob s ≡ readJobBefore s
+  unfolding readJob readJobBefore
+  read-alike = go (readHeader s) refl ∙ ap (λ (a : Answer Fields). a >>= λ f. readRest (headerBefore (f .numbers)) (headerBefore (f .numbers) .count) [] s (f .next)) header-alike
+    where
+      go : (a : Answer Fields) → readHeader s ≡ a
+          → (a >>= λ f. let h = headerOf (f .numbers) in readRest h (h .count) [] s (f .next))
+          ≡ (a >>= λ f. readRest (headerBefore (f .numbers)) (headerBefore (f .numbers) .count) [] s (f .next))
+      go (accepted f) e = rw (first-number f e)
+      go (refused k v) e = refl
+
+-- Planning, of a header with panel length 1
+
+module _ (h : Header) (one : h .panel ≡ 1) where
+  pub lengthening-alike : (z : Hazard) (t : Traffic) → lengthening h z t ≡ lengtheningBefore h z t
+  unfolding lengthening lengtheningBefore
+  lengthening-alike z t = go (reaches h z t)
+    where
+      go : (b : Bool) → (if b then raisedLength (h .panel) (h .along) (h .across) (h .straight) (runout h t) (reachOf h z t) (offsetOf h z t) else 0)
+          ≡ (if b then approachLength (h .along) (h .across) (h .straight) (runout h t) (reachOf h z t) (offsetOf h z t) else 0)
+      go true = rw one (raised-length-one _ _ _ _ _ _)
+      go false = refl
+
+  pub envelopes-alike : (side : ℕ) (zs : List Hazard) → envelopes h side zs ≡ envelopesBefore h side zs
+  unfolding envelopes envelope envelopesBefore
+  envelopes-alike side [] = refl
+  envelopes-alike side (z ∷ zs) = rw (lengthening-alike z forward, lengthening-alike z opposite, envelopes-alike side zs)
+
+  pub tests-alike : (i : ℕ) (zs : List Hazard) → testHazards h i zs ≡ testHazardsBefore h i zs
+  unfolding testHazards testHazard testHazardsBefore testHazardBefore
+  tests-alike i [] = refl
+  tests-alike i (z ∷ zs) = rw (lengthening-alike z forward, lengthening-alike z opposite, tests-alike (i + 1) zs)
+
+-- A job that was read has panel length 1.
+module _ (s : List ℕ) (plain : NotKindTwo s) where
+  pub panel-one : (j : Job) → readJob s ≡ accepted j → j .header .panel ≡ 1
+  unfolding readJobBefore readRest
+  panel-one j e =
+      let b1 = bound (readHeaderBefore s) _ j (sym (read-alike s plain) ∙ e) in
+      let h = headerBefore (b1 .first .numbers) in
+      let b2 = bound (readHazards h (h .count) [] s (b1 .first .next)) _ j (b1 .rest) in
+      let b3 = bound (unless-refuse (leb (length s) (b2 .first .next)) 7 (b2 .first .next)) _ j (b2 .rest) in
+      let same : record { header = h; hazards = b2 .first .list } ≡ j = let z = b3 .rest in cc in
+      sym (ap (λ (i : Job). i .header .panel) same)
+
+  pub accept-alike : acceptJob s ≡ acceptJobBefore s
+  unfolding acceptJob acceptJobBefore
+  accept-alike = go (readJob s) refl ∙ ap (λ (a : Answer Job). a >>= λ j. testHazardsBefore (j .header) 0 (j .hazards) >>= λ _. accepted j) (read-alike s plain)
+    where
+      go : (a : Answer Job) → readJob s ≡ a
+          → (a >>= λ j. testHazards (j .header) 0 (j .hazards) >>= λ _. accepted j) ≡ (a >>= λ j. testHazardsBefore (j .header) 0 (j .hazards) >>= λ _. accepted j)
+      go (accepted j) e = rw (tests-alike (j .header) (panel-one j e) 0 (j .hazards))
+      go (refused k v) e = refl
