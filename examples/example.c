@@ -1,8 +1,9 @@
 /*
  * The first program: plans document 01's printed example, looks up the barrier
- * at some stations, prices it by lots and shows two refusals.  It ends with 1
- * where a call does not do what it should: a schedule that cannot be read must
- * not be priced as one without barriers.
+ * at some stations, asks for the level at two of them without the schedule,
+ * prices it by lots and shows two refusals.  It ends with 1 where a call does
+ * not do what it should: a schedule that cannot be read must not be priced as
+ * one without barriers.
  *
  *     cc example.c $(pkg-config --cflags --libs barrier_engine) -o example
  */
@@ -147,6 +148,28 @@ static int print_stations(const uint8_t *right, size_t right_len)
     return 1;
 }
 
+/* The level at a station, of the job alone; 0 if refused. */
+static int print_level(const uint8_t *job, size_t job_len, uint64_t station)
+{
+    const barrier_reply reply = barrier_level(job, job_len, BARRIER_RIGHT, station);
+    if (reply.number != BARRIER_DONE) {
+        print_refusal("level", reply);
+        return 0;
+    }
+    if (reply.value == 0)
+        printf("  station %" PRIu64 ": no barrier\n", station);
+    else
+        printf("  station %" PRIu64 ": NC-%" PRIu64 "\n", station, reply.value);
+    return 1;
+}
+
+/* What an inspector asks, who has the job but no schedule. */
+static int print_levels(const uint8_t *job, size_t job_len)
+{
+    printf("Levels on the right side, without its schedule\n");
+    return print_level(job, job_len, 155772) && print_level(job, job_len, 155773);
+}
+
 static void print_price(const char *what, uint64_t millimetres)
 {
     const uint64_t cents = millimetres * CENTS_A_MILLIMETRE;
@@ -251,8 +274,8 @@ static int show(void)
     print_bytes("job", job, job_len);
     print_bytes("right schedule", right, right_len);
     print_bytes("left schedule", left, left_len);
-    return print_stations(right, right_len) && print_prices(right, right_len) &&
-           print_refusals(job, job_len);
+    return print_stations(right, right_len) && print_levels(job, job_len) &&
+           print_prices(right, right_len) && print_refusals(job, job_len);
 }
 
 int main(void)

@@ -3,9 +3,10 @@
  *
  * A job goes in: one straight road and its roadside hazards.  A schedule comes
  * out: the runs of safety barrier along one side of the road, each with its
- * containment level.  There are eight calls:
+ * containment level.  There are nine calls:
  *
  *     barrier_plan           writes the schedule of one side of a job
+ *     barrier_level          gives the level that a job requires at a station
  *     barrier_quantity       counts the millimetres of one level in a range
  *     barrier_quantities     the same for all lots of a contract, in one walk
  *     barrier_lookup         finds the record of the run at a station
@@ -234,6 +235,7 @@
  *                            next is read; then 7; then the hazards by index,
  *                            those of both sides, each for 5 and then for 6;
  *                            then 9
+ *     barrier_level          as barrier_plan, without 9
  *     barrier_quantity       8, then 10
  *     barrier_quantities     8, then 11, then 10
  *     barrier_lookup         8, then 10, of the asked side's schedule
@@ -281,8 +283,8 @@
  * thread changes a buffer that another call is using.  So on one open job only
  * one call at a time may open, add or withdraw, and no other call with it;
  * calls on different open jobs do not touch each other.  One call of
- * barrier_plan takes at most 24 KiB of stack, each of those on an open job at
- * most 40 KiB, each of the others less than 2 KiB.
+ * barrier_plan or barrier_level takes at most 24 KiB of stack, each of those
+ * on an open job at most 40 KiB, each of the others less than 2 KiB.
  *
  * ---------------------------------------------------------------------------
  * LINKING
@@ -290,7 +292,7 @@
  * `pkg-config --cflags --libs barrier_engine` prints the flags; they name this
  * header's folder and the archive libbarrier_engine.a.  The archive is for
  * x86-64, position independent, so that it links into programs and shared
- * libraries alike, exports the eight calls alone, and asks the C library for
+ * libraries alike, exports the nine calls alone, and asks the C library for
  * nothing but block copies and fills (memcpy, memset and their kin).
  *
  * A program that has an open job is compiled with the header of the archive
@@ -308,7 +310,7 @@ extern "C" {
 #endif
 
 /* The version of the engine that this header belongs to. */
-#define BARRIER_VERSION "0.5.0"
+#define BARRIER_VERSION "0.6.0"
 
 /*
  * CONSTANTS
@@ -345,8 +347,11 @@ enum barrier_side {
     BARRIER_LEFT = 1
 };
 
-/* The containment levels, lowest first. */
-enum barrier_level {
+/*
+ * The containment levels, lowest first.  Up to version 0.5.0 the tag was
+ * barrier_level, which is a call now.
+ */
+enum barrier_containment {
     BARRIER_NC_1 = 1,
     BARRIER_NC_2 = 2,
     BARRIER_NC_3 = 3,
@@ -381,11 +386,12 @@ enum barrier_number {
  */
 
 /*
- * What barrier_plan, barrier_quantity and the calls on an open job reply.
+ * What barrier_plan, barrier_level, barrier_quantity and the calls on an open
+ * job reply.
  *
  *     number    BARRIER_DONE, or the refusal's number
- *     value     done: bytes written (plan, open_schedule), millimetres
- *               (quantity) or 0 (open, add, withdraw);
+ *     value     done: bytes written (plan, open_schedule), the level (level),
+ *               millimetres (quantity) or 0 (open, add, withdraw);
  *               refused: the refusal's value
  */
 typedef struct {
@@ -442,6 +448,24 @@ typedef struct {
  */
 barrier_reply barrier_plan(const uint8_t *job, size_t job_len, uint64_t side,
                            uint8_t *out, size_t out_len);
+
+/*
+ * Level: the level that one side of a job requires at a station, directly from
+ * the hazards.  No schedule is needed, and none is made.
+ *
+ *     job, job_len    the job's bytes
+ *     side            BARRIER_RIGHT or BARRIER_LEFT
+ *     station         any station, on or off the road
+ *
+ * Done: value is BARRIER_NC_1 to BARRIER_NC_6, or 0 where none is required.
+ * Refused: 1 to 8.
+ *
+ * In the schedule that barrier_plan writes for the same job and side,
+ * barrier_lookup finds a run of this level at the station, or none where the
+ * value is 0.
+ */
+barrier_reply barrier_level(const uint8_t *job, size_t job_len, uint64_t side,
+                            uint64_t station);
 
 /*
  * Quantity: how many millimetres of [p, q) have exactly that level.

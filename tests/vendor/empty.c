@@ -45,6 +45,12 @@ static void plans(void)
     reply_is("plan, neither, no such side", barrier_plan(NULL, 0, 2, NULL, 0), BARRIER_ARGUMENT, 0);
 }
 
+static void levels(void)
+{
+    reply_is("level, no job", barrier_level(NULL, 0, BARRIER_RIGHT, 5), BARRIER_JOB_ENDED, 0);
+    reply_is("level, no job, no such side", barrier_level(NULL, 0, 2, 5), BARRIER_ARGUMENT, 0);
+}
+
 static void quantities(void)
 {
     reply_is("quantity, no schedule", barrier_quantity(NULL, 0, BARRIER_NC_1, 0, 5), BARRIER_NO_SCHEDULE, 0);
@@ -105,6 +111,7 @@ static void open_jobs(void)
 int main(void)
 {
     plans();
+    levels();
     quantities();
     contracts();
     lookups();

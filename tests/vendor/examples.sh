@@ -45,6 +45,7 @@ refused() {
 }
 refused plan example '  plan: refused 1 with 34, the job ends before or inside the number at byte 34'
 refused lookup example '  lookup: refused 10 with 0, these bytes are not a schedule'
+refused level example '  level: refused 1 with 34, the job ends before or inside the number at byte 34'
 refused quantities example '  lots: refused 10 with 0, these bytes are not a schedule'
 refused quantity example '  road: refused 10 with 0, these bytes are not a schedule'
 refused nothing example '  near offset 3999: done, but it should be refused'

@@ -54,7 +54,7 @@ for job in longest many; do
     [ "$status" -eq 0 ] || cat "$tmp/depths" >&2
     case $status in
     0) ;;
-    1) fail "the $job job takes more stack than BARRIER_STACK_MAX" ;;
+    1) fail "a call takes more stack for the $job job than the header names" ;;
     *) fail "the stack of the $job job is not measured: status $status" ;;
     esac
 done

@@ -1,12 +1,13 @@
 /*
  * Not the engine: an archive of the same calls, one kind of which is always
- * refused, to see what the examples do then.  REFUSED names the call; with
- * `nothing` no call is refused, not even those that should be.
+ * refused, to see what the examples do then.  REFUSED names the call, so no
+ * parameter may have a call's name; with `nothing` no call is refused, not even
+ * those that should be.
  */
 #include <barrier.h>
 #include <string.h>
 
-enum { nothing, plan, lookup, quantity, quantities, open, add, withdraw, open_schedule };
+enum { nothing, plan, level, lookup, quantity, quantities, open, add, withdraw, open_schedule };
 
 barrier_reply barrier_plan(const uint8_t *job, size_t job_len, uint64_t side, uint8_t *out,
                            size_t out_len)
@@ -23,19 +24,29 @@ barrier_reply barrier_plan(const uint8_t *job, size_t job_len, uint64_t side, ui
     return done;
 }
 
-barrier_reply barrier_quantity(const uint8_t *schedule, size_t schedule_len, uint64_t level,
+barrier_reply barrier_level(const uint8_t *job, size_t job_len, uint64_t side, uint64_t station)
+{
+    const barrier_reply done = {BARRIER_DONE, 0};
+    const barrier_reply refused = {BARRIER_JOB_ENDED, job_len};
+    (void)job;
+    (void)side;
+    (void)station;
+    return REFUSED == level ? refused : done;
+}
+
+barrier_reply barrier_quantity(const uint8_t *schedule, size_t schedule_len, uint64_t priced,
                                uint64_t p, uint64_t q)
 {
     const barrier_reply done = {BARRIER_DONE, q - p};
     const barrier_reply refused = {BARRIER_NO_SCHEDULE, 0};
     (void)schedule;
     (void)schedule_len;
-    (void)level;
+    (void)priced;
     return REFUSED == quantity ? refused : done;
 }
 
 barrier_quantities_reply barrier_quantities(const uint8_t *schedule, size_t schedule_len,
-                                            uint64_t level, const uint64_t *ranges,
+                                            uint64_t priced, const uint64_t *ranges,
                                             size_t ranges_len)
 {
     barrier_quantities_reply done = {BARRIER_DONE, 0, 1, {0}};
@@ -43,7 +54,7 @@ barrier_quantities_reply barrier_quantities(const uint8_t *schedule, size_t sche
     size_t i;
     (void)schedule;
     (void)schedule_len;
-    (void)level;
+    (void)priced;
     for (i = 0; 2 * i + 1 < ranges_len; i++)
         done.quantities[i] = ranges[2 * i + 1] - ranges[2 * i];
     return REFUSED == quantities ? refused : done;

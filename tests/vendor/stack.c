@@ -3,9 +3,10 @@
  * was painted before, and the paint that is left shows how deep it went. A job
  * comes from standard input; BARRIER_STACK_MAX bytes have to suffice for
  * planning it, into a large output and into one of exactly its schedule's
- * length, where the bytes needed are counted first, for the queries, and for an
- * open job to which the job's hazards are added one by one. Where a reply is
- * large, its room in the caller counts too.
+ * length, where the bytes needed are counted first, for its level at a
+ * station, and for the queries; BARRIER_OPEN_STACK_MAX
+ * for an open job to which the job's hazards are added one by one. Where a
+ * reply is large, its room in the caller counts too.
  *
  * Ends with 1 where a call takes more, with 2 where one is refused.
  */
@@ -24,7 +25,7 @@ static ucontext_t here, there;
 static unsigned char job[BARRIER_JOB_MAX];
 static size_t job_length;
 static unsigned char schedule[BARRIER_SCHEDULE_MAX];
-static barrier_reply planned, exact, counted;
+static barrier_reply planned, exact, level_found, counted;
 static barrier_quantities_reply priced;
 static barrier_record found;
 static barrier_open_job open_job, whole_job;
@@ -47,6 +48,11 @@ static void plan(void)
 static void plan_exactly(void)
 {
     exact = barrier_plan(job, job_length, BARRIER_RIGHT, schedule, (size_t)planned.value);
+}
+
+static void level(void)
+{
+    level_found = barrier_level(job, job_length, BARRIER_RIGHT, BARRIER_STATION_MAX / 2);
 }
 
 static void quantity(void)
@@ -166,6 +172,7 @@ int main(void)
         return 2;
     well = suffices("plan", plan, BARRIER_STACK_MAX);
     well &= suffices("plan with an output of exactly its length", plan_exactly, BARRIER_STACK_MAX);
+    well &= suffices("level", level, BARRIER_STACK_MAX);
     well &= suffices("quantity", quantity, BARRIER_STACK_MAX);
     well &= suffices("quantities", quantities, BARRIER_STACK_MAX);
     well &= suffices("lookup", lookup, BARRIER_STACK_MAX);
@@ -175,6 +182,7 @@ int main(void)
     well &= suffices("schedule of an open job", schedule_open, BARRIER_OPEN_STACK_MAX);
     well &= suffices("open", open_empty, BARRIER_OPEN_STACK_MAX);
     all_done = done("plan with an output of exactly its length", exact.number);
+    all_done &= done("level", level_found.number);
     all_done &= done("quantity", counted.number);
     all_done &= done("quantities", priced.number);
     all_done &= done("lookup", found.number);

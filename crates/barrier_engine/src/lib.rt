@@ -6,16 +6,18 @@ use queries::reply::Quantity;
 use refusal::Outcome;
 use refusal::Refusal;
 use schedule::reply::Plan;
+use station_level::reply::Level;
 ghost use mathlib.Core.Path.{_≡_};
 ghost use lib.ListN.{length};
 ghost use Rattle.refusal.specs.Refusal.{numberOf, valueOf};
 ghost use Rattle.schedule.specs.Plan.{plan, bytesWritten, outputAfter};
+ghost use Rattle.station_level.specs.Level.{levelAt};
 ghost use Rattle.queries.specs.Quantity.{quantity};
 ghost use Rattle.queries.specs.Lookup.{lookup};
 ghost use Rattle.queries.specs.Ranges.{quantities};
 ghost use Rattle.barrier_engine.specs.Interface.{replyOf, recordOf, reply, quantitiesOf};
 
-// Number 0: done, with the bytes written or the millimetres; else document 01's refusal number and what it returns.
+// Number 0: done, with the bytes written, the level or the millimetres; else document 01's refusal number and what it returns.
 #[repr(C)]
 pub struct Reply {
     pub number: u64,
@@ -60,6 +62,20 @@ pub extern "C" fn barrier_plan(job: &[u8], side: u64, out: &mut [u8]) -> Reply
             value: bytes as u64,
         },
         Plan::Refused(refusal) => refused(refusal),
+    }
+}
+
+// The level that a job requires at a station of a side, 0 to 6, as value.
+#[no_mangle]
+pub extern "C" fn barrier_level(job: &[u8], side: u64, station: u64) -> Reply
+    ensures { λ r. ⌜ r ≡ replyOf (levelAt (now (job .entry)) side station) ⌝ }
+{
+    match station_level::level::level(job, side, station) {
+        Level::Required(level) => Reply {
+            number: 0,
+            value: level as u64,
+        },
+        Level::Refused(refusal) => refused(refusal),
     }
 }
 

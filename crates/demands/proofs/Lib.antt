@@ -7,3 +7,4 @@ pub mod LotLaws
 pub mod RefusalLaws
 pub mod CaseLaws
 pub mod BeforeLaws
+pub mod LevelLaws

@@ -109,6 +109,8 @@ pub mod c {
             out_len: usize,
         ) -> Reply;
 
+        pub fn barrier_level(job: *const u8, job_len: usize, side: u64, station: u64) -> Reply;
+
         pub fn barrier_quantity(
             schedule: *const u8,
             schedule_len: usize,
@@ -171,6 +173,12 @@ pub fn plan(job: &[u8], side: u64, out: &mut [u8]) -> Result<usize, Refusal> {
     let reply =
         unsafe { c::barrier_plan(job.as_ptr(), job.len(), side, out.as_mut_ptr(), out.len()) };
     answer(reply).map(|written| written as usize)
+}
+
+/// The level that one side of a job requires at a station; 0 where none is.
+pub fn level(job: &[u8], side: u64, station: u64) -> Result<u64, Refusal> {
+    // SAFETY: the pointer is good for as many bytes as are named with it.
+    answer(unsafe { c::barrier_level(job.as_ptr(), job.len(), side, station) })
 }
 
 /// How many millimetres of [p, q) have exactly that level.

@@ -1,7 +1,8 @@
 //! The first program: plans document 01's printed example, looks up the
-//! barrier at some stations, prices it by lots and shows two refusals. It ends
-//! with 1 where a call does not do what it should: a schedule that cannot be
-//! read must not be priced as one without barriers.
+//! barrier at some stations, asks for the level at two of them without the
+//! schedule, prices it by lots and shows two refusals. It ends with 1 where a
+//! call does not do what it should: a schedule that cannot be read must not be
+//! priced as one without barriers.
 //!
 //! It prints the same text as examples/example.c.
 
@@ -152,6 +153,23 @@ fn print_stations(out: &mut impl Write, right: &[u8]) -> Result<(), Stop> {
     Ok(())
 }
 
+/// The level at a station, of the job alone.
+fn print_level(out: &mut impl Write, job: &[u8], station: u64) -> Result<(), Stop> {
+    let answer = barrier::level(job, RIGHT, station);
+    match done(out, "level", answer)? {
+        0 => writeln!(out, "  station {station}: no barrier")?,
+        level => writeln!(out, "  station {station}: NC-{level}")?,
+    }
+    Ok(())
+}
+
+/// What an inspector asks, who has the job but no schedule.
+fn print_levels(out: &mut impl Write, job: &[u8]) -> Result<(), Stop> {
+    writeln!(out, "Levels on the right side, without its schedule")?;
+    print_level(out, job, 155_772)?;
+    print_level(out, job, 155_773)
+}
+
 fn print_price(out: &mut impl Write, what: &str, millimetres: u64) -> io::Result<()> {
     let cents = millimetres * CENTS_A_MILLIMETRE;
     let (whole, rest) = (cents / 100, cents % 100);
@@ -233,6 +251,7 @@ fn show(out: &mut impl Write) -> Result<(), Stop> {
     print_bytes(out, "right schedule", &right)?;
     print_bytes(out, "left schedule", &left)?;
     print_stations(out, &right)?;
+    print_levels(out, &job)?;
     print_prices(out, &right)?;
     print_refusals(out, &job)
 }

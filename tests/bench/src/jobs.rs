@@ -172,6 +172,12 @@ pub fn schedule(job: &[u8]) -> Vec<u8> {
     reference::planned(job, 0).expect("the job is accepted")
 }
 
+/// A station in the middle run of the right side.
+pub fn middle(job: &[u8]) -> u64 {
+    let runs = runs(&schedule(job));
+    runs[runs.len() / 2].stretch.start
+}
+
 pub fn runs(schedule: &[u8]) -> Vec<Run> {
     let records = reference::schedule::read(schedule).expect("it is a schedule");
     records.into_iter().map(|record| record.run).collect()

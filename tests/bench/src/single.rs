@@ -7,12 +7,14 @@ use cases::calls::{contract, record, reply};
 
 use crate::jobs::{self, Kind, Order, ROAD_END};
 
-pub const NAMES: [&str; 13] = [
+pub const NAMES: [&str; 15] = [
     "sparse-shuffled",
     "sparse-shuffled-panels-4000",
     "dense-shuffled",
     "runs511-shuffled",
     "runs511-ordered",
+    "level-sparse-shuffled",
+    "level-dense-shuffled",
     "quantity-511",
     "quantities-64-all",
     "quantities-64-half",
@@ -65,6 +67,8 @@ impl Single {
             "dense-shuffled" => self.plan(jobs::job(Kind::Dense, Order::Shuffled, 256)),
             "runs511-shuffled" => self.plan(jobs::job(Kind::Islands, Order::Shuffled, 256)),
             "runs511-ordered" => self.plan(jobs::job(Kind::Islands, Order::Station, 256)),
+            "level-sparse-shuffled" => self.level(Kind::Sparse),
+            "level-dense-shuffled" => self.level(Kind::Dense),
             "quantity-511" => self.quantity(),
             "quantities-64-all" => self.quantities(&jobs::schedule_of_one_level(3), 3),
             "quantities-64-half" => self.quantities(&schedule_511(), 1),
@@ -82,6 +86,19 @@ impl Single {
             black_box(match self.who {
                 Who::Engine => engine::plan(black_box(&job), 0, &mut out),
                 Who::Reference => reply(reference::plan(black_box(&job), 0, &mut out)),
+            });
+        }
+    }
+
+    /// In the middle run of 256 hazards in no order.
+    fn level(&self, kind: Kind) {
+        let job = jobs::job(kind, Order::Shuffled, 256);
+        let station = jobs::middle(&job);
+        for _ in 0..self.times {
+            let job = black_box(&job);
+            black_box(match self.who {
+                Who::Engine => engine::level(job, 0, station),
+                Who::Reference => reply(reference::level(job, 0, station)),
             });
         }
     }

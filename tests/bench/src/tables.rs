@@ -27,6 +27,7 @@ pub fn print() -> ExitCode {
     let planned: Vec<Planned> = groups().into_iter().flat_map(measure_plan).collect();
     print_plan(&planned);
     print_growth(&planned);
+    print_level();
     print_quantity();
     print_contract();
     print_lookup();
@@ -142,6 +143,26 @@ fn print_growth(planned: &[Planned]) {
             let (kind, order) = (few.kind.name(), few.order.name());
             println!("| {kind} | {order} | {engine:.2} | {reference:.2} |");
         }
+    }
+}
+
+fn print_level() {
+    println!("\nLevel at a station in the middle run, ns per call:\n");
+    println!("| job | order | hazards | engine | reference | engine/reference |");
+    println!("|---|---|---:|---:|---:|---:|");
+    for kind in [Kind::Sparse, Kind::Dense, Kind::Islands] {
+        let job = jobs::job(kind, Order::Shuffled, 256);
+        let station = jobs::middle(&job);
+        let pair = Pair {
+            engine: Box::new(|| {
+                black_box(engine::level(black_box(&job), 0, station));
+            }),
+            reference: Box::new(|| {
+                let _ = black_box(reference::level(black_box(&job), 0, station));
+            }),
+        };
+        let (name, order) = (kind.name(), Order::Shuffled.name());
+        println!("| {name} | {order} | 256 | {} |", columns(&pair.times()));
     }
 }
 

@@ -7,8 +7,9 @@ use reference::job::Hazard;
 use reference::memory;
 use reference::{Lookup, Outcome, Quantities, Refusal};
 
-/// The reply of plan, quantity and the calls on an open job: number 0 with the
-/// bytes written, the millimetres or 0, else the paper's refusal number with its value.
+/// The reply of plan, level, quantity and the calls on an open job: number 0 with
+/// the bytes written, the level, the millimetres or 0, else the paper's refusal
+/// number with its value.
 #[derive(Clone, Copy, Debug, PartialEq, Eq)]
 pub struct Reply {
     pub number: u64,
@@ -62,6 +63,9 @@ impl Memory {
 /// output; the rest of the room are guard bytes.
 pub type PlanCall = dyn Fn(&mut [u8], u64, &mut [u8], Range<usize>) -> Reply;
 
+/// Job, side, station.
+pub type LevelCall = dyn Fn(&mut [u8], u64, u64) -> Reply;
+
 /// Schedule, level, p, q.
 pub type QuantityCall = dyn Fn(&mut [u8], u64, u64, u64) -> Reply;
 
@@ -87,6 +91,7 @@ pub type OpenScheduleCall = dyn Fn(&mut Memory, u64, &mut [u8], Range<usize>) ->
 /// so that they can be changed, for a call that changes them must be found.
 pub struct Calls {
     pub plan: Box<PlanCall>,
+    pub level: Box<LevelCall>,
     pub quantity: Box<QuantityCall>,
     pub quantities: Box<QuantitiesCall>,
     pub lookup: Box<LookupCall>,
@@ -100,6 +105,7 @@ pub struct Calls {
 pub fn right() -> Calls {
     Calls {
         plan: Box::new(|job, side, room, lent| reply(reference::plan(job, side, &mut room[lent]))),
+        level: Box::new(|job, side, station| reply(reference::level(job, side, station))),
         quantity: Box::new(|schedule, level, p, q| {
             reply(reference::quantity(schedule, level, p, q))
         }),

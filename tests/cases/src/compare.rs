@@ -4,6 +4,7 @@
 use std::fmt;
 use std::ops::Range;
 
+use reference::calls::LONG_ENOUGH;
 use reference::job::{self, Hazard};
 use reference::memory::BYTES;
 
@@ -20,6 +21,11 @@ pub enum Case {
         side: u64,
         out_length: usize,
         fill: u64,
+    },
+    Level {
+        job: Vec<u8>,
+        side: u64,
+        station: u64,
     },
     Quantity {
         schedule: Vec<u8>,
@@ -75,6 +81,9 @@ impl fmt::Display for Case {
                 out_length,
                 fill,
             } => write!(f, "--plan {} {side} {out_length} {fill}", hex::write(job)),
+            Case::Level { job, side, station } => {
+                write!(f, "--level {} {side} {station}", hex::write(job))
+            }
             Case::Quantity {
                 schedule,
                 level,
@@ -227,6 +236,84 @@ impl Checker {
         let reference = reply_and_output(expected, &expected_room[lent.clone()]);
         let engine = reply_and_output(got, &room[lent]);
         Err(self.difference(case(), what, reference, engine))
+    }
+
+    /// Tries the level at stations of one side. It is held against the engine's
+    /// own plan and lookup, too.
+    pub fn levels(
+        &mut self,
+        job: &[u8],
+        side: u64,
+        stations: &[u64],
+    ) -> Result<(), Box<Difference>> {
+        let own = self.own_plan(job, side);
+        for station in stations {
+            self.level(job, side, *station, &own)?;
+        }
+        Ok(())
+    }
+
+    /// The schedule that the engine itself plans, or its refusal.
+    fn own_plan(&self, job: &[u8], side: u64) -> Result<Vec<u8>, Reply> {
+        let lent = GUARD..GUARD + LONG_ENOUGH;
+        let mut room = filled_room(LONG_ENOUGH, self.fill);
+        let reply = (self.calls.plan)(&mut job.to_vec(), side, &mut room, lent);
+        match reply.number {
+            0 => Ok(room
+                .into_iter()
+                .skip(GUARD)
+                .take(reply.value as usize)
+                .collect()),
+            _ => Err(reply),
+        }
+    }
+
+    /// The level that the engine's lookup shows in a schedule of its own.
+    fn own_level(&self, schedule: &[u8], side: u64, station: u64) -> Reply {
+        let (mut right, mut left) = (schedule.to_vec(), schedule.to_vec());
+        let record = (self.calls.lookup)(&mut right, &mut left, side, station);
+        let last = match record.found {
+            1 => schedule.get(record.end.wrapping_sub(1) as usize),
+            _ => None,
+        };
+        Reply {
+            number: record.number,
+            value: last.copied().unwrap_or(0).into(),
+        }
+    }
+
+    fn level(
+        &mut self,
+        job: &[u8],
+        side: u64,
+        station: u64,
+        own: &Result<Vec<u8>, Reply>,
+    ) -> Result<(), Box<Difference>> {
+        let case = || Case::Level {
+            job: job.to_vec(),
+            side,
+            station,
+        };
+        self.trace(case);
+        let mut lent = job.to_vec();
+        let expected = calls::reply(reference::level(job, side, station));
+        let got = (self.calls.level)(&mut lent, side, station);
+        let shown = match own {
+            Ok(schedule) => self.own_level(schedule, side, station),
+            Err(refusal) => *refusal,
+        };
+        self.tally.count(expected.number);
+
+        let mut what = Vec::new();
+        note_reply(&mut what, expected != got);
+        note_input(&mut what, "job", job, &lent);
+        if shown != got {
+            what.push(format!("from its own plan's {}", reply_text(shown)));
+        }
+        if what.is_empty() {
+            return Ok(());
+        }
+        Err(self.difference(case(), what, reply_text(expected), reply_text(got)))
     }
 
     pub fn quantity(
@@ -402,6 +489,7 @@ impl Checker {
                 out_length,
                 fill,
             } => self.plan_filled(job, *side, *out_length, *fill).map(|_| ()),
+            Case::Level { job, side, station } => self.levels(job, *side, &[*station]),
             Case::Quantity {
                 schedule,
                 level,

@@ -7,10 +7,10 @@ use reference::{Stretch, planned, schedule};
 use crate::Random;
 use crate::compare::{Checker, Difference};
 use crate::draft::{
-    B, C, Draft, FIELDS, FLARE_B, G, KIND, LF, LO, M, N, PRINTED, S, SIDE, T, W, number_bytes,
-    printed, range,
+    A, B, C, Draft, E, FIELDS, FLARE_B, G, KIND, LF, LO, M, N, PRINTED, S, SIDE, T, W,
+    number_bytes, printed, range,
 };
-use crate::faults::{Broken, FAULTS, wrong_forms};
+use crate::faults::{BAD_SIDES, Broken, FAULTS, wrong_forms};
 use crate::{jobs, open};
 
 pub type Outcome = Result<(), Box<Difference>>;
@@ -32,6 +32,8 @@ pub const ALL: &[Family] = &[
     family("quantities over rising lists", rising_lists),
     family("quantities for whole contracts", contracts),
     family("lookups at every run's ends", run_ends),
+    family("levels at every envelope's ends", levels),
+    family("levels of refused jobs", refused_levels),
     family("run lists and nearly run lists", run_lists),
     family("open jobs, lists of calls", open::lists),
     family("open jobs, all names", open::all_names),
@@ -215,7 +217,12 @@ fn paper(checker: &mut Checker, random: &mut Random) -> Outcome {
         for side in 0..2 {
             plan_all_lengths(checker, &job, side)?;
         }
-        checker.plan(&job, random.pick(&[2, 3, u64::MAX]), 20)?;
+        checker.plan(&job, random.pick(&BAD_SIDES), 20)?;
+        let stations = level_stations(&draft);
+        for side in 0..2 {
+            let some = [(); 4].map(|()| random.pick(&stations));
+            checker.levels(&job, side, &some)?;
+        }
     }
     Ok(())
 }
@@ -912,7 +919,7 @@ fn lookup_both(checker: &mut Checker, random: &mut Random, right: &[u8], left: &
         }
     }
     let station = random.edgy(0, 1_000);
-    for side in [2, 3, 1 << 32, (1 << 32) + 1, u64::MAX] {
+    for side in BAD_SIDES {
         checker.lookup(right, left, side, station)?;
     }
     with_a_bad_schedule(checker, right, left, station)
@@ -956,6 +963,107 @@ fn lookup_run_ends(
     };
     for station in end_stations(schedule) {
         checker.lookup(right, left, side, station)?;
+    }
+    Ok(())
+}
+
+// Levels.
+
+/// Each end of a hazard, of an envelope (so of a gap, too) and of the road, and
+/// a millimetre to either side; each end in 32 bits; the greatest stations.
+fn level_stations(draft: &Draft) -> Vec<u64> {
+    let mut ends = vec![draft.header[A], draft.header[B]];
+    for hazard in &draft.hazards {
+        ends.extend([hazard[S], hazard[E]]);
+    }
+    for envelope in jobs::envelopes(draft).unwrap_or_default() {
+        let Stretch { start, end } = envelope.stretch;
+        ends.extend([start, end]);
+    }
+    ends.sort();
+    ends.dedup();
+    let mut list = vec![0, 1 << 32, u64::MAX - 1, u64::MAX];
+    for end in ends {
+        list.extend(end.checked_sub(1));
+        list.extend([end, end + 1, end + (1 << 32)]);
+    }
+    list
+}
+
+fn levels(checker: &mut Checker, random: &mut Random) -> Outcome {
+    for _ in 0..30 {
+        let draft = accepted(random, 1, 12);
+        let stations = level_stations(&draft);
+        levels_of(checker, random, &draft, &stations)?;
+    }
+    for _ in 0..200 {
+        let draft = accepted(random, 1, 40);
+        some_levels(checker, random, &draft)?;
+    }
+    let side = random.below(2);
+    let mut islands = jobs::islands(random, side, 255);
+    random.shuffle(&mut islands.hazards);
+    for draft in [islands, jobs::dense(random, 256), jobs::sparse(random, 256)] {
+        for _ in 0..6 {
+            some_levels(checker, random, &draft)?;
+        }
+    }
+    Ok(())
+}
+
+/// At twenty of the stations.
+fn some_levels(checker: &mut Checker, random: &mut Random, draft: &Draft) -> Outcome {
+    let mut stations = level_stations(draft);
+    random.shuffle(&mut stations);
+    stations.truncate(20);
+    levels_of(checker, random, draft, &stations)
+}
+
+fn levels_of(
+    checker: &mut Checker,
+    random: &mut Random,
+    draft: &Draft,
+    stations: &[u64],
+) -> Outcome {
+    let job = draft.bytes();
+    for side in 0..2 {
+        checker.levels(&job, side, stations)?;
+    }
+    checker.levels(&job, random.pick(&BAD_SIDES), &stations[..1])
+}
+
+/// Faults in their order, 8 first; jobs cut at every byte; every number of a
+/// job out of its form and out of its range.
+fn refused_levels(checker: &mut Checker, random: &mut Random) -> Outcome {
+    for _ in 0..40 {
+        let draft = accepted(random, 2, 6);
+        let stations = level_stations(&draft);
+        for _ in 0..10 {
+            let mut broken = Broken::new(&draft, random.below(2));
+            broken.add(random.pick(&FAULTS), random);
+            broken.add(random.pick(&FAULTS), random);
+            checker.levels(&broken.bytes(), broken.side, &[random.pick(&stations)])?;
+        }
+    }
+    for kind in KINDS {
+        let draft = accepted_of_kind(random, kind, 1, 3);
+        let (job, numbers) = (draft.bytes(), draft.numbers());
+        let stations = level_stations(&draft);
+        for length in 0..=job.len() {
+            let side = random.below(2);
+            checker.levels(&job[..length], side, &[random.pick(&stations)])?;
+        }
+        for (place, value) in numbers.iter().enumerate() {
+            let before = number_bytes(&numbers[..place]);
+            let behind = number_bytes(&numbers[place + 1..]);
+            let mut others: Vec<Vec<u8>> = wrong_forms(*value);
+            let values = around(range(&numbers, place));
+            others.extend(values.iter().map(|value| number_bytes(&[*value])));
+            for other in others {
+                let job = [&before[..], &other, &behind].concat();
+                checker.levels(&job, random.below(2), &[random.pick(&stations)])?;
+            }
+        }
     }
     Ok(())
 }

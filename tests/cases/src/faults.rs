@@ -38,6 +38,9 @@ pub const FAULTS: [Fault; 9] = [
     Fault::Output,
 ];
 
+/// Sides above 1, some of them 0 or 1 in 32 bits.
+pub const BAD_SIDES: [u64; 5] = [2, 3, 1 << 32, (1 << 32) + 1, u64::MAX];
+
 /// A job in the making: its numbers, some of them with other bytes than their
 /// own, and what comes before and behind.
 pub struct Broken {
@@ -96,7 +99,7 @@ impl Broken {
                 self.come_near(hazard);
                 self.leave_road(hazard);
             }
-            Fault::Side => self.side = random.pick(&[2, 3, 1 << 32, (1 << 32) + 1, u64::MAX]),
+            Fault::Side => self.side = random.pick(&BAD_SIDES),
             Fault::Output => self.short_output = true,
         }
     }

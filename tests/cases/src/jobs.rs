@@ -333,7 +333,7 @@ fn tighten(draft: &mut Draft, random: &mut Random) {
 }
 
 /// The envelopes of an accepted job.
-fn envelopes(draft: &Draft) -> Option<Vec<Envelope>> {
+pub fn envelopes(draft: &Draft) -> Option<Vec<Envelope>> {
     let job = job::read(&draft.bytes()).ok()?;
     envelope::envelopes(&job).ok()
 }

@@ -11,6 +11,7 @@ pub mod jobs;
 pub mod open;
 pub mod tally;
 pub mod wrong;
+pub mod wrong_level;
 pub mod wrong_open;
 
 pub use calls::{Calls, Contract, Memory, Record, Reply};

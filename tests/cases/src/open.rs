@@ -13,7 +13,7 @@ use crate::draft::{
     A, B, D, Draft, FIELDS, LEVEL, M, N, PANEL, SIDE, header_range, number_bytes, range,
 };
 use crate::families::{KINDS, Outcome, accepted, accepted_of_kind, around};
-use crate::faults::{Broken, FAULTS, wrong_forms};
+use crate::faults::{BAD_SIDES, Broken, FAULTS, wrong_forms};
 use crate::jobs;
 
 /// The memory of an open job, and the hazards that were added and not withdrawn
@@ -85,7 +85,7 @@ impl Open {
     /// One schedule with an output that is long enough or not.
     fn schedule(&self, checker: &mut Checker, random: &mut Random) -> Outcome {
         let side = match random.below(8) {
-            0 => random.pick(&[2, 3, 1 << 32, (1 << 32) + 1, u64::MAX]),
+            0 => random.pick(&BAD_SIDES),
             _ => random.below(2),
         };
         let needed = planned(&self.job(random), side).map_or(0, |bytes| bytes.len());

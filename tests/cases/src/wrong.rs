@@ -17,7 +17,7 @@ use crate::calls::{
     reply, right,
 };
 use crate::draft::{G, KIND, PANEL, number_bytes};
-use crate::wrong_open;
+use crate::{wrong_level, wrong_open};
 
 /// Every wrong engine with the name of its slip.
 pub fn all() -> Vec<(&'static str, Calls)> {
@@ -33,6 +33,7 @@ pub fn all() -> Vec<(&'static str, Calls)> {
     list.extend(wrong_contracts());
     list.extend(wrong_lookups());
     list.extend(wrong_readings());
+    list.extend(wrong_level::all());
     list.extend(wrong_open::all());
     list
 }
@@ -64,27 +65,27 @@ fn with_lookup(call: fn(&[u8], &[u8], u64, u64) -> Record) -> Calls {
 
 /// The parts of planning that a slip exchanges.
 #[derive(Clone, Copy)]
-struct Rules {
-    approaches: fn(&Job, &Hazard) -> Vec<Approach>,
+pub struct Rules {
+    pub approaches: fn(&Job, &Hazard) -> Vec<Approach>,
     /// The length before it is raised to whole panels.
-    length: fn(&Job, &Approach) -> u64,
+    pub length: fn(&Job, &Approach) -> u64,
     /// The raising of one traffic's length.
-    raise: fn(&Job, &Approach, u64) -> u64,
+    pub raise: fn(&Job, &Approach, u64) -> u64,
     /// A raising of what both traffics' lengths make together.
-    raise_both: fn(&Job, &Hazard, Lengthening) -> Lengthening,
+    pub raise_both: fn(&Job, &Hazard, Lengthening) -> Lengthening,
     /// Whether the envelope is looked at for refusal 6 before it is raised.
-    refused_before_raising: bool,
-    refuse: fn(&Job, usize, &Hazard, &Lengthening) -> Result<(), Refusal>,
-    runs: fn(&[Envelope], &Job) -> Vec<Run>,
+    pub refused_before_raising: bool,
+    pub refuse: fn(&Job, usize, &Hazard, &Lengthening) -> Result<(), Refusal>,
+    pub runs: fn(&[Envelope], &Job) -> Vec<Run>,
     /// Whether the hazards are looked at before the bytes left over.
-    hazards_before_left_over: bool,
+    pub hazards_before_left_over: bool,
     /// Whether hazards of the other side are looked at.
-    both_sides: bool,
+    pub both_sides: bool,
     /// Whether a hazard that nobody reaches is looked at.
-    unreached: bool,
+    pub unreached: bool,
 }
 
-const RIGHT: Rules = Rules {
+pub const RIGHT: Rules = Rules {
     approaches: envelope::approaches,
     length: envelope::before_raising,
     raise: |job, _, length| raised(length, job.panel),
@@ -100,12 +101,12 @@ const RIGHT: Rules = Rules {
 /// Planning by these rules.
 fn by(rules: Rules) -> Calls {
     with_plan(Box::new(move |job, side, room, lent| {
-        let written = plan_by(&rules, job, side);
-        reply(written.and_then(|bytes| put(&bytes, &mut room[lent])))
+        let runs = runs_by(&rules, job, side);
+        reply(runs.and_then(|runs| put(&schedule::writing(&runs), &mut room[lent])))
     }))
 }
 
-fn plan_by(rules: &Rules, bytes: &[u8], side: u64) -> Result<Vec<u8>, Refusal> {
+pub fn runs_by(rules: &Rules, bytes: &[u8], side: u64) -> Result<Vec<Run>, Refusal> {
     if side > 1 {
         return Err(Refusal::argument());
     }
@@ -124,7 +125,7 @@ fn plan_by(rules: &Rules, bytes: &[u8], side: u64) -> Result<Vec<u8>, Refusal> {
         rest?;
         envelopes?
     };
-    Ok(schedule::writing(&(rules.runs)(&envelopes, &job)))
+    Ok((rules.runs)(&envelopes, &job))
 }
 
 fn put(bytes: &[u8], out: &mut [u8]) -> Result<u64, Refusal> {
@@ -293,7 +294,7 @@ fn without_flare(job: &Job, approach: &Approach) -> u64 {
     by_formula(job, approach, envelope::flare(job).without())
 }
 
-fn with_flare(job: &Job, approach: &Approach) -> u64 {
+pub fn with_flare(job: &Job, approach: &Approach) -> u64 {
     by_formula(job, approach, envelope::flare(job))
 }
 
@@ -323,7 +324,7 @@ fn far_without(job: &Job, hazard: &Hazard, reaches: bool, r: bool, m: bool) -> V
 
 /// Fills every short gap of the runs with one level made of its two
 /// neighbours' levels.
-fn filled_between(envelopes: &[Envelope], limit: u64, choose: fn(u64, u64) -> u64) -> Vec<Run> {
+pub fn filled_between(envelopes: &[Envelope], limit: u64, choose: fn(u64, u64) -> u64) -> Vec<Run> {
     let mut filled: Vec<Run> = Vec::new();
     for run in Required::new(envelopes, 0).runs() {
         if let Some(last) = filled.last().copied()
@@ -796,7 +797,7 @@ fn wrong_levels() -> Vec<(&'static str, Calls)> {
 }
 
 /// Takes only the envelopes of level v itself into the set of v.
-fn each_level_alone(envelopes: &[Envelope], job: &Job) -> Vec<Run> {
+pub fn each_level_alone(envelopes: &[Envelope], job: &Job) -> Vec<Run> {
     let mut filled = Vec::new();
     for v in 1..=level::HIGHEST {
         let alone: Vec<Stretch> = envelopes
@@ -831,7 +832,7 @@ fn filled_to_the_road_ends(envelopes: &[Envelope], job: &Job) -> Vec<Run> {
 }
 
 /// Where envelopes overlap, the hazard that stands last in the job decides.
-fn last_on_top(envelopes: &[Envelope], job: &Job) -> Vec<Run> {
+pub fn last_on_top(envelopes: &[Envelope], job: &Job) -> Vec<Run> {
     let mut changed = envelopes.to_vec();
     if let [.., before, last] = &mut changed[..]
         && before.stretch.shared(&last.stretch) > 0
@@ -1925,6 +1926,7 @@ mod tests {
     #[test]
     fn no_difference_without_a_slip() {
         let calls = Calls {
+            level: wrong_level::by(RIGHT).level,
             quantity: Box::new(|schedule, level, p, q| {
                 reply(quantity_by(&STRICT, schedule, level, p, q))
             }),

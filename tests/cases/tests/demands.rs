@@ -55,6 +55,15 @@ fn covers(set: &[Stretch], stretch: &Stretch) -> bool {
         .any(|s| s.start <= stretch.start && stretch.end <= s.end)
 }
 
+/// The level that the right schedule shows at a station.
+fn shows(schedule: &[u8], station: u64) -> u64 {
+    let found = lookup(schedule, &[], 0, station);
+    match found.outcome {
+        Outcome::Found => u64::from(schedule[found.start + found.length - 1]),
+        _ => 0,
+    }
+}
+
 #[test]
 fn each_envelope_is_covered_and_no_short_gap_is_left() {
     for draft in accepted("covered") {
@@ -79,12 +88,9 @@ fn reading_gives_back_the_levels() {
         for run in runs(&schedule) {
             let Stretch { start, end } = run.stretch;
             for station in [start.saturating_sub(1), start, end - 1, end] {
-                let found = lookup(&schedule, &[], 0, station);
-                let level = match found.outcome {
-                    Outcome::Found => u64::from(schedule[found.start + found.length - 1]),
-                    _ => 0,
-                };
+                let level = shows(&schedule, station);
                 assert_eq!(level, required.level(station));
+                assert_eq!(reference::level(&draft.bytes(), 0, station), Ok(level));
             }
         }
     }

@@ -24,7 +24,7 @@ fn the_reference_passes_and_every_row_is_seen() {
 #[test]
 fn every_wrong_engine_is_found() {
     // As many as README.md says.
-    assert_eq!(wrong::all().len(), 221);
+    assert_eq!(wrong::all().len(), 247);
     for (name, calls) in wrong::all() {
         let mut checker = Checker::new(calls);
         let Err(found) = round(&mut checker, SEED) else {

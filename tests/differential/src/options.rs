@@ -13,6 +13,7 @@ options:
   --trace        prints each case before it is made
 one case alone, bytes in hex, no bytes as -:
   --plan JOB SIDE OUTPUT_LENGTH FILL
+  --level JOB SIDE STATION
   --quantity SCHEDULE LEVEL P Q
   --quantities SCHEDULE LEVEL P,Q,P,Q (no ranges as -)
   --lookup RIGHT LEFT SIDE STATION
@@ -83,7 +84,7 @@ fn number(text: Option<&str>) -> Option<u64> {
 fn values(option: &str) -> Option<usize> {
     match option {
         "--plan" | "--quantity" | "--lookup" | "--schedule" => Some(4),
-        "--quantities" | "--add" => Some(3),
+        "--level" | "--quantities" | "--add" => Some(3),
         "--open" | "--withdraw" => Some(2),
         _ => None,
     }
@@ -103,6 +104,11 @@ fn read_case(option: &str, values: &[&str]) -> Option<Case> {
             side: value(1)?,
             out_length: value(2)? as usize,
             fill: value(3)?,
+        },
+        "--level" => Case::Level {
+            job: bytes(0)?,
+            side: value(1)?,
+            station: value(2)?,
         },
         "--quantity" => Case::Quantity {
             schedule: bytes(0)?,

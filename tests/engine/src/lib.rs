@@ -14,6 +14,11 @@ pub mod barrier;
 
 use barrier::{Refusal, c};
 
+// Declared as the header has it, beside the shipped file.
+unsafe extern "C" {
+    fn barrier_level(job: *const u8, job_len: usize, side: u64, station: u64) -> c::Reply;
+}
+
 impl From<c::Reply> for Reply {
     fn from(reply: c::Reply) -> Reply {
         let c::Reply { number, value } = reply;
@@ -96,6 +101,11 @@ pub fn plan(job: &[u8], side: u64, out: &mut [u8]) -> Reply {
     unsafe { c::barrier_plan(job.as_ptr(), job.len(), side, out.as_mut_ptr(), out.len()).into() }
 }
 
+pub fn level(job: &[u8], side: u64, station: u64) -> Reply {
+    // SAFETY: the pointer is good for as many bytes as are named with it.
+    unsafe { barrier_level(job.as_ptr(), job.len(), side, station).into() }
+}
+
 pub fn quantity(schedule: &[u8], level: u64, p: u64, q: u64) -> Reply {
     // SAFETY: the pointer is good for as many bytes as are named with it.
     unsafe { c::barrier_quantity(schedule.as_ptr(), schedule.len(), level, p, q).into() }
@@ -131,6 +141,11 @@ pub fn lookup(right: &[u8], left: &[u8], side: u64, station: u64) -> Record {
 pub fn calls() -> Calls {
     Calls {
         plan: Box::new(plan_in_room),
+        level: Box::new(|job, side, station| {
+            let job_len = job.len();
+            // SAFETY: as in `level`.
+            unsafe { barrier_level(job.as_mut_ptr(), job_len, side, station).into() }
+        }),
         quantity: Box::new(|schedule, level, p, q| {
             let schedule_len = schedule.len();
             // SAFETY: as in `quantity`.
@@ -192,7 +207,7 @@ pub fn shipped_calls() -> Calls {
         lookup: Box::new(|right, left, side, station| {
             record(barrier::lookup(right, left, side, station))
         }),
-        // Open jobs go through the pointers here too.
+        // Levels and open jobs go through the pointers here too.
         ..calls()
     }
 }

@@ -1,8 +1,8 @@
-//! The calls: plan, quantity, quantities and lookup.
+//! The calls: plan, level, quantity, quantities and lookup.
 
 use crate::envelope::{self, Envelope};
 use crate::job::{self, Job};
-use crate::level::{HIGHEST, Required, Run};
+use crate::level::{self, HIGHEST, Required, Run};
 use crate::refusal::Refusal;
 use crate::schedule;
 use crate::stretch::Stretch;
@@ -29,7 +29,7 @@ fn put(runs: &[Run], out: &mut [u8]) -> Result<u64, Refusal> {
 }
 
 /// An output long enough for every schedule.
-const LONG_ENOUGH: usize = 8_192;
+pub const LONG_ENOUGH: usize = 8_192;
 
 /// The planned schedule: the bytes that plan writes into an output long enough.
 pub fn planned(job: &[u8], side: u64) -> Result<Vec<u8>, Refusal> {
@@ -54,12 +54,27 @@ pub fn required(job: &[u8], side: u64) -> Result<Required, Refusal> {
 
 /// The same of a job that is read.
 fn required_of(job: &Job, side: u64) -> Result<Required, Refusal> {
+    Ok(Required::new(&envelopes_of(job, side)?, job.continuity))
+}
+
+/// The envelopes of one side.
+fn envelopes_of(job: &Job, side: u64) -> Result<Vec<Envelope>, Refusal> {
     if side > 1 {
         return Err(Refusal::argument());
     }
     let envelopes = envelope::envelopes(job)?;
-    let of_side: Vec<Envelope> = envelopes.into_iter().filter(|e| e.side == side).collect();
-    Ok(Required::new(&of_side, job.continuity))
+    Ok(envelopes.into_iter().filter(|e| e.side == side).collect())
+}
+
+/// The required level at a station of one side, without making runs: refusal 8,
+/// then those of the job.
+pub fn level(job: &[u8], side: u64, station: u64) -> Result<u64, Refusal> {
+    if side > 1 {
+        return Err(Refusal::argument());
+    }
+    let job = job::read(job)?;
+    let envelopes = envelopes_of(&job, side)?;
+    Ok(level::level_at(&envelopes, job.continuity, station))
 }
 
 /// How many millimetres of [p, q) have exactly that level.

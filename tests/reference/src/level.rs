@@ -71,6 +71,36 @@ impl Required {
     }
 }
 
+/// The required level at a station, from the envelopes of one side directly: the
+/// highest v whose set, gaps added, has it; else 0.
+pub fn level_at(envelopes: &[Envelope], continuity: u64, station: u64) -> u64 {
+    let has_station = |v: &u64| {
+        let high_enough = envelopes.iter().filter(|e| e.level >= *v);
+        let stretches: Vec<Stretch> = high_enough.map(|e| e.stretch).collect();
+        let covered = stretches.iter().any(|stretch| stretch.has(station));
+        covered || in_short_gap(&stretches, continuity, station)
+    };
+    (1..=HIGHEST).rev().find(has_station).unwrap_or(0)
+}
+
+/// Whether a station that none of the stretches has is in a gap that is shorter
+/// than the continuity limit. The gap goes from the last end before the station
+/// to the next start behind it, if there are both.
+fn in_short_gap(stretches: &[Stretch], continuity: u64, station: u64) -> bool {
+    let ended = stretches
+        .iter()
+        .map(|s| s.end)
+        .filter(|end| *end <= station);
+    let coming = stretches
+        .iter()
+        .map(|s| s.start)
+        .filter(|start| *start > station);
+    match (ended.max(), coming.min()) {
+        (Some(end), Some(start)) => start - end < continuity,
+        _ => false,
+    }
+}
+
 /// Adds a run behind the others; one that goes on at the last one's level
 /// makes that one longer.
 pub fn lengthen_or_push(runs: &mut Vec<Run>, next: Run) {
@@ -212,8 +242,12 @@ mod tests {
             let required = Required::new(&envelopes, continuity);
             for (t, level) in levels.iter().enumerate() {
                 assert_eq!(required.level(t as u64), *level);
+                assert_eq!(level_at(&envelopes, continuity, t as u64), *level);
             }
-            assert_eq!(required.level(u64::MAX), 0);
+            for t in [ROAD as u64, u64::MAX] {
+                assert_eq!(required.level(t), 0);
+                assert_eq!(level_at(&envelopes, continuity, t), 0);
+            }
             assert_eq!(required.runs(), runs_of(&levels), "{envelopes:?}");
         }
     }

@@ -22,7 +22,7 @@ pub mod schedule;
 pub mod stretch;
 
 pub use calls::{
-    Lookup, Outcome, Quantities, lookup, plan, plan_job, planned, quantities, quantity,
+    Lookup, Outcome, Quantities, level, lookup, plan, plan_job, planned, quantities, quantity,
 };
 pub use open::{OpenJob, add, open, open_schedule, withdraw};
 pub use refusal::Refusal;

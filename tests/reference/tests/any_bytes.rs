@@ -2,7 +2,7 @@
 
 use reference::draft::printed;
 use reference::random::Random;
-use reference::{lookup, plan, program, quantities, quantity};
+use reference::{level, lookup, plan, program, quantities, quantity};
 
 /// Bytes among which short numbers are frequent.
 fn bytes(random: &mut Random) -> Vec<u8> {
@@ -24,6 +24,7 @@ fn any_bytes_return() {
         let other = bytes(&mut random);
         let side = random.below(3);
         let _ = plan(&any, side, &mut [0; 9]);
+        let _ = level(&any, side, random.draw());
         let _ = quantity(&any, random.between(1, 6), 0, u64::MAX);
         let ranges = [random.draw(), random.draw(), 0, u64::MAX];
         let _ = quantities(&any, random.between(1, 6), &ranges[random.index(5)..]);
@@ -40,6 +41,8 @@ fn a_changed_job_returns() {
         let mut changed = job.clone();
         let at = random.index(changed.len());
         changed[at] = random.draw() as u8;
-        let _ = plan(&changed, random.below(2), &mut [0; 20]);
+        let side = random.below(2);
+        let _ = plan(&changed, side, &mut [0; 20]);
+        let _ = level(&changed, side, random.below(300_000));
     }
 }

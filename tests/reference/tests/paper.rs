@@ -118,16 +118,6 @@ fn k9_the_continuity_limit() {
     assert_eq!(k9(50_000).right(), [(155_773, 210_000, 2), second]);
 }
 
-/// A runout length of 1 without a flare makes every approach length 1, so the
-/// envelopes can be given as they are.
-fn with_envelopes(continuity: u64, envelopes: &[(u64, u64, u64)]) -> Draft {
-    let hazards: Vec<[u64; 6]> = envelopes
-        .iter()
-        .map(|&(start, end, level)| [0, start + 1, end, 5_000, 9_000, level])
-        .collect();
-    k2().with(LF, 1).with(G, continuity).with_hazards(&hazards)
-}
-
 #[test]
 fn k10_each_level_separately() {
     let job = with_envelopes(50, &[(0, 100, 3), (140, 200, 1)]);

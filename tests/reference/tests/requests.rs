@@ -6,8 +6,8 @@ use common::*;
 use reference::job::Hazard;
 use reference::random::Random;
 use reference::{
-    OpenJob, Quantities, Refusal, add, memory, open, open_schedule, planned, quantities, quantity,
-    withdraw,
+    OpenJob, Quantities, Refusal, add, level, memory, open, open_schedule, planned, quantities,
+    quantity, withdraw,
 };
 
 // 1: quantities for a whole contract.
@@ -15,10 +15,8 @@ use reference::{
 /// Runs [0, 100) at 3, [100, 200) at 1 and [300, 400) at 3: K10's two, and a
 /// third.
 fn contract_schedule() -> Vec<u8> {
-    let hazards = [(0, 100, 3), (140, 200, 1), (300, 400, 3)];
-    let hazards = hazards.map(|(start, end, level)| [0, start + 1, end, 5_000, 9_000, level]);
-    let job = PRINTED.with(FLARE_B, 0).with(LF, 1).with(G, 50);
-    planned(&job.with_hazards(&hazards).bytes(), 0).unwrap()
+    let job = with_envelopes(50, &[(0, 100, 3), (140, 200, 1), (300, 400, 3)]);
+    planned(&job.bytes(), 0).unwrap()
 }
 
 fn given(records: u64, list: &[u64]) -> Result<Quantities, Refusal> {
@@ -669,4 +667,64 @@ fn memory_in_whole_panels() {
     assert!(number(1, 0) && number(1, 1) && number(1, 3), "kind");
     // The hazard at 200,000 has a raised approach of 48,000.
     assert!(number(2, 152_001) && !number(2, 152_000));
+}
+
+// 5: the level under the inspector's feet.
+
+/// The levels of the right side at these stations.
+fn levels(job: &Draft, stations: &[u64]) -> Vec<u64> {
+    let at = |station: &u64| level(&job.bytes(), 0, *station).unwrap();
+    stations.iter().map(at).collect()
+}
+
+#[test]
+fn the_level_at_an_envelope_s_ends() {
+    let stations = [0, 155_772, 155_773, 209_999, 210_000, 1 << 32, u64::MAX];
+    assert_eq!(levels(&printed(), &stations), [0, 0, 3, 3, 0, 0, 0]);
+    // The same station in 32 bits.
+    assert_eq!(levels(&printed(), &[(1 << 32) + 200_000]), [0]);
+    let in_panels = printed().in_panels(4_000);
+    assert_eq!(levels(&in_panels, &[151_999, 152_000]), [0, 3]);
+    let left = level(&printed().bytes(), 1, 200_000);
+    assert_eq!(left, Ok(0), "the other side");
+}
+
+#[test]
+fn the_level_in_a_gap() {
+    let stations = [99, 100, 120, 139, 140, 199, 200, 239, 240, 299, 300];
+    let envelopes = [(0, 100, 3), (140, 200, 1), (240, 300, 2)];
+    let at = |continuity| levels(&with_envelopes(continuity, &envelopes), &stations);
+    assert_eq!(at(40), [3, 0, 0, 0, 1, 1, 0, 0, 2, 2, 0], "gaps of G stay");
+    assert_eq!(at(41), [3, 1, 1, 1, 1, 1, 1, 1, 2, 2, 0]);
+    // At level 2 the gap goes from 100 to 240.
+    assert_eq!(at(140), [3, 1, 1, 1, 1, 1, 1, 1, 2, 2, 0]);
+    assert_eq!(at(141), [3, 2, 2, 2, 2, 2, 2, 2, 2, 2, 0]);
+}
+
+#[test]
+fn the_level_refused_as_plan_without_9() {
+    let refused = |job: &[u8], side| {
+        let Refusal { number, value } = level(job, side, 0).unwrap_err();
+        (number, value)
+    };
+    let whole = printed().bytes();
+    assert_eq!(refused(&[], 2), (8, 0), "8 comes first");
+    assert_eq!(refused(&whole, u64::MAX), (8, 0));
+    assert_eq!(refused(&[], 0), (1, 0));
+    assert_eq!(refused(&[0x81, 0x00], 0), (2, 0));
+    assert_eq!(refused(&printed().with(C, 0).bytes(), 0), (3, 6));
+    assert_eq!(refused(&printed().with_hazard(LEVEL, 7).bytes(), 0), (4, 0));
+    // Of both sides' hazards.
+    for side in 0..2 {
+        assert_eq!(
+            refused(&printed().with_hazard(N, 3_999).bytes(), side),
+            (5, 0)
+        );
+        assert_eq!(
+            refused(&printed().with_hazard(S, 44_226).bytes(), side),
+            (6, 0)
+        );
+    }
+    let left_over = [&whole[..], &[0x00]].concat();
+    assert_eq!(refused(&left_over, 0), (7, whole.len() as u64));
 }

@@ -30,3 +30,14 @@ impl Planned for Draft {
             .collect())
     }
 }
+
+/// A runout length of 1 without a flare makes every approach length 1, so the
+/// envelopes can be given as they are: start, end and level.
+pub fn with_envelopes(continuity: u64, envelopes: &[(u64, u64, u64)]) -> Draft {
+    let hazards: Vec<[u64; FIELDS]> = envelopes
+        .iter()
+        .map(|&(start, end, level)| [0, start + 1, end, 5_000, 9_000, level])
+        .collect();
+    let short = PRINTED.with(FLARE_B, 0).with(LF, 1);
+    short.with(G, continuity).with_hazards(&hazards)
+}

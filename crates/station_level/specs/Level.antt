@@ -1,0 +1,23 @@
+-- The call level: its complete reply.
+-- Assumes nothing.
+use Prim.Native.Nat.{ℕ}
+use mathlib.Core.List.{List}
+use lib.Dec.{leb}
+use Rattle.refusal.specs.Answer.{Answer, accepted, _>>=_, unless-refuse}
+use Rattle.refusal.specs.Refusal.{refusal}
+use Rattle.planning.specs.Envelope.{acceptJob}
+use Rattle.planning.specs.Required.{jobLevel}
+use Rattle.station_level.specs.declared.reply.Level.{Level}
+use Rattle.station_level.specs.declared.reply.Level.the-variants as Level
+
+-- "Give the required level there". "Refusals are those of plan without 9": 8, then the job's, in plan's order. ("Directly from the hazards,
+-- without making runs" is said of the code.)
+unfoldable pub levelAt : (s : List ℕ) (side t : ℕ) → Answer ℕ
+levelAt s side t =
+    unless-refuse (leb side 1) 8 0 >>= λ _.
+    acceptJob s >>= λ j.
+    accepted (jobLevel j side t)
+
+abbrev pub levelReply : Level → Answer ℕ
+levelReply (Level.Required v) = accepted v
+levelReply (Level.Refused r) = refusal r
