@@ -310,7 +310,7 @@ extern "C" {
 #endif
 
 /* The version of the engine that this header belongs to. */
-#define BARRIER_VERSION "0.6.0"
+#define BARRIER_VERSION "0.6.1"
 
 /*
  * CONSTANTS

@@ -1,22 +1,24 @@
--- Exactly which bytes are ended inside a number, and which are malformed.
+-- Exactly which bytes are ended inside a number, and which are malformed; 32 bits hold every value that is read.
 -- Assumes nothing.
-use Prim.Native.Nat.{ℕ, zero, suc, _+_, _-_, _≤_, _<_}
+use Prim.Native.Nat.{ℕ, zero, suc, _+_, _-_, _*_, _^_, _≤_, _<_}
+use native.Mathlib.Nat.{mul-assoc, pow-succ'}
 use native.Mathlib.Omega.{arith}
 use native.Mathlib.Decide.{decLt, decLe}
 use mathlib.Core.Path.{_≡_, refl, sym, ap, _∙_}
 use mathlib.Core.Logic.{_↔_, _⊎_, inl, inr}
 use mathlib.Core.Bool.{Bool, true, false, _&&_}
-use mathlib.Core.List.{List, [], _∷_, _++_, List·Memᴰ·head, List·Memᴰ·tail, List·Memᴰ·not-nil}
-use lib.ListN.{length, drop}
+use mathlib.Core.List.{List, [], _∷_, _++_, append-assoc, List·Memᴰ·head, List·Memᴰ·tail, List·Memᴰ·not-nil}
+use lib.ListN.{length, drop, length-append}
 use lib.Dec.{leb, eqb}
 use borrow.Author.Tests.{lt-leb, le-leb, eqb-false, ne-eqb}
 use Rattle.refusal.specs.Choice.{if_then_else_}
-use Rattle.refusal.proofs.EachLaws.{cons-each}
+use Rattle.refusal.specs.Answer.{refused}
+use Rattle.refusal.proofs.EachLaws.{cons-each, snoc-each}
 use Rattle.number.specs.declared.Read.{Read}
 use Rattle.number.specs.declared.Read.the-variants.{Number, Ended, Malformed}
-use Rattle.number.specs.Number.{writeNumber, mostGroups, greatest, groupCount, Scan, cut, overlong, whole, prefixed, scan, judged, readNumber}
+use Rattle.number.specs.Number.{writeNumber, mostGroups, greatest, groupCount, Scan, cut, overlong, whole, prefixed, scan, judged, readNumber, readingOf, numberAt}
 use Rattle.number.specs.Form.{TopBits, EndsInside, IllFormed, fifth, great, long}
-use Rattle.number.proofs.NumberLaws.{scan-last, scan-more, group-count}
+use Rattle.number.proofs.NumberLaws.{scan-last, scan-more, group-count, read-bounds}
 
 -- Scans
 
@@ -32,6 +34,22 @@ unfolding scan
 scan-overlong [] rest t = refl
 scan-overlong (x ∷ xs) rest t =
     scan-more (length xs) x (xs ++ rest) (t x (List·Memᴰ·head refl)) ∙ ap (prefixed (x - 128)) (scan-overlong xs rest (λ y m. t y (List·Memᴰ·tail m)))
+
+-- A group without the top bit ends the number, which is no less than what that group makes.
+record Ends (head : List ℕ) (last : ℕ) (rest : List ℕ) : Type 0 where
+  value : ℕ
+  ends : scan (suc (length head)) (head ++ last ∷ rest) ≡ whole value (suc (length head))
+  least : 128 ^ length head * last ≤ value
+
+scan-ends : (head : List ℕ) (last : ℕ) (rest : List ℕ) → TopBits head → last < 128 → Ends head last rest
+scan-ends [] last rest t h = record { value = last; ends = scan-last 0 last rest h; least = omega arith }
+scan-ends (x ∷ xs) last rest t h =
+    let r = scan-ends xs last rest (λ y m. t y (List·Memᴰ·tail m)) h in
+    record {
+      value = x - 128 + 128 * r .value;
+      ends = scan-more (suc (length xs)) x (xs ++ last ∷ rest) (t x (List·Memᴰ·head refl)) ∙ ap (prefixed (x - 128)) (r .ends);
+      least = rw (pow-succ' 128 (length xs), mul-assoc 128 (128 ^ length xs) last) (omega (arith, r .least));
+    }
 
 -- What a scan that does not end says of the bytes.
 abbrev Scanned : (k : ℕ) → List ℕ → Scan → Type 0
@@ -105,3 +123,20 @@ module _ (s : List ℕ) (at : ℕ) where
       back (fifth five rest e size t) = rw (e, sym size, scan-overlong five rest t)
       back (great value groups e h) = rw (e, unfit value groups .1 (inl h))
       back (long value groups e h) = rw (e, unfit value groups .1 (inr h))
+
+  -- Document 02, request 6: "a fifth byte above hex 0F is still refused", whatever four bytes with the top bit stand before it.
+  pub fifth-byte : (four : List ℕ) (byte : ℕ) (rest : List ℕ) → drop at s ≡ four ++ byte ∷ rest → length four ≡ 4 → TopBits four → 15 < byte → numberAt s at ≡ refused 2 at
+  unfolding numberAt
+  fifth-byte four byte rest e size t h = ap (readingOf at) (read-malformed .1 (rw e (why (decLt byte 128))))
+    where
+      why : Dec (byte < 128) → IllFormed (four ++ byte ∷ rest)
+      why (yes l) =
+          let r = scan-ends four byte rest t l in
+          let counts : 128 ^ length four ≡ 128 ^ 4 = ap (λ (k : ℕ). 128 ^ k) size in
+          great (r .value) 5 (rw size at (r .ends)) (omega (arith, rw counts at (r .least)))
+      why (no l) =
+          fifth (four ++ byte ∷ []) rest (sym (append-assoc four (byte ∷ []) rest)) (length-append four (byte ∷ []) ∙ omega arith) (snoc-each (λ y. 128 ≤ y) four t (omega arith))
+
+  -- "As none needs more": no value that is read passes 4,294,967,295, the greatest that 32 bits hold.
+  pub value-most : (value next : ℕ) → readNumber s at ≡ Number value next → value ≤ 4294967295
+  value-most value next e = read-bounds s at value next e .fits

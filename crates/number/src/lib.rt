@@ -36,16 +36,19 @@ fn read_fifth(s: &[u8], at: usize, low: u32) -> Read
     if fifth == 0 {
         return Read::Malformed;
     }
+    // Above hex 0F 32 bits do not hold the value, or the top bit is set.
     if 15 < fifth {
         return Read::Malformed;
     }
+    let value: u32 = low + 268435456 * fifth;
     Read::Number {
-        value: low + 268435456 * fifth,
+        value,
         next: at + 5,
     }
 }
 
-// The number that begins at an index, if one does. Its groups before the fifth stay below 32 bits.
+// The number that begins at an index, if one does. It is gathered in 32 bits, as no value needs more: all that is no index is a u32,
+// and before the fifth group nothing passes 29 bits.
 pub fn read_number(s: &[u8], at: usize) -> Read
     ensures { λ r. ⌜ r ≡ readNumber (now (s .entry)) at ⌝ }
     ensures { λ r. ⌜ readingOf at r ≡ numberAt (now (s .entry)) at ⌝ }
@@ -61,16 +64,16 @@ pub fn read_number(s: &[u8], at: usize) -> Read
         };
     }
     // What the groups so far make, how much the next one counts, and where it stands.
-    let mut low = first - 128;
+    let mut low: u32 = first - 128;
     let mut weight: u32 = 128;
     let mut next = at + 1;
-    let mut passed: usize = 1;
+    let mut passed: u32 = 1;
     while passed < 4 {
         if s.len() <= next {
             return Read::Ended;
         }
         let b = s[next] as u32;
-        let value = low + weight * b;
+        let value: u32 = low + weight * b;
         passed += 1;
         next += 1;
         if b < 128 {
