@@ -96,6 +96,9 @@ static void print_refusal(const char *what, barrier_reply reply)
     case BARRIER_NAME:
         printf("the name %" PRIu64 " stands already, or does not stand\n", value);
         break;
+    case BARRIER_STATE:
+        printf("no such state number, or nothing is kept under it\n");
+        break;
     default:
         printf("a number that barrier.h does not have\n");
     }

@@ -1,7 +1,7 @@
 /*
  * An open job: the header of document 01's printed example, to which hazards
- * come as a controller meets them.  It ends with 1 where a call does not do
- * what it should.
+ * come as a controller meets them; then a variant, tried and taken back.  It
+ * ends with 1 where a call does not do what it should.
  *
  *     cc open_job.c $(pkg-config --cflags --libs barrier_engine) -o open_job
  */
@@ -31,9 +31,13 @@ static const uint64_t header[HEADER_NUMBERS] = {
 /* The names under which the hazards stand. */
 enum { HEADWALL = 7, POLE = 20 };
 
+/* The state number under which a state is kept, and one of which none is. */
+enum { BEFORE = 0, NEVER_KEPT = 1 };
+
 /* Each on the right side: first and end station, offsets, level. */
 static const barrier_hazard headwall = {BARRIER_RIGHT, 200000, 210000, 5000, 9000, BARRIER_NC_3};
 static const barrier_hazard pole = {BARRIER_RIGHT, 600000, 600300, 5000, 9000, BARRIER_NC_2};
+static const barrier_hazard moved_pole = {BARRIER_RIGHT, 700000, 700300, 5000, 9000, BARRIER_NC_2};
 
 /* Prints how a call ended; 0 unless that is what is wanted. */
 static int ends_with(const char *what, barrier_reply reply, uint64_t wanted)
@@ -74,25 +78,38 @@ static int print_runs(const barrier_open_job *job)
     return 1;
 }
 
-/* Everything in turn; 0 where a call does not do what it should. */
-static int show(void)
+/* Hazards come and go; 0 where a call does not do what it should. */
+static int show_hazards(barrier_open_job *job)
 {
-    static barrier_open_job job;
     printf("An open job\n");
-    return open_header(&job) &&
-           ends_with("add 7", barrier_add(&job, HEADWALL, headwall), BARRIER_DONE) &&
-           ends_with("add 20", barrier_add(&job, POLE, pole), BARRIER_DONE) &&
-           ends_with("add 7", barrier_add(&job, HEADWALL, pole), BARRIER_NAME) &&
-           print_runs(&job) &&
-           ends_with("withdraw 7", barrier_withdraw(&job, HEADWALL), BARRIER_DONE) &&
-           print_runs(&job) &&
-           ends_with("add 7", barrier_add(&job, HEADWALL, headwall), BARRIER_DONE) &&
-           print_runs(&job);
+    return open_header(job) &&
+           ends_with("add 7", barrier_add(job, HEADWALL, headwall), BARRIER_DONE) &&
+           ends_with("add 20", barrier_add(job, POLE, pole), BARRIER_DONE) &&
+           ends_with("add 7", barrier_add(job, HEADWALL, pole), BARRIER_NAME) &&
+           print_runs(job) &&
+           ends_with("withdraw 7", barrier_withdraw(job, HEADWALL), BARRIER_DONE) &&
+           print_runs(job) &&
+           ends_with("add 7", barrier_add(job, HEADWALL, headwall), BARRIER_DONE) &&
+           print_runs(job);
+}
+
+/* The pole 100 m farther on, and back; 0 where a call does not do what it should. */
+static int show_variant(barrier_open_job *job)
+{
+    printf("A variant\n");
+    return ends_with("keep 0", barrier_keep(job, BEFORE), BARRIER_DONE) &&
+           ends_with("withdraw 20", barrier_withdraw(job, POLE), BARRIER_DONE) &&
+           ends_with("add 20", barrier_add(job, POLE, moved_pole), BARRIER_DONE) &&
+           print_runs(job) &&
+           ends_with("return 0", barrier_return(job, BEFORE), BARRIER_DONE) &&
+           print_runs(job) &&
+           ends_with("return 1", barrier_return(job, NEVER_KEPT), BARRIER_STATE);
 }
 
 int main(void)
 {
-    const int shown = show();
+    static barrier_open_job job; /* 45 KiB: too much for some stacks */
+    const int shown = show_hazards(&job) && show_variant(&job);
     if (fflush(stdout) != 0 || ferror(stdout)) {
         fprintf(stderr, "open_job: standard output cannot be written\n");
         return 1;

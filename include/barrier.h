@@ -3,7 +3,7 @@
  *
  * A job goes in: one straight road and its roadside hazards.  A schedule comes
  * out: the runs of safety barrier along one side of the road, each with its
- * containment level.  There are nine calls:
+ * containment level.  There are eleven calls:
  *
  *     barrier_plan           writes the schedule of one side of a job
  *     barrier_level          gives the level that a job requires at a station
@@ -14,6 +14,8 @@
  *     barrier_add            adds a hazard to an open job
  *     barrier_withdraw       withdraws a hazard from an open job
  *     barrier_open_schedule  writes the schedule of one side of an open job
+ *     barrier_keep           keeps the state of an open job under a number
+ *     barrier_return         returns an open job to a state that is kept
  *
  * This file is the manual; examples/example.c is a first program, and
  * examples/open_job.c one with an open job.
@@ -174,6 +176,8 @@
  * of either kind, with hazard count 0.  After whatever list of calls, the
  * schedule is, byte for byte, the one that barrier_plan writes for a job of the
  * same header and the hazards added and not withdrawn since, in any order.
+ * After a return, those that stood when its state was last kept count as added
+ * and not withdrawn.
  *
  *   - A name stands once.  A withdrawn name can be added again, with the same
  *     hazard or another.  One hazard may stand under two names.
@@ -182,20 +186,36 @@
  *   - A refused call alters nothing, neither the open job nor the output.
  *   - Opening memory that has an open job already starts anew.
  *
+ * A designer tries a variant and returns.  For this, up to eight states of an
+ * open job can be kept in it, under the numbers 0 to 7: what stands, with its
+ * names.
+ *
+ *     barrier_keep(&job, 0);                        what stands now
+ *     barrier_withdraw(&job, 20);                   a variant
+ *     barrier_return(&job, 0);                      20 stands as it did
+ *
+ *   - After a return, what stands is what stood when that state was last kept,
+ *     whatever was added and withdrawn since.
+ *   - Keeping under a used number replaces what was kept there.
+ *   - A return leaves every kept state as it is, its own too.
+ *   - An open job without hazards can be kept.
+ *   - Opening empties all eight.
+ *
  * An open job lies in memory of yours, a barrier_open_job.  It has unsigned
  * integers alone, no padding and no pointer: it may be copied, moved and
- * compared with memcmp.  Two open jobs are equal, byte for byte, exactly
- * if their headers are equal and the same hazards stand under the same names,
- * however they came there.
+ * compared with memcmp.  Two open jobs are equal, byte for byte, exactly if
+ * their headers are equal, the same hazards stand under the same names, and
+ * the same states are kept under the same numbers, however they came there.
  *
  * The memory may hold anything when a call gets it.  barrier_open does not
  * look at what it held.  Every other call tests all of it first, and refuses
  * it with 3 and 0 where it is not an open job: a header number outside its
  * range, a panel length other than 1 in kind 1, a name twice, out of order or
  * above 255, a hazard that an add would refuse with 4, 5 or 6, or anything but
- * 0 in a place where no hazard stands.  So memory that was never opened, or
- * written over since, is refused; or it happens to be what some calls would
- * have left, and is taken for that.
+ * 0 in a place where no hazard stands.  The names and hazards of kept states go
+ * by the same rules, and where nothing is kept, all is 0.  So memory that was
+ * never opened, or written over since, is refused; or it happens to be what
+ * some calls would have left, and is taken for that.
  *
  * ---------------------------------------------------------------------------
  * REFUSALS, AND THEIR ORDER
@@ -227,6 +247,8 @@
  *     11      0                         more than 64 ranges
  *     12      the name                  it stands already (add), or does not
  *                                       stand (withdraw)
+ *     13      0                         state number above 7; to return, also
+ *                                       one under which nothing is kept
  *
  * The first that holds is returned, in this order:
  *
@@ -245,6 +267,8 @@
  *                            and for 6
  *     barrier_withdraw       3 with 0, then 12
  *     barrier_open_schedule  3 with 0, then 8, then 9
+ *     barrier_keep           3 with 0, then 13
+ *     barrier_return         3 with 0, then 13
  *
  * A job to which none of 1 to 7 applies is accepted, on both sides alike.
  *
@@ -258,8 +282,8 @@
  *
  * A call reads the bytes and the ranges that it is given with their length,
  * and never changes them.  barrier_plan and barrier_open_schedule write to
- * their output, barrier_open, barrier_add and barrier_withdraw to the open
- * job; nothing else is written:
+ * their output, barrier_open, barrier_add, barrier_withdraw, barrier_keep and
+ * barrier_return to the open job; nothing else is written:
  *
  *   - Done: the complete schedule stands from the output's first byte on, and
  *     the bytes behind it stay as they were; or the open job is changed.
@@ -281,10 +305,11 @@
  * and sets no errno.  Every call returns, whatever bytes it is given.  Any
  * call may run on any thread at any time, several at once too, as long as no
  * thread changes a buffer that another call is using.  So on one open job only
- * one call at a time may open, add or withdraw, and no other call with it;
- * calls on different open jobs do not touch each other.  One call of
- * barrier_plan or barrier_level takes at most 24 KiB of stack, each of those
- * on an open job at most 40 KiB, each of the others less than 2 KiB.
+ * one call at a time may open, add, withdraw, keep or return, and no other call
+ * with it; calls on different open jobs do not touch each other.  One call of
+ * barrier_plan or barrier_level takes at most 24 KiB of stack, each of those on
+ * an open job at most 64 KiB, without the open job itself, each of the others
+ * less than 2 KiB.
  *
  * ---------------------------------------------------------------------------
  * LINKING
@@ -292,12 +317,13 @@
  * `pkg-config --cflags --libs barrier_engine` prints the flags; they name this
  * header's folder and the archive libbarrier_engine.a.  The archive is for
  * x86-64, position independent, so that it links into programs and shared
- * libraries alike, exports the nine calls alone, and asks the C library for
+ * libraries alike, exports the eleven calls alone, and asks the C library for
  * nothing but block copies and fills (memcpy, memset and their kin).
  *
  * A program that has an open job is compiled with the header of the archive
- * that it links.  The open job has 5176 bytes in version 0.4.0 and 5180 from
- * 0.5.0 on, so a program of 0.4.0 has to be compiled anew.
+ * that it links.  The open job has 5176 bytes in version 0.4.0, 5180 in 0.5.0
+ * to 0.6.1, and 46204 from 0.7.0 on, so a program of an earlier version has to
+ * be compiled anew.
  */
 #ifndef BARRIER_H
 #define BARRIER_H
@@ -310,7 +336,7 @@ extern "C" {
 #endif
 
 /* The version of the engine that this header belongs to. */
-#define BARRIER_VERSION "0.6.1"
+#define BARRIER_VERSION "0.7.0"
 
 /*
  * CONSTANTS
@@ -335,11 +361,12 @@ extern "C" {
 #define BARRIER_JOB_LONGEST 4648
 #define BARRIER_HAZARDS_MAX 256
 #define BARRIER_NAME_MAX 255
+#define BARRIER_STATES 8
 #define BARRIER_RUNS_MAX 511
 #define BARRIER_RANGES_MAX 64
 #define BARRIER_STATION_MAX 2000000000
 #define BARRIER_STACK_MAX 24576
-#define BARRIER_OPEN_STACK_MAX 40960
+#define BARRIER_OPEN_STACK_MAX 65536
 
 /* The sides of the road.  Forward traffic runs beside the right one. */
 enum barrier_side {
@@ -374,15 +401,16 @@ enum barrier_number {
     BARRIER_OUTPUT_SHORT = 9,
     BARRIER_NO_SCHEDULE = 10,
     BARRIER_TOO_MANY_RANGES = 11,
-    BARRIER_NAME = 12
+    BARRIER_NAME = 12,
+    BARRIER_STATE = 13
 };
 
 /*
  * THE CALLS
  *
- * Sides, levels, stations and a hazard's numbers are passed in 64 bits, so
- * that a number that is too great is refused and never cut down to one that is
- * not.
+ * Sides, levels, stations, state numbers and a hazard's numbers are passed in
+ * 64 bits, so that a number that is too great is refused and never cut down to
+ * one that is not.
  */
 
 /*
@@ -391,7 +419,8 @@ enum barrier_number {
  *
  *     number    BARRIER_DONE, or the refusal's number
  *     value     done: bytes written (plan, open_schedule), the level (level),
- *               millimetres (quantity) or 0 (open, add, withdraw);
+ *               millimetres (quantity) or 0 (open, add, withdraw, keep,
+ *               return);
  *               refused: the refusal's value
  */
 typedef struct {
@@ -558,10 +587,21 @@ typedef struct {
 } barrier_place;
 
 /*
- * An open job: 5180 bytes, aligned to 4, without padding.  Its fields are the
+ * What is kept under one state number, the engine's too.  Where a state is
+ * kept, `used` is 1 and the rest as in an open job; where none is, all is 0.
+ */
+typedef struct {
+    uint32_t used;
+    uint32_t count;
+    barrier_place hazards[BARRIER_HAZARDS_MAX];
+} barrier_kept;
+
+/*
+ * An open job: 46204 bytes, aligned to 4, without padding.  Its fields are the
  * engine's, as a place's are: the header's numbers in the order of kind 2,
- * panel length 1 for kind 1, then 256 places.  The hazards stand in the first
- * `count` of them, in rising order of their names; every other place is 0.
+ * panel length 1 for kind 1; then 256 places, where the hazards stand in the
+ * first `count`, in rising order of their names, and every other place is 0;
+ * then what is kept, by state number.
  */
 typedef struct {
     uint32_t kind;
@@ -580,10 +620,11 @@ typedef struct {
     uint32_t panel;
     uint32_t count;
     barrier_place hazards[BARRIER_HAZARDS_MAX];
+    barrier_kept kept[BARRIER_STATES];
 } barrier_open_job;
 
 /*
- * Open: makes an open job of a header, with no hazard.
+ * Open: makes an open job of a header, with no hazard and no kept state.
  *
  *     job                 the open job; what it held does not matter
  *     bytes, bytes_len    the bytes of a job with hazard count 0
@@ -633,6 +674,31 @@ barrier_reply barrier_withdraw(barrier_open_job *job, uint8_t name);
  */
 barrier_reply barrier_open_schedule(const barrier_open_job *job, uint64_t side,
                                     uint8_t *out, size_t out_len);
+
+/*
+ * Keep: keeps the hazards that stand in an open job, with their names, under a
+ * state number.
+ *
+ *     job      the open job
+ *     state    0 to BARRIER_STATES - 1
+ *
+ * Done: value is 0, and what was kept under this number is replaced.  What
+ * stands, and the states under other numbers, stay as they were.
+ * Refused: 3 with 0, or 13 with 0.  The open job stays as it was.
+ */
+barrier_reply barrier_keep(barrier_open_job *job, uint64_t state);
+
+/*
+ * Return: makes what stands in an open job what stood, under the same names,
+ * when a state was last kept.
+ *
+ *     job      the open job
+ *     state    0 to BARRIER_STATES - 1, a number under which a state is kept
+ *
+ * Done: value is 0.  The kept states stay as they were, this one too.
+ * Refused: 3 with 0, or 13 with 0.  The open job stays as it was.
+ */
+barrier_reply barrier_return(barrier_open_job *job, uint64_t state);
 
 #ifdef __cplusplus
 }

@@ -1,7 +1,7 @@
 /*
  * The header lets a pointer be NULL where its length is 0. Each such pointer of
- * each call, and the reply that document 01's table has for it. Ends with 1
- * where a reply is another.
+ * each call, and the reply that document 01's table has for it; and the states
+ * of an open job without hazards. Ends with 1 where a reply is another.
  */
 #include <barrier.h>
 #include <stdio.h>
@@ -93,10 +93,11 @@ static void lookups(void)
     record_is("lookup, neither, no such side", barrier_lookup(NULL, 0, NULL, 0, 2, 5), BARRIER_ARGUMENT);
 }
 
+static barrier_open_job open_job;
+
 static void open_jobs(void)
 {
-    static barrier_open_job open_job;
-    unsigned char before[sizeof open_job];
+    static unsigned char before[sizeof open_job];
 
     memset(&open_job, 0xA5, sizeof open_job);
     memcpy(before, &open_job, sizeof open_job);
@@ -108,6 +109,30 @@ static void open_jobs(void)
     reply_is("schedule, no output, no such side", barrier_open_schedule(&open_job, 2, NULL, 0), BARRIER_ARGUMENT, 0);
 }
 
+/* Behind the opening of `open_jobs`. Cut down to fewer bits, some of the numbers above 7 would be 0. */
+static void states(void)
+{
+    static const uint64_t too_great[4] = {8, 256, 4294967296u, UINT64_MAX};
+    static barrier_open_job before;
+    int i;
+
+    before = open_job;
+    for (i = 0; i < 4; i++) {
+        reply_is("keep, no such state", barrier_keep(&open_job, too_great[i]), BARRIER_STATE, 0);
+        reply_is("return, no such state", barrier_return(&open_job, too_great[i]), BARRIER_STATE, 0);
+    }
+    reply_is("return, nothing kept", barrier_return(&open_job, 7), BARRIER_STATE, 0);
+    expect("states, refused: the memory is changed", memcmp(&before, &open_job, sizeof open_job) == 0);
+    reply_is("keep, no hazards", barrier_keep(&open_job, 7), BARRIER_DONE, 0);
+    reply_is("return, no hazards", barrier_return(&open_job, 7), BARRIER_DONE, 0);
+    reply_is("return, no hazards, once more", barrier_return(&open_job, 7), BARRIER_DONE, 0);
+    reply_is("open anew", barrier_open(&open_job, job, sizeof job), BARRIER_DONE, 0);
+    expect("open anew: a state is left", memcmp(&before, &open_job, sizeof open_job) == 0);
+    open_job.kept[7].used = 2;
+    reply_is("keep, broken memory", barrier_keep(&open_job, 8), BARRIER_HEADER_RANGE, 0);
+    reply_is("return, broken memory", barrier_return(&open_job, 8), BARRIER_HEADER_RANGE, 0);
+}
+
 int main(void)
 {
     plans();
@@ -116,5 +141,6 @@ int main(void)
     contracts();
     lookups();
     open_jobs();
+    states();
     return wrong;
 }

@@ -53,5 +53,7 @@ refused open open_job '  open: refused 1 with 22'
 refused add open_job '  add 7: refused 4 with 7'
 refused withdraw open_job '  withdraw 7: refused 12 with 7'
 refused open_schedule open_job '  schedule: refused 3 with 0'
+refused keep open_job '  keep 0: refused 13 with 0'
+refused return_to open_job '  return 0: refused 13 with 0'
 refused nothing open_job '  add 7: done'
 echo "examples: C and Rust end with 1 at the first call refused, and at one that is not and should be"

@@ -7,7 +7,20 @@
 #include <barrier.h>
 #include <string.h>
 
-enum { nothing, plan, level, lookup, quantity, quantities, open, add, withdraw, open_schedule };
+enum {
+    nothing,
+    plan,
+    level,
+    lookup,
+    quantity,
+    quantities,
+    open,
+    add,
+    withdraw,
+    open_schedule,
+    keep,
+    return_to
+};
 
 barrier_reply barrier_plan(const uint8_t *job, size_t job_len, uint64_t side, uint8_t *out,
                            size_t out_len)
@@ -118,4 +131,22 @@ barrier_reply barrier_open_schedule(const barrier_open_job *job, uint64_t side, 
     if (out_len > 0)
         out[0] = 0;
     return done;
+}
+
+barrier_reply barrier_keep(barrier_open_job *job, uint64_t state)
+{
+    const barrier_reply done = {BARRIER_DONE, 0};
+    const barrier_reply refused = {BARRIER_STATE, 0};
+    (void)job;
+    (void)state;
+    return REFUSED == keep ? refused : done;
+}
+
+barrier_reply barrier_return(barrier_open_job *job, uint64_t state)
+{
+    const barrier_reply done = {BARRIER_DONE, 0};
+    const barrier_reply refused = {BARRIER_STATE, 0};
+    (void)job;
+    (void)state;
+    return REFUSED == return_to ? refused : done;
 }

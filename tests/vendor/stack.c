@@ -5,8 +5,9 @@
  * planning it, into a large output and into one of exactly its schedule's
  * length, where the bytes needed are counted first, for its level at a
  * station, and for the queries; BARRIER_OPEN_STACK_MAX
- * for an open job to which the job's hazards are added one by one. Where a
- * reply is large, its room in the caller counts too.
+ * for an open job to which the job's hazards are added one by one, and in which
+ * they are kept eight times. Where a reply is large, its room in the caller
+ * counts too.
  *
  * Ends with 1 where a call takes more, with 2 where one is refused.
  */
@@ -19,7 +20,8 @@
 
 enum { PAINT = 0xA5 };
 
-static unsigned char stack[65536];
+/* More than any call may take, so that too much shows. */
+static unsigned char stack[2 * BARRIER_OPEN_STACK_MAX];
 static ucontext_t here, there;
 
 static unsigned char job[BARRIER_JOB_MAX];
@@ -33,7 +35,7 @@ static unsigned char header[64];
 static size_t header_length;
 static barrier_hazard last;
 static uint8_t last_name;
-static barrier_reply opened, added, withdrawn, scheduled;
+static barrier_reply opened, added, withdrawn, scheduled, kept, returned;
 static uint64_t ranges[128];
 
 static void nothing(void)
@@ -90,6 +92,16 @@ static void schedule_open(void)
     scheduled = barrier_open_schedule(&whole_job, BARRIER_RIGHT, schedule, sizeof schedule);
 }
 
+static void keep(void)
+{
+    kept = barrier_keep(&open_job, BARRIER_STATES - 1);
+}
+
+static void return_to_kept(void)
+{
+    returned = barrier_return(&open_job, BARRIER_STATES - 1);
+}
+
 static size_t depth(void (*call)(void))
 {
     size_t left = 0;
@@ -137,8 +149,9 @@ static barrier_hazard hazard_at(size_t *at)
     return hazard;
 }
 
-/* The planned job's header, then each of its hazards under its index. The last
-   one is left for the call that is measured. */
+/* The planned job's header, then each of its hazards under its index, all of
+   them kept under each state number. The last one is left for the call that is
+   measured. */
 static void open_planned_job(void)
 {
     /* Kind 2 has the panel length too before its hazard count. */
@@ -156,6 +169,8 @@ static void open_planned_job(void)
         last_name = (uint8_t)i;
         added = barrier_add(&open_job, last_name, last);
     }
+    for (i = 0; i < BARRIER_STATES; i++)
+        kept = barrier_keep(&open_job, i);
     whole_job = open_job;
     withdraw_last();
 }
@@ -178,7 +193,9 @@ int main(void)
     well &= suffices("lookup", lookup, BARRIER_STACK_MAX);
     open_planned_job();
     well &= suffices("add", add_last, BARRIER_OPEN_STACK_MAX);
+    well &= suffices("keep", keep, BARRIER_OPEN_STACK_MAX);
     well &= suffices("withdraw", withdraw_last, BARRIER_OPEN_STACK_MAX);
+    well &= suffices("return", return_to_kept, BARRIER_OPEN_STACK_MAX);
     well &= suffices("schedule of an open job", schedule_open, BARRIER_OPEN_STACK_MAX);
     well &= suffices("open", open_empty, BARRIER_OPEN_STACK_MAX);
     all_done = done("plan with an output of exactly its length", exact.number);
@@ -187,7 +204,9 @@ int main(void)
     all_done &= done("quantities", priced.number);
     all_done &= done("lookup", found.number);
     all_done &= done("add", added.number);
+    all_done &= done("keep", kept.number);
     all_done &= done("withdraw", withdrawn.number);
+    all_done &= done("return", returned.number);
     all_done &= done("schedule of an open job", scheduled.number);
     all_done &= done("open", opened.number);
     if (!all_done)

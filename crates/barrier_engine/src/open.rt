@@ -1,103 +1,145 @@
-// The calls on an open job, which is changed in the caller's memory: thin shells over the calls by value.
-use super::Reply;
-use super::refused;
-use job::StoredJob;
-use open_job::Change;
+// The calls on an open job, which is changed in the caller's memory: thin shells over the calls by value. A shell takes the memory apart
+// field by field, so that two or three states are on its stack, and never all nine.
+use kept_states::OpenStates;
+use kept_states::states::also_sound;
+use kept_states::states::choose;
+use kept_states::states::empty;
+use kept_states::states::kept_from;
 use open_memory::GivenHazard;
-use refusal::Outcome;
-use schedule::reply::Plan;
+use replies::Reply;
+use replies::open::added;
+use replies::open::kept;
+use replies::open::opened;
+use replies::open::returned;
+use replies::open::scheduled;
+use replies::open::withdrawn;
 ghost use mathlib.Core.Path.{_≡_};
-ghost use Rattle.refusal.specs.Refusal.{outcome};
-ghost use Rattle.barrier_engine.specs.Interface.{replyOf};
-ghost use Rattle.barrier_engine.specs.OpenInterface.{afterOpening, afterAdd, afterWithdrawal, scheduleReply, scheduleOutput};
+ghost use lib.ListN.{length};
+ghost use Rattle.schedule.specs.Plan.{bytesWritten, outputAfter};
+ghost use Rattle.open_memory.specs.Memory.{hazardGiven};
+ghost use Rattle.open_job.specs.Open.{memoryAfter, replied};
+ghost use Rattle.kept_states.specs.States.{openStates, addIn, withdrawIn, scheduleIn, keepIn, returnIn};
+ghost use Rattle.replies.specs.Interface.{replyOf};
 
-// An open job after a call, and the reply.
-pub struct Changed {
-    pub next: StoredJob,
-    pub reply: Reply,
-}
-
-// The reply of a call that gives no value, beside the open job.
-fn with_reply(change: Change) -> Changed
-    ensures { λ r. ⌜ r ≡ record { next = change .next; reply = replyOf (outcome (change .outcome) 0) } ⌝ }
+#[no_mangle]
+pub extern "C" fn barrier_open(job: &mut OpenStates, bytes: &[u8]) -> Reply
+    ensures { λ r. ⌜ (now (job .exit) ≡ memoryAfter (openStates (now (bytes .entry))) (now (job .entry))) × (r ≡ replyOf (replied (openStates (now (bytes .entry))))) ⌝ }
 {
-    let outcome = change.outcome;
-    let next = change.next;
-    match outcome {
-        Outcome::Done => Changed {
-            next,
-            reply: Reply {
-                number: 0,
-                value: 0,
-            },
-        },
-        Outcome::Refused(refusal) => Changed {
-            next,
-            reply: refused(refusal),
-        },
-    }
-}
-
-fn opened(job: StoredJob, bytes: &[u8]) -> Changed
-    ensures { λ r. ⌜ r ≡ afterOpening job (now (bytes .entry)) ⌝ }
-{
-    with_reply(open_job::calls::open(job, bytes))
-}
-
-fn added(job: StoredJob, name: u8, hazard: GivenHazard) -> Changed
-    ensures { λ r. ⌜ r ≡ afterAdd job name hazard ⌝ }
-{
-    with_reply(open_job::calls::add(job, name, hazard))
-}
-
-fn withdrawn(job: StoredJob, name: u8) -> Changed
-    ensures { λ r. ⌜ r ≡ afterWithdrawal job name ⌝ }
-{
-    with_reply(open_job::calls::withdraw(job, name))
-}
-
-fn scheduled(job: StoredJob, side: u64, out: &mut [u8]) -> Reply
-    ensures { λ r. ⌜ (r ≡ scheduleReply job side (now (out .entry))) × (now (out .exit) ≡ scheduleOutput job side (now (out .entry))) ⌝ }
-{
-    match open_job::calls::schedule(job, side, out) {
-        Plan::Written(bytes) => Reply {
-            number: 0,
-            value: bytes as u64,
-        },
-        Plan::Refused(refusal) => refused(refusal),
-    }
+    let opening = opened((*job).now, bytes);
+    (*job).now = opening.next;
+    let done = opening.done;
+    (*job).kept0 = empty(done, (*job).kept0);
+    (*job).kept1 = empty(done, (*job).kept1);
+    (*job).kept2 = empty(done, (*job).kept2);
+    (*job).kept3 = empty(done, (*job).kept3);
+    (*job).kept4 = empty(done, (*job).kept4);
+    (*job).kept5 = empty(done, (*job).kept5);
+    (*job).kept6 = empty(done, (*job).kept6);
+    (*job).kept7 = empty(done, (*job).kept7);
+    opening.reply
 }
 
 #[no_mangle]
-pub extern "C" fn barrier_open(job: &mut StoredJob, bytes: &[u8]) -> Reply
-    ensures { λ r. ⌜ (now (job .exit) ≡ afterOpening (now (job .entry)) (now (bytes .entry)) .next) × (r ≡ afterOpening (now (job .entry)) (now (bytes .entry)) .reply) ⌝ }
+pub extern "C" fn barrier_add(job: &mut OpenStates, name: u8, hazard: GivenHazard) -> Reply
+    ensures { λ r. ⌜ (now (job .exit) ≡ memoryAfter (addIn (now (job .entry)) name (hazardGiven hazard)) (now (job .entry))) × (r ≡ replyOf (replied (addIn (now (job .entry)) name (hazardGiven hazard)))) ⌝ }
 {
-    let done = opened(*job, bytes);
-    *job = done.next;
+    let header = (*job).now.header;
+    let mut sound = also_sound(true, header, (*job).kept0);
+    sound = also_sound(sound, header, (*job).kept1);
+    sound = also_sound(sound, header, (*job).kept2);
+    sound = also_sound(sound, header, (*job).kept3);
+    sound = also_sound(sound, header, (*job).kept4);
+    sound = also_sound(sound, header, (*job).kept5);
+    sound = also_sound(sound, header, (*job).kept6);
+    sound = also_sound(sound, header, (*job).kept7);
+    let done = added(sound, (*job).now, name, hazard);
+    (*job).now = done.next;
     done.reply
 }
 
 #[no_mangle]
-pub extern "C" fn barrier_add(job: &mut StoredJob, name: u8, hazard: GivenHazard) -> Reply
-    ensures { λ r. ⌜ (now (job .exit) ≡ afterAdd (now (job .entry)) name hazard .next) × (r ≡ afterAdd (now (job .entry)) name hazard .reply) ⌝ }
+pub extern "C" fn barrier_withdraw(job: &mut OpenStates, name: u8) -> Reply
+    ensures { λ r. ⌜ (now (job .exit) ≡ memoryAfter (withdrawIn (now (job .entry)) name) (now (job .entry))) × (r ≡ replyOf (replied (withdrawIn (now (job .entry)) name))) ⌝ }
 {
-    let done = added(*job, name, hazard);
-    *job = done.next;
+    let header = (*job).now.header;
+    let mut sound = also_sound(true, header, (*job).kept0);
+    sound = also_sound(sound, header, (*job).kept1);
+    sound = also_sound(sound, header, (*job).kept2);
+    sound = also_sound(sound, header, (*job).kept3);
+    sound = also_sound(sound, header, (*job).kept4);
+    sound = also_sound(sound, header, (*job).kept5);
+    sound = also_sound(sound, header, (*job).kept6);
+    sound = also_sound(sound, header, (*job).kept7);
+    let done = withdrawn(sound, (*job).now, name);
+    (*job).now = done.next;
     done.reply
 }
 
 #[no_mangle]
-pub extern "C" fn barrier_withdraw(job: &mut StoredJob, name: u8) -> Reply
-    ensures { λ r. ⌜ (now (job .exit) ≡ afterWithdrawal (now (job .entry)) name .next) × (r ≡ afterWithdrawal (now (job .entry)) name .reply) ⌝ }
+pub extern "C" fn barrier_keep(job: &mut OpenStates, state: u64) -> Reply
+    ensures { λ r. ⌜ (now (job .exit) ≡ memoryAfter (keepIn (now (job .entry)) state) (now (job .entry))) × (r ≡ replyOf (replied (keepIn (now (job .entry)) state))) ⌝ }
 {
-    let done = withdrawn(*job, name);
-    *job = done.next;
+    let header = (*job).now.header;
+    let mut sound = also_sound(true, header, (*job).kept0);
+    sound = also_sound(sound, header, (*job).kept1);
+    sound = also_sound(sound, header, (*job).kept2);
+    sound = also_sound(sound, header, (*job).kept3);
+    sound = also_sound(sound, header, (*job).kept4);
+    sound = also_sound(sound, header, (*job).kept5);
+    sound = also_sound(sound, header, (*job).kept6);
+    sound = also_sound(sound, header, (*job).kept7);
+    let keeping = kept(sound, (*job).now, state);
+    let new = kept_from((*job).now);
+    let done = keeping.done;
+    (*job).kept0 = choose(done, state, 0, new, (*job).kept0);
+    (*job).kept1 = choose(done, state, 1, new, (*job).kept1);
+    (*job).kept2 = choose(done, state, 2, new, (*job).kept2);
+    (*job).kept3 = choose(done, state, 3, new, (*job).kept3);
+    (*job).kept4 = choose(done, state, 4, new, (*job).kept4);
+    (*job).kept5 = choose(done, state, 5, new, (*job).kept5);
+    (*job).kept6 = choose(done, state, 6, new, (*job).kept6);
+    (*job).kept7 = choose(done, state, 7, new, (*job).kept7);
+    keeping.reply
+}
+
+#[no_mangle]
+pub extern "C" fn barrier_return(job: &mut OpenStates, state: u64) -> Reply
+    ensures { λ r. ⌜ (now (job .exit) ≡ memoryAfter (returnIn (now (job .entry)) state) (now (job .entry))) × (r ≡ replyOf (replied (returnIn (now (job .entry)) state))) ⌝ }
+{
+    let header = (*job).now.header;
+    let mut sound = also_sound(true, header, (*job).kept0);
+    sound = also_sound(sound, header, (*job).kept1);
+    sound = also_sound(sound, header, (*job).kept2);
+    sound = also_sound(sound, header, (*job).kept3);
+    sound = also_sound(sound, header, (*job).kept4);
+    sound = also_sound(sound, header, (*job).kept5);
+    sound = also_sound(sound, header, (*job).kept6);
+    sound = also_sound(sound, header, (*job).kept7);
+    let mut found = (*job).kept0;
+    found = choose(true, state, 1, (*job).kept1, found);
+    found = choose(true, state, 2, (*job).kept2, found);
+    found = choose(true, state, 3, (*job).kept3, found);
+    found = choose(true, state, 4, (*job).kept4, found);
+    found = choose(true, state, 5, (*job).kept5, found);
+    found = choose(true, state, 6, (*job).kept6, found);
+    found = choose(true, state, 7, (*job).kept7, found);
+    let done = returned(sound, (*job).now, state, found);
+    (*job).now = done.next;
     done.reply
 }
 
 #[no_mangle]
-pub extern "C" fn barrier_open_schedule(job: &StoredJob, side: u64, out: &mut [u8]) -> Reply
-    ensures { λ r. ⌜ (r ≡ scheduleReply (now (job .entry)) side (now (out .entry))) × (now (out .exit) ≡ scheduleOutput (now (job .entry)) side (now (out .entry))) ⌝ }
+pub extern "C" fn barrier_open_schedule(job: &OpenStates, side: u64, out: &mut [u8]) -> Reply
+    ensures { λ r. ⌜ (r ≡ replyOf (bytesWritten (scheduleIn (now (job .entry)) side (length (now (out .entry)))))) × (now (out .exit) ≡ outputAfter (scheduleIn (now (job .entry)) side (length (now (out .entry)))) (now (out .entry))) ⌝ }
 {
-    scheduled(*job, side, out)
+    let header = (*job).now.header;
+    let mut sound = also_sound(true, header, (*job).kept0);
+    sound = also_sound(sound, header, (*job).kept1);
+    sound = also_sound(sound, header, (*job).kept2);
+    sound = also_sound(sound, header, (*job).kept3);
+    sound = also_sound(sound, header, (*job).kept4);
+    sound = also_sound(sound, header, (*job).kept5);
+    sound = also_sound(sound, header, (*job).kept6);
+    sound = also_sound(sound, header, (*job).kept7);
+    scheduled(sound, (*job).now, side, out)
 }

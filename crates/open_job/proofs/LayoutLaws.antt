@@ -29,7 +29,7 @@ unfolding allOf
 admissible-counted h n [] = refl
 admissible-counted h n (p ∷ ps) = rw (admit-counted h (p .name) (unnamed p) n, admissible-counted h n ps)
 
-unused-all : (n : ℕ) → allOf isUnused (replicate n unused) ≡ true
+pub unused-all : (n : ℕ) → allOf isUnused (replicate n unused) ≡ true
 unfolding allOf isUnused
 unused-all zero = refl
 unused-all (suc n) = unused-all n

@@ -1,4 +1,4 @@
--- The calls on an open job: what each answers, and what it makes of the memory.
+-- The calls on one state of an open job, the state now: what each answers, and what it makes of the memory.
 -- Assumes nothing.
 use Prim.Native.Nat.{ℕ}
 use mathlib.Core.Path.{_≡_}
@@ -46,15 +46,16 @@ scheduleOf m side room =
     unless-refuse (isOpenJob m) 3 0 >>= λ _.
     plan (writeJob (jobOf m)) side room
 
--- "A refused call alters nothing": the memory afterwards.
-abbrev pub memoryAfter : Answer StoredJob → StoredJob → StoredJob
-memoryAfter (accepted next) m = next
-memoryAfter (refused k v) m = m
+module _ {Memory : Type 0} where
+  -- "A refused call alters nothing": the memory afterwards.
+  abbrev pub memoryAfter : Answer Memory → Memory → Memory
+  memoryAfter (accepted next) m = next
+  memoryAfter (refused k v) m = m
 
--- A call that is done returns 0.
-abbrev pub replied : Answer StoredJob → Answer ℕ
-replied (accepted next) = accepted 0
-replied (refused k v) = refused k v
+  -- A call that is done returns 0.
+  abbrev pub replied : Answer Memory → Answer ℕ
+  replied (accepted next) = accepted 0
+  replied (refused k v) = refused k v
 
 -- What a call by value answers: the reply, and the memory afterwards.
 pub record Changes (m : StoredJob) (a : Answer StoredJob) (r : Change) : Type 0 where

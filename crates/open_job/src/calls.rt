@@ -1,4 +1,4 @@
-// The calls on an open job, by value: the open job goes in and comes back.
+// The calls on one state of an open job, by value: it goes in and comes back.
 use super::Change;
 use job::StoredJob;
 use job::read::Opening;
@@ -31,7 +31,7 @@ ghost use Rattle.open_memory.specs.Memory.{greatestName, hazardGiven, admit, is
 ghost use Rattle.open_job.specs.Open.{openJob, addTo, withdrawFrom, scheduleOf, Changes};
 
 // A refusal, and the open job as it was.
-fn unchanged(job: StoredJob, refusal: Refusal) -> Change
+pub fn unchanged(job: StoredJob, refusal: Refusal) -> Change
     ensures { λ r. ⌜ r ≡ record { outcome = Refused refusal; next = job } ⌝ }
 {
     Change {

@@ -1,4 +1,4 @@
--- An open job in the caller's memory: what stands in it, and which memory keeps the rules.
+-- One state of an open job in the caller's memory: what stands in it, and which memory keeps the rules.
 -- Assumes nothing.
 use Prim.Native.Nat.{ℕ, _+_}
 use mathlib.Core.Bool.{Bool, true, false, _&&_, _||_, not}

@@ -1,5 +1,5 @@
-// The memory of an open job: a stored job whose hazards stand under their names. They stand in its first places, in rising order of
-// their names, and every other place is 0; so the memory depends only on what stands.
+// One state of an open job: a stored job whose hazards stand under their names. They stand in its first places, in rising order of their
+// names, and every other place is 0; so the memory depends only on what stands.
 pub mod places; // hazards put in and taken out
 pub mod rules; // is the memory an open job
 

@@ -5,9 +5,13 @@ use native.Mathlib.Omega.{arith}
 use mathlib.Core.Path.{_≡_, refl, sym, ap, subst, _∙_}
 use mathlib.Core.Logic.{_↔_}
 use mathlib.Core.Bool.{Bool, true, false, not}
-use mathlib.Core.List.{List, [], map, List·Memᴰ, List·Memᴰ·not-nil, Memᴰ·map, Memᴰ·of-map}
-use lib.ListN.{length, length-map}
+use mathlib.Core.List.{List, [], _∷_, _++_, map, List·Memᴰ, Memᴰ·map, Memᴰ·of-map}
+use lib.ListN.{length, set, replicate, length-map, length-set}
+use lib.Seq.{getD-set-same, getD-set-other}
+use lib.Dec.{leb}
+use borrow.Author.Tests.{leb-true, leb-false}
 use Rattle.refusal.specs.Answer.{Answer, accepted, refused, _>>=_, unless-refuse}
+use Rattle.refusal.proofs.TestLaws.{not-both}
 use Rattle.refusal.proofs.AnswerLaws.{bound, tested}
 use Rattle.job.specs.declared.Header.{Header}
 use Rattle.job.specs.declared.Hazard.{Hazard}
@@ -22,15 +26,21 @@ use Rattle.job.proofs.OpeningLaws.{job-header, header-done, opening-empty}
 use Rattle.planning.specs.Envelope.{testHazards, acceptJob}
 use Rattle.planning.proofs.EnvelopeLaws.{accepted-fits}
 use Rattle.schedule.specs.Plan.{plan}
-use Rattle.open_memory.specs.Memory.{mostStanding, standing, laidOut, stands, inserted, without, admit, isOpenJob, madeFrom}
-use Rattle.open_job.specs.Open.{openJob, addTo, withdrawFrom, scheduleOf, memoryAfter, replied}
-use Rattle.open_promises.specs.Lists.{Call, addedSince, afterCalls, CallsFrom, SchedulePromise, Standing, StandingPromise, AgainPromise}
+use Rattle.open_memory.specs.Memory.{standing, counted, laidOut, madeFrom, stands, inserted, without, admit, isOpenJob}
 use Rattle.open_memory.proofs.RuleLaws.{Admitted, Stand, stand-each, open-header, open-standing}
 use Rattle.open_memory.proofs.PlaceLaws.{without-stand}
+use Rattle.open_job.specs.Open.{openJob, addTo, withdrawFrom, scheduleOf, memoryAfter, replied}
 use Rattle.open_job.proofs.CallLaws.{opening-read}
 use Rattle.open_job.proofs.LayoutLaws.{laid-standing, laid-few, laid-open, add-laid, withdraw-laid, schedule-laid}
+use Rattle.kept_states.specs.declared.KeptState.{KeptState}
+use Rattle.kept_states.specs.declared.OpenStates.{OpenStates}
+use Rattle.kept_states.specs.States.{mostKept, greatestStateNumber, nothingKept, keptFrom, stateOf, isUsed, keptSound, keptStates, keptUnder, statesFrom, areOpenStates, openStates, addIn, withdrawIn, scheduleIn, keepIn, returnIn}
+use Rattle.kept_states.proofs.StateLaws.{kept-under, none-above, states-sound, now-open, each-sound}
+use Rattle.open_promises.specs.Lists.{add, withdraw, Call, edit, schedule, keepAs, returnTo, Kept, nothing, state, States, isKept, opened, statesAfterAll, hazardsAfter, addedSince, afterCall, afterCalls, CallsFrom, SchedulePromise, Holds, HoldsKept, Standing, StandingPromise, AgainPromise, ReturnPromise, UntouchedPromise, KeepPromise}
 use Rattle.open_promises.proofs.SameLaws.{same-plans}
-use Rattle.open_promises.proofs.KeptLaws.{Kept, stands-same, without-stands, After, after}
+use Rattle.open_promises.proofs.ModelLaws.{returned}
+use Rattle.open_promises.proofs.StandingLaws.{Agree, stands-same, without-stands, placedAfter}
+use Rattle.open_promises.proofs.MemoryLaws.{AgreeKept, laidKept, agree-stand, kept-used, not-used, laid-states, Follows, follows-all, follows-opened}
 
 -- An empty job with an accepted header opens, and nothing stands.
 
@@ -49,8 +59,13 @@ opened-empty s j e none =
     let count : b .first .header .count ≡ 0 = ap (λ (h : Header). h .count) (sym (job-header s (b .taken) read)) ∙ sym (accepted-fits s j e .fits .hazards .count) ∙ ap length none in
     opening-read s ∙ rw (opening-empty s (b .taken) count, header-done s read)
 
--- The calls' replies on memory that is laid out.
-module _ (h : Header) (fits : HeaderFits h) {ps past : List NamedHazard} (k : Kept h ps past) where
+pub states-empty : (s : List ℕ) (j : Job) → acceptJob s ≡ accepted j → j .hazards ≡ [] → openStates s ≡ accepted (statesFrom (laidOut (j .header) []) (replicate mostKept nothingKept))
+unfolding openStates
+states-empty s j e none = rw (opened-empty s j e none)
+
+-- The replies on memory that is laid out.
+
+module _ (h : Header) (fits : HeaderFits h) {ps past : List NamedHazard} (k : Agree h ps past) where
   add-replied : (name : ℕ) (z : Hazard) → replied (addTo (laidOut h ps) name z) ≡ (unless-refuse (not (stands name past)) 12 name >>= λ _. admit h name z >>= λ _. accepted 0)
   add-replied name z = ap replied (add-laid h ps fits (k .rules) name z) ∙ rw (stands-same h k name) (go (stands name past) (admit h name z))
     where
@@ -66,40 +81,112 @@ module _ (h : Header) (fits : HeaderFits h) {ps past : List NamedHazard} (k : Ke
       go true = refl
       go false = refl
 
--- What is known after the calls.
-module _ (s : List ℕ) (j : Job) (calls : List Call) (m : StoredJob) (from : CallsFrom s j calls m) where
+  holds : Holds h past (laidOut h ps)
+  holds = record {
+    layout = ap (laidOut h) (sym (laid-standing h ps));
+    few = omega (arith, laid-few h ps fits (k .rules), k .number);
+    each = λ p. rw (laid-standing h ps) (k .same p);
+  }
+
+-- The replies on memory that keeps the rules.
+module _ (m : OpenStates) (good : areOpenStates m ≡ true) where
+  now-replied : (a : Answer StoredJob) → replied (a >>= λ x. accepted (statesFrom x (keptStates m))) ≡ replied a
+  now-replied (accepted x) = refl
+  now-replied (refused k v) = refl
+
+  add-now : (name : ℕ) (z : Hazard) → replied (addIn m name z) ≡ replied (addTo (m .now) name z)
+  unfolding addIn
+  add-now name z = rw good (now-replied (addTo (m .now) name z))
+
+  withdraw-now : (name : ℕ) → replied (withdrawIn m name) ≡ replied (withdrawFrom (m .now) name)
+  unfolding withdrawIn
+  withdraw-now name = rw good (now-replied (withdrawFrom (m .now) name))
+
+  schedule-now : (side room : ℕ) → scheduleIn m side room ≡ scheduleOf (m .now) side room
+  unfolding scheduleIn
+  schedule-now side room = rw good
+
+  keep-replied : (number : ℕ) → replied (keepIn m number) ≡ (unless-refuse (leb number greatestStateNumber) 13 0 >>= λ _. accepted 0)
+  unfolding keepIn
+  keep-replied number = rw good (go (leb number greatestStateNumber))
+    where
+      go : (b : Bool) → replied (unless-refuse b 13 0 >>= λ _. accepted (statesFrom (m .now) (set (keptStates m) number (keptFrom (m .now))))) ≡ (unless-refuse b 13 0 >>= λ _. accepted 0)
+      go true = refl
+      go false = refl
+
+  -- Above 7 nothing is kept.
+  return-replied : (number : ℕ) → replied (returnIn m number) ≡ (unless-refuse (isUsed (keptUnder m number)) 13 0 >>= λ _. accepted 0)
+  unfolding returnIn
+  return-replied number = rw good (go (leb number greatestStateNumber) refl (isUsed (keptUnder m number)) refl)
+    where
+      go : (b : Bool) → leb number greatestStateNumber ≡ b → (u : Bool) → isUsed (keptUnder m number) ≡ u
+          → replied (unless-refuse b 13 0 >>= λ _. unless-refuse u 13 0 >>= λ _. accepted (statesFrom (stateOf (m .now .header) (keptUnder m number)) (keptStates m))) ≡ (unless-refuse u 13 0 >>= λ _. accepted 0)
+      go true e true f = refl
+      go true e false f = refl
+      go false e false f = refl
+      go false e true f = absurd (not-both f (ap isUsed (none-above m number (leb-false number 7 e)) ∙ not-used))
+
+-- The promises
+
+module _ (s : List ℕ) (j : Job) (calls : List Call) (m : OpenStates) (from : CallsFrom s j calls m) where
   fits : HeaderFits (j .header)
   fits = accepted-fits s j (from .is-accepted) .fits .header
 
-  done : After (j .header) [] [] calls
-  done = after (j .header) fits [] [] (record { rules = tt; same = λ p. (λ x. x, λ x. x); number = refl; apart = tt }) calls (from .nameable)
+  -- The hazards in their places.
+  abbrev placed : States (List NamedHazard)
+  placed = statesAfterAll (placedAfter (j .header)) (opened []) calls
 
-  memory : m ≡ laidOut (j .header) (done .last)
-  memory = from .memory ∙ ap (λ (a : Answer StoredJob). afterCalls (memoryAfter a (from .before)) calls) (opened-empty s j (from .is-accepted) (from .empty)) ∙ done .memory
+  done : Follows (j .header) placed (hazardsAfter (j .header) calls) m
+  done =
+      let start = follows-all (j .header) fits (opened []) (opened []) _ (follows-opened (j .header)) calls (from .nameable) in
+      let memory : m ≡ afterCalls (statesFrom (laidOut (j .header) []) (replicate mostKept nothingKept)) calls =
+      from .memory ∙ ap (λ (a : Answer OpenStates). afterCalls (memoryAfter a (from .before)) calls) (states-empty s j (from .is-accepted) (from .empty)) in
+      subst (Follows (j .header) placed (hazardsAfter (j .header) calls)) (sym memory) start
 
-  few : length (done .last) ≤ 256
-  few = laid-few (j .header) (done .last) fits (done .kept .rules)
+  good : areOpenStates m ≡ true
+  good = laid-states (j .header) fits (done .laid) (agree-stand (j .header) placed (hazardsAfter (j .header) calls) (done .agree))
 
-  stood : Standing (j .header) (addedSince (j .header) [] calls) m
-  stood = rw memory (record {
-    is-open = laid-open (j .header) (done .last) fits (done .kept .rules);
-    layout = ap (laidOut (j .header)) (sym (laid-standing (j .header) (done .last)));
-    few = omega (arith, few, done .kept .number);
-    each = λ p. rw (laid-standing (j .header) (done .last)) (done .kept .same p);
-    next-add = add-replied (j .header) fits (done .kept);
-    next-withdrawal = withdraw-replied (j .header) fits (done .kept);
-  })
+  -- What is kept under a number.
+  kept-holds : (number : ℕ) → HoldsKept (j .header) (hazardsAfter (j .header) calls .kept number) (keptUnder m number)
+  kept-holds number = rw (done .laid .kept number) (go (placed .kept number) (hazardsAfter (j .header) calls .kept number) (done .agree .kept number))
+    where
+      go : (x y : Kept (List NamedHazard)) → AgreeKept (j .header) x y → HoldsKept (j .header) y (laidKept (j .header) x)
+      go nothing nothing a = refl
+      go nothing (state past) a = absurd a
+      go (state ps) nothing a = absurd a
+      go (state ps) (state past) a = (kept-used (j .header) fits ps, holds (j .header) fits a)
 
-  scheduled : (zs : List Hazard) → length zs ≤ 256 → ((z : Hazard) → List·Memᴰ z zs ↔ List·Memᴰ z (map unnamed (addedSince (j .header) [] calls))) → (side room : ℕ) → scheduleOf m side room ≡ plan (writeJob (madeFrom (j .header) zs)) side room
+  kept-told : (number : ℕ) → isUsed (keptUnder m number) ≡ isKept (hazardsAfter (j .header) calls .kept number)
+  kept-told number = ap isUsed (done .laid .kept number) ∙ go (placed .kept number) (hazardsAfter (j .header) calls .kept number) (done .agree .kept number)
+    where
+      go : (x y : Kept (List NamedHazard)) → AgreeKept (j .header) x y → isUsed (laidKept (j .header) x) ≡ isKept y
+      go nothing nothing a = not-used
+      go nothing (state past) a = absurd a
+      go (state ps) nothing a = absurd a
+      go (state ps) (state past) a = kept-used (j .header) fits ps
+
+  stood : Standing (j .header) (hazardsAfter (j .header) calls) m
+  stood = record {
+    is-open = good;
+    state-now = rw (done .laid .now) (holds (j .header) fits (done .agree .now));
+    states-kept = kept-holds;
+    next-add = λ name z. add-now m good name z ∙ ap (λ (a : StoredJob). replied (addTo a name z)) (done .laid .now) ∙ add-replied (j .header) fits (done .agree .now) name z;
+    next-withdrawal = λ name. withdraw-now m good name ∙ ap (λ (a : StoredJob). replied (withdrawFrom a name)) (done .laid .now) ∙ withdraw-replied (j .header) fits (done .agree .now) name;
+    next-keep = keep-replied m good;
+    next-return = λ number. return-replied m good number ∙ ap (λ (b : Bool). unless-refuse b 13 0 >>= λ _. accepted 0) (kept-told number);
+  }
+
+  scheduled : (zs : List Hazard) → length zs ≤ 256 → ((z : Hazard) → List·Memᴰ z zs ↔ List·Memᴰ z (map unnamed (addedSince (j .header) calls))) → (side room : ℕ) → scheduleIn m side room ≡ plan (writeJob (madeFrom (j .header) zs)) side room
   scheduled zs most each side room =
-      ap (λ (x : StoredJob). scheduleOf x side room) memory ∙ schedule-laid (j .header) (done .last) fits (done .kept .rules) side room
-      ∙ same-plans (j .header) fits (map unnamed (done .last)) zs (rw (length-map (done .last) unnamed) few) most may (λ z k. each z .1 (across z (λ p. done .kept .same p .0) k)) (λ z k. across z (λ p. done .kept .same p .1) (each z .0 k)) side room
+      let now = done .agree .now in
+      schedule-now m good side room ∙ ap (λ (a : StoredJob). scheduleOf a side room) (done .laid .now) ∙ schedule-laid (j .header) (placed .now) fits (now .rules) side room
+      ∙ same-plans (j .header) fits (map unnamed (placed .now)) zs (rw (length-map (placed .now) unnamed) (laid-few (j .header) (placed .now) fits (now .rules))) most may (λ z k. each z .1 (across z (λ p. now .same p .0) k)) (λ z k. across z (λ p. now .same p .1) (each z .0 k)) side room
     where
       across : (z : Hazard) {ps qs : List NamedHazard} → ((p : NamedHazard) → List·Memᴰ p ps → List·Memᴰ p qs) → List·Memᴰ z (map unnamed ps) → List·Memᴰ z (map unnamed qs)
       across z {ps} {qs} f k = let w = Memᴰ·of-map unnamed ps k in subst (λ (y : Hazard). List·Memᴰ y (map unnamed qs)) (w .2) (Memᴰ·map unnamed (f (w .0) (w .1)))
 
-      may : (z : Hazard) → List·Memᴰ z (map unnamed (done .last)) → Admitted (j .header) z
-      may z k = let w = Memᴰ·of-map unnamed (done .last) k in subst (Admitted (j .header)) (w .2) (stand-each (j .header) 0 (done .last) (done .kept .rules) (w .1))
+      may : (z : Hazard) → List·Memᴰ z (map unnamed (placed .now)) → Admitted (j .header) z
+      may z k = let w = Memᴰ·of-map unnamed (placed .now) k in subst (Admitted (j .header)) (w .2) (stand-each (j .header) 0 (placed .now) (done .agree .now .rules) (w .1))
 
 pub schedule-promise : SchedulePromise
 schedule-promise s j calls m from zs most each side room = scheduled s j calls m from zs most each side room
@@ -107,18 +194,92 @@ schedule-promise s j calls m from zs most each side room = scheduled s j calls m
 pub standing-promise : StandingPromise
 standing-promise s j calls m from = stood s j calls m from
 
+pub return-promise : ReturnPromise
+return-promise s j before since number earlier m most other first second =
+    let h = j .header in
+    done s j (before ++ keepAs number ∷ since ++ returnTo number ∷ []) m second .laid .now
+    ∙ ap (laidOut h) (returned (placedAfter h) number (opened []) before since most other)
+    ∙ sym (done s j before earlier first .laid .now)
+
+-- In memory of any content
+
+pub keep-promise : KeepPromise
+unfolding keepIn
+keep-promise m next number e =
+    let b1 = bound (unless-refuse (areOpenStates m) 3 0) _ next e in
+    let b2 = bound (unless-refuse (leb number greatestStateNumber) 13 0) _ next (b1 .rest) in
+    let most : number ≤ 7 = leb-true _ _ (tested (leb number greatestStateNumber) 13 0 (b2 .first) (b2 .taken)) in
+    let ks = set (keptStates m) number (keptFrom (m .now)) in
+    let same : statesFrom (m .now) ks ≡ next = let q = b2 .rest in cc in (
+      sym (ap (λ (x : OpenStates). keptUnder x number) same) ∙ kept-under (m .now) ks (length-set (keptStates m) number (keptFrom (m .now))) number ∙ getD-set-same (keptStates m) number (keptFrom (m .now)) nothingKept (omega arith),
+      sym (ap (λ (x : OpenStates). x .now) same),
+    )
+
+module _ (m : OpenStates) (number : ℕ) where
+  edit-kept : (b : Bool) (a : Answer StoredJob) → keptUnder (memoryAfter (unless-refuse b 3 0 >>= λ _. a >>= λ x. accepted (statesFrom x (keptStates m))) m) number ≡ keptUnder m number
+  edit-kept true (accepted x) = refl
+  edit-kept true (refused k v) = refl
+  edit-kept false a = refl
+
+  keep-kept : (n : ℕ) → (n ≡ number → ⊥) → (b c : Bool) → keptUnder (memoryAfter (unless-refuse b 3 0 >>= λ _. unless-refuse c 13 0 >>= λ _. accepted (statesFrom (m .now) (set (keptStates m) n (keptFrom (m .now))))) m) number ≡ keptUnder m number
+  keep-kept n other true true =
+      kept-under (m .now) (set (keptStates m) n (keptFrom (m .now))) (length-set (keptStates m) n (keptFrom (m .now))) number
+      ∙ getD-set-other (keptStates m) n number (keptFrom (m .now)) nothingKept (λ e. other (sym e))
+  keep-kept n other true false = refl
+  keep-kept n other false c = refl
+
+  return-kept : (a : StoredJob) (b c d : Bool) → keptUnder (memoryAfter (unless-refuse b 3 0 >>= λ _. unless-refuse c 13 0 >>= λ _. unless-refuse d 13 0 >>= λ _. accepted (statesFrom a (keptStates m))) m) number ≡ keptUnder m number
+  return-kept a true true true = refl
+  return-kept a true true false = refl
+  return-kept a true false d = refl
+  return-kept a false c d = refl
+
+pub untouched-promise : UntouchedPromise
+unfolding afterCall addIn withdrawIn keepIn returnIn
+untouched-promise m (edit (add name z)) number other = edit-kept m number (areOpenStates m) (addTo (m .now) name z)
+untouched-promise m (edit (withdraw name)) number other = edit-kept m number (areOpenStates m) (withdrawFrom (m .now) name)
+untouched-promise m (schedule side room) number other = refl
+untouched-promise m (keepAs n) number other = keep-kept m number n (λ e. other (ap keepAs e)) (areOpenStates m) (leb n greatestStateNumber)
+untouched-promise m (returnTo n) number other = return-kept m number (stateOf (m .now .header) (keptUnder m n)) (areOpenStates m) (leb n greatestStateNumber) (isUsed (keptUnder m n))
+
+-- A name that is withdrawn stands no more.
+
+sound-counted : (h : Header) (n : ℕ) (k : KeptState) → keptSound h k ≡ keptSound (counted h n) k
+unfolding keptSound
+sound-counted h n k = refl
+
+module _ (m : OpenStates) (good : areOpenStates m ≡ true) (name : ℕ) where
+  abbrev left : List NamedHazard
+  left = without name (standing (m .now))
+
+  rules : Stand (m .now .header) 0 left
+  rules = without-stand (m .now .header) 0 name (standing (m .now)) (open-standing (m .now) (now-open m good))
+
+  header : HeaderFits (m .now .header)
+  header = open-header (m .now) (now-open m good)
+
+  left-open : areOpenStates (statesFrom (laidOut (m .now .header) left) (keptStates m)) ≡ true
+  left-open =
+      states-sound (statesFrom (laidOut (m .now .header) left) (keptStates m)) (laid-open (m .now .header) left header rules)
+      (λ number. sym (sound-counted (m .now .header) (length left) (keptUnder m number)) ∙ each-sound m good number)
+
+  added-again : (z : Hazard) → replied (addTo (laidOut (m .now .header) left) name z) ≡ (admit (m .now .header) name z >>= λ _. accepted 0)
+  added-again z = ap replied (add-laid (m .now .header) left header rules name z) ∙ rw (without-stands name (standing (m .now))) (go (admit (m .now .header) name z))
+    where
+      go : (a : Answer (Unit {0})) → replied (a >>= λ _. accepted (laidOut (m .now .header) (inserted (named name z) (without name (standing (m .now)))))) ≡ (a >>= λ _. accepted 0)
+      go (accepted u) = refl
+      go (refused n v) = refl
+
 pub again-promise : AgainPromise
-unfolding withdrawFrom
+unfolding withdrawIn withdrawFrom
 again-promise m next name e z =
-    let b1 = bound (unless-refuse (isOpenJob m) 3 0) _ next e in
-    let b2 = bound (unless-refuse (stands name (standing m)) 12 name) _ next (b1 .rest) in
-    let same : laidOut (m .header) (without name (standing m)) ≡ next = let q = b2 .rest in cc in
-    let good = tested (isOpenJob m) 3 0 (b1 .first) (b1 .taken) in
-    let left = without name (standing m) in
-    let rules = without-stand (m .header) 0 name (standing m) (open-standing m good) in
-    subst (λ (n : StoredJob). replied (addTo n name z) ≡ (admit (m .header) name z >>= λ _. accepted 0)) same
-    (ap replied (add-laid (m .header) left (open-header m good) rules name z) ∙ rw (without-stands name (standing m)) (go (admit (m .header) name z)))
-  where
-    go : (a : Answer (Unit {0})) → replied (a >>= λ _. accepted (laidOut (m .header) (inserted (named name z) (without name (standing m))))) ≡ (a >>= λ _. accepted 0)
-    go (accepted u) = refl
-    go (refused n v) = refl
+    let b1 = bound (unless-refuse (areOpenStates m) 3 0) _ next e in
+    let good = tested (areOpenStates m) 3 0 (b1 .first) (b1 .taken) in
+    let b2 = bound (withdrawFrom (m .now) name) _ next (b1 .rest) in
+    let b3 = bound (unless-refuse (isOpenJob (m .now)) 3 0) _ (b2 .first) (b2 .taken) in
+    let b4 = bound (unless-refuse (stands name (standing (m .now))) 12 name) _ (b2 .first) (b3 .rest) in
+    let now : laidOut (m .now .header) (without name (standing (m .now))) ≡ b2 .first = let q = b4 .rest in cc in
+    let same : statesFrom (b2 .first) (keptStates m) ≡ next = let q = b2 .rest in cc in
+    let whole = ap (λ (a : StoredJob). statesFrom a (keptStates m)) now ∙ same in
+    subst (λ (n : OpenStates). replied (addIn n name z) ≡ (admit (m .now .header) name z >>= λ _. accepted 0)) whole
+    (add-now (statesFrom (laidOut (m .now .header) (without name (standing (m .now)))) (keptStates m)) (left-open m good name) name z ∙ added-again m good name z)

@@ -1,13 +1,15 @@
--- Lists of calls on an open job: which hazards stand after them, apart from the memory, and what the calls then answer.
+-- Lists of calls on an open job: which hazards stand after them and which states are kept, apart from the memory, and what the calls then
+-- answer.
 -- Assumes nothing.
 use Prim.Native.Nat.{ℕ, _≤_}
 use mathlib.Core.Path.{_≡_}
 use mathlib.Core.Logic.{_↔_}
-use mathlib.Core.Bool.{true, false, _||_, not}
+use mathlib.Core.Bool.{Bool, true, false, _||_, not}
 use mathlib.Core.List.{List, [], _∷_, _++_, map, List·Memᴰ}
 use lib.ListN.{length}
+use lib.Dec.{leb, eqb}
 use Rattle.refusal.specs.Choice.{if_then_else_}
-use Rattle.refusal.specs.Answer.{Answer, accepted, _>>=_, unless-refuse, isAccepted}
+use Rattle.refusal.specs.Answer.{accepted, _>>=_, unless-refuse, isAccepted}
 use Rattle.job.specs.declared.Header.{Header}
 use Rattle.job.specs.declared.Hazard.{Hazard}
 use Rattle.job.specs.declared.NamedHazard.{NamedHazard}
@@ -16,96 +18,197 @@ use Rattle.job.specs.Job.{Job, named, unnamed}
 use Rattle.job.specs.Writing.{writeJob}
 use Rattle.planning.specs.Envelope.{acceptJob}
 use Rattle.schedule.specs.Plan.{plan}
-use Rattle.open_memory.specs.Memory.{mostStanding, greatestName, standing, laidOut, madeFrom, stands, without, admit, isOpenJob}
-use Rattle.open_job.specs.Open.{openJob, addTo, withdrawFrom, scheduleOf, memoryAfter, replied}
+use Rattle.open_memory.specs.Memory.{mostStanding, greatestName, standing, laidOut, madeFrom, stands, without, admit}
+use Rattle.open_job.specs.Open.{memoryAfter, replied}
+use Rattle.kept_states.specs.declared.KeptState.{KeptState}
+use Rattle.kept_states.specs.declared.OpenStates.{OpenStates}
+use Rattle.kept_states.specs.States.{greatestStateNumber, nothingKept, keptFrom, stateOf, isUsed, keptStates, keptUnder, areOpenStates, openStates, addIn, withdrawIn, scheduleIn, keepIn, returnIn}
 
--- "Calls after that: add, withdraw, schedule of a side."
+-- The calls
+
+-- Add and withdraw: the calls that edit the state now.
+pub data Edit : Type 0 where
+  add : (name : ℕ) → Hazard → Edit
+  withdraw : (name : ℕ) → Edit
+
+-- "Calls after that: add, withdraw, schedule of a side"; and "keep and return", with a state number.
 pub data Call : Type 0 where
-  add : (name : ℕ) → Hazard → Call
-  withdraw : (name : ℕ) → Call
+  edit : Edit → Call
   schedule : (side room : ℕ) → Call
+  keepAs : (number : ℕ) → Call
+  returnTo : (number : ℕ) → Call
 
 -- "Each named by a byte": which names an add can have.
-abbrev pub Nameable : Call → Type 0
+abbrev pub Nameable : Edit → Type 0
 Nameable (add name z) = name ≤ greatestName
 Nameable (withdraw name) = Unit {0}
-Nameable (schedule side room) = Unit {0}
 
 -- Apart from the memory
 
--- The hazards that stand after a call, where those in `past` stood before it. An add is refused where its name stands and where its
+-- What is kept under a number.
+pub data Kept (A : Type 0) : Type 0 where
+  nothing : Kept A
+  state : A → Kept A
+
+-- The state now, and what is kept under each number. A state is of any kind: the hazards that stand, or the edits that count.
+pub record States (A : Type 0) : Type 0 where
+  pub now : A
+  pub kept : (number : ℕ) → Kept A
+
+module _ {A : Type 0} where
+  abbrev pub isKept : Kept A → Bool
+  isKept nothing = false
+  isKept (state a) = true
+
+  -- "Opening empties all eight."
+  abbrev pub opened : A → States A
+  opened a = record { now = a; kept = λ number. nothing }
+
+  -- "Keeping under a used number replaces it." Above 7 it is refused, and "a refused call alters nothing".
+  unfoldable pub keptAs : (number : ℕ) → States A → States A
+  keptAs number s = if leb number greatestStateNumber then record { now = s .now; kept = λ k. if eqb number k then state (s .now) else s .kept k } else s
+
+  -- "After a return, the open job is as when that state was last kept ..; other kept states are untouched." Where nothing is kept it is
+  -- refused; above 7 nothing is ever kept.
+  abbrev pub returnedTo : Kept A → States A → States A
+  returnedTo nothing s = s
+  returnedTo (state a) s = record { now = a; kept = s .kept }
+
+  -- The states after a call, where `next` says what an edit makes of the state now; and after a list of calls.
+  unfoldable pub statesAfter : (next : A → Edit → A) → States A → Call → States A
+  statesAfter next s (edit e) = record { now = next (s .now) e; kept = s .kept }
+  statesAfter next s (schedule side room) = s
+  statesAfter next s (keepAs number) = keptAs number s
+  statesAfter next s (returnTo number) = returnedTo (s .kept number) s
+
+  unfoldable pub statesAfterAll : (next : A → Edit → A) → States A → List Call → States A
+  statesAfterAll next s [] = s
+  statesAfterAll next s (c ∷ cs) = statesAfterAll next (statesAfter next s c) cs
+
+-- The hazards that stand after an edit, where those in `past` stood before it. An add is refused where its name stands and where its
 -- hazard is refused; "a refused call alters nothing".
-unfoldable pub standAfter : Header → (past : List NamedHazard) → Call → List NamedHazard
+unfoldable pub standAfter : Header → (past : List NamedHazard) → Edit → List NamedHazard
 standAfter h past (add name z) = if stands name past || not (isAccepted (admit h name z)) then past else past ++ named name z ∷ []
 standAfter h past (withdraw name) = without name past
-standAfter h past (schedule side room) = past
 
--- "The hazards added and not withdrawn since", after a list of calls.
-unfoldable pub addedSince : Header → (past : List NamedHazard) → List Call → List NamedHazard
-addedSince h past [] = past
-addedSince h past (c ∷ cs) = addedSince h (standAfter h past c) cs
+-- "The hazards added and not withdrawn since", after a list of calls from an empty job: "after a return, the hazards that stood when its
+-- state was last kept count as those".
+abbrev pub hazardsAfter : Header → List Call → States (List NamedHazard)
+hazardsAfter h calls = statesAfterAll (standAfter h) (opened []) calls
 
--- The same in the paper's words: one of the calls added the hazard and was not refused, and none of the later calls withdraws its name.
-pub record Added (h : Header) (past : List NamedHazard) (calls : List Call) (p : NamedHazard) : Type 0 where
-  pub before : List Call
-  pub since : List Call
-  pub split : calls ≡ before ++ add (p .name) (unnamed p) ∷ since
-  pub fresh : stands (p .name) (addedSince h past before) ≡ false
+abbrev pub addedSince : Header → List Call → List NamedHazard
+addedSince h calls = hazardsAfter h calls .now
+
+-- The same, by the edits that count.
+
+-- The edits that count after a list of calls: those made; after a return, those that counted when its state was last kept.
+abbrev pub editsThatCount : List Call → List Edit
+editsThatCount calls = statesAfterAll (λ (edits : List Edit) (e : Edit). edits ++ e ∷ []) (opened []) calls .now
+
+unfoldable pub standAfterAll : Header → (past : List NamedHazard) → List Edit → List NamedHazard
+standAfterAll h past [] = past
+standAfterAll h past (e ∷ es) = standAfterAll h (standAfter h past e) es
+
+-- One of these edits added the hazard and was not refused, and none of the later ones withdraws its name.
+pub record Added (h : Header) (past : List NamedHazard) (edits : List Edit) (p : NamedHazard) : Type 0 where
+  pub before : List Edit
+  pub since : List Edit
+  pub split : edits ≡ before ++ add (p .name) (unnamed p) ∷ since
+  pub fresh : stands (p .name) (standAfterAll h past before) ≡ false
   pub admitted : isAccepted (admit h (p .name) (unnamed p)) ≡ true
-  pub kept : List·Memᴰ (withdraw (p .name)) since → ⊥
+  pub not-withdrawn : List·Memᴰ (withdraw (p .name)) since → ⊥
 
 -- A hazard stands exactly if it was added so.
 abbrev pub AddedPromise : Type 0
-AddedPromise = (h : Header) (calls : List Call) (p : NamedHazard) → List·Memᴰ p (addedSince h [] calls) ↔ Added h [] calls p
+AddedPromise = (h : Header) (calls : List Call) (p : NamedHazard) → List·Memᴰ p (addedSince h calls) ↔ Added h [] (editsThatCount calls) p
+
+-- "After a return, the hazards that stood when its state was last kept count as those added and not withdrawn."
+abbrev pub CountPromise : Type 0
+CountPromise =
+    (h : Header) (before since : List Call) (number : ℕ) → number ≤ greatestStateNumber → (List·Memᴰ (keepAs number) since → ⊥)
+    → addedSince h (before ++ keepAs number ∷ since ++ returnTo number ∷ []) ≡ addedSince h before
 
 -- In the memory
 
 -- The memory after a call, and after a list of calls.
-unfoldable pub afterCall : StoredJob → Call → StoredJob
-afterCall m (add name z) = memoryAfter (addTo m name z) m
-afterCall m (withdraw name) = memoryAfter (withdrawFrom m name) m
+unfoldable pub afterCall : OpenStates → Call → OpenStates
+afterCall m (edit (add name z)) = memoryAfter (addIn m name z) m
+afterCall m (edit (withdraw name)) = memoryAfter (withdrawIn m name) m
 afterCall m (schedule side room) = m
+afterCall m (keepAs number) = memoryAfter (keepIn m number) m
+afterCall m (returnTo number) = memoryAfter (returnIn m number) m
 
-unfoldable pub afterCalls : StoredJob → List Call → StoredJob
+unfoldable pub afterCalls : OpenStates → List Call → OpenStates
 afterCalls m [] = m
 afterCalls m (c ∷ cs) = afterCalls (afterCall m c) cs
 
 -- "A list of these calls from an empty job with an accepted header": its bytes s, the job j that they are, and the memory after the
 -- opening, whatever that held before, and after the calls.
-pub record CallsFrom (s : List ℕ) (j : Job) (calls : List Call) (m : StoredJob) : Type 0 where
+pub record CallsFrom (s : List ℕ) (j : Job) (calls : List Call) (m : OpenStates) : Type 0 where
   pub is-accepted : acceptJob s ≡ accepted j
   pub empty : j .hazards ≡ []
-  pub nameable : (c : Call) → List·Memᴰ c calls → Nameable c
-  pub before : StoredJob
-  pub memory : m ≡ afterCalls (memoryAfter (openJob s) before) calls
+  pub nameable : (e : Edit) → List·Memᴰ (edit e) calls → Nameable e
+  pub before : OpenStates
+  pub memory : m ≡ afterCalls (memoryAfter (openStates s) before) calls
 
 -- "The schedule equals that of a job made from the hazards added and not withdrawn since": the whole reply, whatever the hazards' order.
+-- "The promise for lists of calls now includes keep and return."
 abbrev pub SchedulePromise : Type 0
 SchedulePromise =
-    (s : List ℕ) (j : Job) (calls : List Call) (m : StoredJob) → CallsFrom s j calls m
-    → (zs : List Hazard) → length zs ≤ mostStanding → ((z : Hazard) → List·Memᴰ z zs ↔ List·Memᴰ z (map unnamed (addedSince (j .header) [] calls)))
-    → (side room : ℕ) → scheduleOf m side room ≡ plan (writeJob (madeFrom (j .header) zs)) side room
+    (s : List ℕ) (j : Job) (calls : List Call) (m : OpenStates) → CallsFrom s j calls m
+    → (zs : List Hazard) → length zs ≤ mostStanding → ((z : Hazard) → List·Memᴰ z zs ↔ List·Memᴰ z (map unnamed (addedSince (j .header) calls)))
+    → (side room : ℕ) → scheduleIn m side room ≡ plan (writeJob (madeFrom (j .header) zs)) side room
 
--- What stands in the memory are those hazards: so the next add and the next withdrawal are refused 12 exactly by their names.
-pub record Standing (h : Header) (kept : List NamedHazard) (m : StoredJob) : Type 0 where
-  pub is-open : isOpenJob m ≡ true
-  pub layout : m ≡ laidOut h (standing m)
-  pub few : length kept ≤ mostStanding
-  pub each : (p : NamedHazard) → List·Memᴰ p (standing m) ↔ List·Memᴰ p kept
-  pub next-add : (name : ℕ) (z : Hazard) → replied (addTo m name z) ≡ (unless-refuse (not (stands name kept)) 12 name >>= λ _. admit h name z >>= λ _. accepted 0)
-  pub next-withdrawal : (name : ℕ) → replied (withdrawFrom m name) ≡ (unless-refuse (stands name kept) 12 name >>= λ _. accepted 0)
+-- Those hazards stand in the state a.
+pub record Holds (h : Header) (past : List NamedHazard) (a : StoredJob) : Type 0 where
+  pub layout : a ≡ laidOut h (standing a)
+  pub few : length past ≤ mostStanding
+  pub each : (p : NamedHazard) → List·Memᴰ p (standing a) ↔ List·Memᴰ p past
+
+-- Nothing is kept, or a state in which they stand.
+abbrev pub HoldsKept : Header → Kept (List NamedHazard) → KeptState → Type 0
+HoldsKept h nothing k = k ≡ nothingKept
+HoldsKept h (state past) k = (isUsed k ≡ true) × Holds h past (stateOf h k)
+
+-- Those hazards stand in the memory, now and in what is kept: so the next add and the next withdrawal are refused 12 exactly by their
+-- names, the next keep 13 exactly above 7, and the next return 13 exactly where nothing is kept.
+pub record Standing (h : Header) (s : States (List NamedHazard)) (m : OpenStates) : Type 0 where
+  pub is-open : areOpenStates m ≡ true
+  pub state-now : Holds h (s .now) (m .now)
+  pub states-kept : (number : ℕ) → HoldsKept h (s .kept number) (keptUnder m number)
+  pub next-add : (name : ℕ) (z : Hazard) → replied (addIn m name z) ≡ (unless-refuse (not (stands name (s .now))) 12 name >>= λ _. admit h name z >>= λ _. accepted 0)
+  pub next-withdrawal : (name : ℕ) → replied (withdrawIn m name) ≡ (unless-refuse (stands name (s .now)) 12 name >>= λ _. accepted 0)
+  pub next-keep : (number : ℕ) → replied (keepIn m number) ≡ (unless-refuse (leb number greatestStateNumber) 13 0 >>= λ _. accepted 0)
+  pub next-return : (number : ℕ) → replied (returnIn m number) ≡ (unless-refuse (isKept (s .kept number)) 13 0 >>= λ _. accepted 0)
 
 abbrev pub StandingPromise : Type 0
-StandingPromise = (s : List ℕ) (j : Job) (calls : List Call) (m : StoredJob) → CallsFrom s j calls m → Standing (j .header) (addedSince (j .header) [] calls) m
+StandingPromise = (s : List ℕ) (j : Job) (calls : List Call) (m : OpenStates) → CallsFrom s j calls m → Standing (j .header) (hazardsAfter (j .header) calls) m
 
 -- "A withdrawn name can be added again": the add is refused by its hazard alone.
 abbrev pub AgainPromise : Type 0
 AgainPromise =
-    (m next : StoredJob) (name : ℕ) → withdrawFrom m name ≡ accepted next
-    → (z : Hazard) → replied (addTo next name z) ≡ (admit (m .header) name z >>= λ _. accepted 0)
+    (m next : OpenStates) (name : ℕ) → withdrawIn m name ≡ accepted next
+    → (z : Hazard) → replied (addIn next name z) ≡ (admit (m .now .header) name z >>= λ _. accepted 0)
+
+-- "After a return, the open job is as when that state was last kept, whichever adds and withdrawals came between": all of it, the
+-- header and the zeros behind the hazards too.
+abbrev pub ReturnPromise : Type 0
+ReturnPromise =
+    (s : List ℕ) (j : Job) (before since : List Call) (number : ℕ) (earlier m : OpenStates)
+    → number ≤ greatestStateNumber → (List·Memᴰ (keepAs number) since → ⊥)
+    → CallsFrom s j before earlier → CallsFrom s j (before ++ keepAs number ∷ since ++ returnTo number ∷ []) m
+    → m .now ≡ earlier .now
+
+-- "Other kept states are untouched": by every call but a keep under that number, so also by a return to it; in memory of any content.
+abbrev pub UntouchedPromise : Type 0
+UntouchedPromise = (m : OpenStates) (c : Call) (number : ℕ) → (c ≡ keepAs number → ⊥) → keptUnder (afterCall m c) number ≡ keptUnder m number
+
+-- "Keeping under a used number replaces it", and leaves the open job as it is.
+abbrev pub KeepPromise : Type 0
+KeepPromise = (m next : OpenStates) (number : ℕ) → keepIn m number ≡ accepted next → (keptUnder next number ≡ keptFrom (m .now)) × (next .now ≡ m .now)
 
 -- Memory keeps the rules exactly if an opening and calls can leave it so.
 abbrev pub MemoryPromise : Type 0
 MemoryPromise =
-    (m : StoredJob) → length (m .hazards) ≡ mostStanding
-    → (isOpenJob m ≡ true) ↔ ((s : List ℕ) × (j : Job) × (calls : List Call) × CallsFrom s j calls m)
+    (m : OpenStates) → length (m .now .hazards) ≡ mostStanding → ((k : KeptState) → List·Memᴰ k (keptStates m) → length (k .hazards) ≡ mostStanding)
+    → (areOpenStates m ≡ true) ↔ ((s : List ℕ) × (j : Job) × (calls : List Call) × CallsFrom s j calls m)

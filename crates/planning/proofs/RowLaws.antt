@@ -13,7 +13,7 @@ use borrow.Author.Tests.{ltb-true, ltb-false, lt-ltb, le-ltb}
 use Rattle.refusal.specs.Answer.{Answer, accepted, refused, _>>=_, unless-refuse}
 use Rattle.refusal.specs.Refusal.{numberOf, valueOf, refusal}
 use Rattle.refusal.specs.declared.Refusal.{Refusal}
-use Rattle.refusal.specs.declared.Refusal.the-variants.{Ended, Malformed, HeaderRange, HazardRange, NearBarrier, OffRoad, LeftOver, Argument, Room, Schedule, Ranges, Name}
+use Rattle.refusal.specs.declared.Refusal.the-variants.{Ended, Malformed, HeaderRange, HazardRange, NearBarrier, OffRoad, LeftOver, Argument, Room, Schedule, Ranges, Name, State}
 use Rattle.refusal.proofs.TestLaws.{or-cases, or-left, or-right}
 use Rattle.refusal.proofs.EachLaws.{cons-each}
 use Rattle.job.specs.declared.Header.{Header}
@@ -141,3 +141,4 @@ refused-exactly s r b = rows r
     rows Schedule = reading Schedule (omega arith) (omega arith)
     rows Ranges = reading Ranges (omega arith) (omega arith)
     rows (Name name) = reading (Name name) (omega arith) (omega arith)
+    rows State = reading State (omega arith) (omega arith)

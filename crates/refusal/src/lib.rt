@@ -27,6 +27,8 @@ pub enum Refusal {
     Ranges,
     // This name stands already in the open job (add), or it does not stand (withdraw).
     Name(usize),
+    // A state number above 7, or in a return one under which nothing is kept.
+    State,
 }
 
 // The row's number in the table.
@@ -46,6 +48,7 @@ pub fn refusal_number(refusal: Refusal) -> u64
         Refusal::Schedule => 10,
         Refusal::Ranges => 11,
         Refusal::Name(_) => 12,
+        Refusal::State => 13,
     }
 }
 
@@ -66,6 +69,7 @@ pub fn refusal_value(refusal: Refusal) -> u64
         Refusal::Schedule => 0,
         Refusal::Ranges => 0,
         Refusal::Name(name) => name as u64,
+        Refusal::State => 0,
     }
 }
 

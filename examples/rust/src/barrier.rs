@@ -33,6 +33,7 @@ pub const OUTPUT_SHORT: u64 = 9;
 pub const NO_SCHEDULE: u64 = 10;
 pub const TOO_MANY_RANGES: u64 = 11;
 pub const NAME: u64 = 12;
+pub const STATE: u64 = 13;
 
 /// The calls as C has them.
 pub mod c {
@@ -77,26 +78,42 @@ pub mod c {
         side_and_level: [u8; 2],
     }
 
+    impl Standing {
+        const NONE: [Standing; 256] = [Standing {
+            offsets_and_stations: [0; 4],
+            name: 0,
+            side_and_level: [0; 2],
+        }; 256];
+    }
+
+    #[repr(C)]
+    #[derive(Clone, Copy)]
+    struct Kept {
+        used_and_count: [u32; 2],
+        standing: [Standing; 256],
+    }
+
     /// The engine's own memory of an open job.
     #[repr(C)]
     #[derive(Clone, Copy)]
     pub struct OpenJob {
         header: [u32; 15],
         standing: [Standing; 256],
+        kept: [Kept; 8],
     }
 
     // As barrier.h has it: the engine writes this many bytes.
-    const _: () = assert!(size_of::<OpenJob>() == 5_180);
+    const _: () = assert!(size_of::<OpenJob>() == 46_204);
 
     impl OpenJob {
         /// All 0: memory that was never opened.
         pub const UNOPENED: OpenJob = OpenJob {
             header: [0; 15],
-            standing: [Standing {
-                offsets_and_stations: [0; 4],
-                name: 0,
-                side_and_level: [0; 2],
-            }; 256],
+            standing: Standing::NONE,
+            kept: [Kept {
+                used_and_count: [0; 2],
+                standing: Standing::NONE,
+            }; 8],
         };
     }
 
@@ -148,6 +165,10 @@ pub mod c {
             out: *mut u8,
             out_len: usize,
         ) -> Reply;
+
+        pub fn barrier_keep(job: *mut OpenJob, state: u64) -> Reply;
+
+        pub fn barrier_return(job: *mut OpenJob, state: u64) -> Reply;
     }
 }
 
@@ -253,8 +274,8 @@ pub fn quantities(
 /// A hazard's six numbers, as `OpenJob::add` takes them.
 pub use c::Hazard;
 
-/// A job whose hazards come and go, each under a name. Refused calls leave it
-/// as it was.
+/// A job whose hazards come and go, each under a name, with up to eight kept
+/// states. Refused calls leave it as it was.
 #[derive(Clone)]
 pub struct OpenJob {
     memory: c::OpenJob,
@@ -270,7 +291,7 @@ impl OpenJob {
         Ok(job)
     }
 
-    /// Starts anew with the header of these bytes, and no hazard.
+    /// Starts anew with the header of these bytes, no hazard and no kept state.
     pub fn open(&mut self, bytes: &[u8]) -> Result<(), Refusal> {
         // SAFETY: the memory is lent to this call alone, and the other pointer
         // is good for as many bytes as are named with it.
@@ -299,5 +320,19 @@ impl OpenJob {
         let reply =
             unsafe { c::barrier_open_schedule(&self.memory, side, out.as_mut_ptr(), out.len()) };
         answer(reply).map(|written| written as usize)
+    }
+
+    /// Keeps what stands, under a state number 0 to 7.
+    pub fn keep(&mut self, state: u64) -> Result<(), Refusal> {
+        // SAFETY: the memory is lent to this call alone.
+        let reply = unsafe { c::barrier_keep(&mut self.memory, state) };
+        answer(reply).map(|_| ())
+    }
+
+    /// What stood when this state was last kept stands again; it stays kept.
+    pub fn return_to(&mut self, state: u64) -> Result<(), Refusal> {
+        // SAFETY: the memory is lent to this call alone.
+        let reply = unsafe { c::barrier_return(&mut self.memory, state) };
+        answer(reply).map(|_| ())
     }
 }

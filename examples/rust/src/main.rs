@@ -95,6 +95,7 @@ fn print_refusal(out: &mut impl Write, what: &str, refusal: Refusal) -> io::Resu
         barrier::NO_SCHEDULE => writeln!(out, "these bytes are not a schedule"),
         barrier::TOO_MANY_RANGES => writeln!(out, "more than 64 ranges"),
         barrier::NAME => writeln!(out, "the name {value} stands already, or does not stand"),
+        barrier::STATE => writeln!(out, "no such state number, or nothing is kept under it"),
         _ => writeln!(out, "a number that barrier.h does not have"),
     }
 }

@@ -7,6 +7,7 @@ use reference::Stretch;
 use reference::job::Hazard;
 use reference::level::Run;
 use reference::memory::BYTES;
+use reference::open::STATES;
 
 #[derive(Clone, Copy, PartialEq, Eq)]
 pub enum Kind {
@@ -123,6 +124,15 @@ fn islands(random: &mut Random, hazards: u64) -> Vec<[u64; 6]> {
 pub struct Open {
     pub memory: Memory,
     pub hazards: Vec<Hazard>,
+}
+
+/// The same, kept in all eight states.
+pub fn open_and_kept() -> Open {
+    let mut open = open();
+    for state in 0..STATES as u64 {
+        reference::keep(&mut open.memory.job, state).expect("a state");
+    }
+    open
 }
 
 /// The islands stand in no order of their names.

@@ -7,7 +7,7 @@ use cases::calls::{contract, record, reply};
 
 use crate::jobs::{self, Kind, Order, ROAD_END};
 
-pub const NAMES: [&str; 15] = [
+pub const NAMES: [&str; 21] = [
     "sparse-shuffled",
     "sparse-shuffled-panels-4000",
     "dense-shuffled",
@@ -23,6 +23,12 @@ pub const NAMES: [&str; 15] = [
     "open-add-255",
     "open-withdraw-256",
     "open-schedule-256",
+    "open-add-255-kept",
+    "open-withdraw-256-kept",
+    "open-keep-256-kept",
+    "open-return-256-kept",
+    "open-test-256",
+    "open-test-256-kept",
 ];
 
 /// The name that is added and withdrawn, in the middle of the others.
@@ -74,9 +80,16 @@ impl Single {
             "quantities-64-half" => self.quantities(&schedule_511(), 1),
             "quantity-64-single-calls" => self.single_calls(&jobs::schedule_of_one_level(3), 3),
             "lookup-511-middle" => self.lookup(),
-            "open-add-255" => self.add(),
-            "open-withdraw-256" => self.withdraw(),
-            _ => self.schedule(),
+            "open-add-255" => self.add(jobs::open()),
+            "open-withdraw-256" => self.withdraw(jobs::open()),
+            "open-schedule-256" => self.schedule(),
+            "open-add-255-kept" => self.add(jobs::open_and_kept()),
+            "open-withdraw-256-kept" => self.withdraw(jobs::open_and_kept()),
+            "open-keep-256-kept" => self.keep(),
+            "open-return-256-kept" => self.return_to(jobs::open_and_kept(), 3),
+            // Refused 13 next after the test of the memory.
+            "open-test-256" => self.return_to(jobs::open(), 8),
+            _ => self.return_to(jobs::open_and_kept(), 8),
         }
     }
 
@@ -159,11 +172,11 @@ impl Single {
 
 impl Single {
     /// The 256th hazard.
-    fn add(&self) {
+    fn add(&self, open: jobs::Open) {
         let jobs::Open {
             mut memory,
             hazards,
-        } = jobs::open();
+        } = open;
         let hazard = hazards[usize::from(NAME)];
         reference::withdraw(&mut memory.job, NAME).expect("the name stands");
         for _ in 0..self.times {
@@ -177,13 +190,36 @@ impl Single {
     }
 
     /// One of 256 hazards.
-    fn withdraw(&self) {
-        let open = jobs::open();
+    fn withdraw(&self, open: jobs::Open) {
         for _ in 0..self.times {
             let mut memory = black_box(&open.memory).clone();
             black_box(match self.who {
                 Who::Engine => engine::withdraw(&mut memory, NAME),
                 Who::Reference => reply(reference::withdraw(&mut memory.job, NAME)),
+            });
+        }
+    }
+
+    /// Under a used number; what is kept stays the same.
+    fn keep(&self) {
+        let mut memory = jobs::open_and_kept().memory;
+        for _ in 0..self.times {
+            let memory = black_box(&mut memory);
+            black_box(match self.who {
+                Who::Engine => engine::keep(memory, 3),
+                Who::Reference => reply(reference::keep(&mut memory.job, 3)),
+            });
+        }
+    }
+
+    /// What stands stays the same.
+    fn return_to(&self, open: jobs::Open, state: u64) {
+        let mut memory = open.memory;
+        for _ in 0..self.times {
+            let memory = black_box(&mut memory);
+            black_box(match self.who {
+                Who::Engine => engine::return_to(memory, state),
+                Who::Reference => reply(reference::return_to(&mut memory.job, state)),
             });
         }
     }

@@ -4,6 +4,7 @@ use std::hint::black_box;
 use std::process::ExitCode;
 
 use cases::calls::{contract, record, reply};
+use cases::{Memory, Reply};
 
 use crate::jobs::{self, Kind, Order, ROAD_END};
 use crate::time::{self, Pair, Times};
@@ -285,48 +286,81 @@ fn print_lookup() {
     }
 }
 
-/// Open jobs with 256 hazards, or 255 and one that is added. A call that
-/// changes the memory is given a fresh copy each time.
+/// Open jobs with 256 hazards, or 255 and one that is added.
 fn print_open_job() {
     println!("\nOpen job of 256 hazards and 511 runs, ns per call:\n");
-    println!("| call | engine | reference | engine/reference |");
-    println!("|---|---:|---:|---:|");
-    let jobs::Open { memory, hazards } = jobs::open();
+    println!("| call | full states kept | engine | reference | engine/reference |");
+    println!("|---|---:|---:|---:|---:|");
+    for (kept, open) in [(0, jobs::open()), (8, jobs::open_and_kept())] {
+        for (name, times) in measure_open_job(&open) {
+            println!("| {name} | {kept} | {} |", columns(&times));
+        }
+    }
+    let memory = jobs::open_and_kept().memory;
+    let keep = on_memory(
+        &memory,
+        |memory| engine::keep(memory, 3),
+        |memory| reply(reference::keep(&mut memory.job, 3)),
+    );
+    let return_to = on_memory(
+        &memory,
+        |memory| engine::return_to(memory, 3),
+        |memory| reply(reference::return_to(&mut memory.job, 3)),
+    );
+    for (name, pair) in [("keep", keep), ("return", return_to)] {
+        println!("| {name} | 8 | {} |", columns(&pair.times()));
+    }
+}
+
+fn measure_open_job(open: &jobs::Open) -> Vec<(&'static str, Times)> {
+    let jobs::Open { memory, hazards } = open;
+    let hazard = hazards[127];
     let mut fewer = memory.clone();
     reference::withdraw(&mut fewer.job, 127).expect("the name stands");
-    let add = Pair {
-        engine: Box::new(|| {
-            let mut memory = black_box(&fewer).clone();
-            black_box(engine::add(&mut memory, 127, hazards[127]));
-        }),
-        reference: Box::new(|| {
-            let mut memory = black_box(&fewer).clone();
-            let _ = black_box(reference::add(&mut memory.job, 127, hazards[127]));
-        }),
-    };
-    let withdraw = Pair {
-        engine: Box::new(|| {
-            let mut memory = black_box(&memory).clone();
-            black_box(engine::withdraw(&mut memory, 127));
-        }),
-        reference: Box::new(|| {
-            let mut memory = black_box(&memory).clone();
-            let _ = black_box(reference::withdraw(&mut memory.job, 127));
-        }),
-    };
-    let mut lent = memory.clone();
+    let add = on_memory(
+        &fewer,
+        |memory| engine::add(memory, 127, hazard),
+        |memory| reply(reference::add(&mut memory.job, 127, hazard)),
+    );
+    let withdraw = on_memory(
+        memory,
+        |memory| engine::withdraw(memory, 127),
+        |memory| reply(reference::withdraw(&mut memory.job, 127)),
+    );
     let (mut engine_out, mut reference_out) = (vec![0; 8_192], vec![0; 8_192]);
-    let schedule = Pair {
-        engine: Box::new(|| {
-            black_box(engine::open_schedule(&mut lent, 0, &mut engine_out));
+    let schedule = on_memory(
+        memory,
+        move |memory| engine::open_schedule(memory, 0, &mut engine_out),
+        move |memory| reply(reference::open_schedule(&memory.job, 0, &mut reference_out)),
+    );
+    // Refused 13 next after the test of the memory.
+    let test = on_memory(
+        memory,
+        |memory| engine::return_to(memory, 8),
+        |memory| reply(reference::return_to(&mut memory.job, 8)),
+    );
+    let pairs = [
+        ("add", add),
+        ("withdraw", withdraw),
+        ("schedule", schedule),
+        ("test of the memory", test),
+    ];
+    pairs.map(|(name, pair)| (name, pair.times())).into()
+}
+
+/// A call on an open job; it is given a fresh copy each time.
+fn on_memory<'a>(
+    memory: &'a Memory,
+    mut engine: impl FnMut(&mut Memory) -> Reply + 'a,
+    mut reference: impl FnMut(&mut Memory) -> Reply + 'a,
+) -> Pair<'a> {
+    Pair {
+        engine: Box::new(move || {
+            black_box(engine(&mut black_box(memory).clone()));
         }),
-        reference: Box::new(|| {
-            let job = black_box(&memory.job);
-            let _ = black_box(reference::open_schedule(job, 0, &mut reference_out));
+        reference: Box::new(move || {
+            black_box(reference(&mut black_box(memory).clone()));
         }),
-    };
-    for (name, pair) in [("add", add), ("withdraw", withdraw), ("schedule", schedule)] {
-        println!("| {name} | {} |", columns(&pair.times()));
     }
 }
 

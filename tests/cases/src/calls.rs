@@ -84,6 +84,9 @@ pub type AddCall = dyn Fn(&mut Memory, u8, Hazard) -> Reply;
 /// The memory of an open job, name.
 pub type WithdrawCall = dyn Fn(&mut Memory, u8) -> Reply;
 
+/// The memory of an open job, the number of a state: keep and return.
+pub type StateCall = dyn Fn(&mut Memory, u64) -> Reply;
+
 /// The memory of an open job, side, a room of bytes and its lent part.
 pub type OpenScheduleCall = dyn Fn(&mut Memory, u64, &mut [u8], Range<usize>) -> Reply;
 
@@ -98,6 +101,8 @@ pub struct Calls {
     pub open: Box<OpenCall>,
     pub add: Box<AddCall>,
     pub withdraw: Box<WithdrawCall>,
+    pub keep: Box<StateCall>,
+    pub return_to: Box<StateCall>,
     pub open_schedule: Box<OpenScheduleCall>,
 }
 
@@ -118,6 +123,8 @@ pub fn right() -> Calls {
         open: Box::new(|memory, bytes| reply(reference::open(&mut memory.job, bytes))),
         add: Box::new(|memory, name, hazard| reply(reference::add(&mut memory.job, name, hazard))),
         withdraw: Box::new(|memory, name| reply(reference::withdraw(&mut memory.job, name))),
+        keep: Box::new(|memory, state| reply(reference::keep(&mut memory.job, state))),
+        return_to: Box::new(|memory, state| reply(reference::return_to(&mut memory.job, state))),
         open_schedule: Box::new(|memory, side, room, lent| {
             reply(reference::open_schedule(&memory.job, side, &mut room[lent]))
         }),

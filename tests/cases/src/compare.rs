@@ -64,6 +64,12 @@ pub enum Step {
     Withdraw {
         name: u8,
     },
+    Keep {
+        state: u64,
+    },
+    Return {
+        state: u64,
+    },
     Schedule {
         side: u64,
         out_length: usize,
@@ -116,6 +122,8 @@ impl fmt::Display for Case {
                         write!(f, "--add {memory} {name} {fields}")
                     }
                     Step::Withdraw { name } => write!(f, "--withdraw {memory} {name}"),
+                    Step::Keep { state } => write!(f, "--keep {memory} {state}"),
+                    Step::Return { state } => write!(f, "--return {memory} {state}"),
                     Step::Schedule {
                         side,
                         out_length,
@@ -434,6 +442,16 @@ impl Checker {
                 let got = (self.calls.withdraw)(&mut lent, *name);
                 (calls::reply(expected), got, None)
             }
+            Step::Keep { state } => {
+                let expected = reference::keep(&mut expected_lent.job, *state);
+                let got = (self.calls.keep)(&mut lent, *state);
+                (calls::reply(expected), got, None)
+            }
+            Step::Return { state } => {
+                let expected = reference::return_to(&mut expected_lent.job, *state);
+                let got = (self.calls.return_to)(&mut lent, *state);
+                (calls::reply(expected), got, None)
+            }
             Step::Schedule {
                 side,
                 out_length,
@@ -568,10 +586,13 @@ fn note_room(what: &mut Vec<String>, expected: &[u8], got: &[u8], lent: &Range<u
 }
 
 fn note_memory(what: &mut Vec<String>, expected: &Memory, got: &Memory) {
+    if expected == got {
+        return;
+    }
     let differing = expected.job.iter().zip(&got.job).position(|(e, g)| e != g);
     if let Some(at) = differing {
         what.push(format!("byte {at} of the open job"));
-    } else if expected != got {
+    } else {
         what.push("a guard byte of the open job".to_string());
     }
 }

@@ -11,7 +11,7 @@ use crate::draft::{
     number_bytes, printed, range,
 };
 use crate::faults::{BAD_SIDES, Broken, FAULTS, wrong_forms};
-use crate::{jobs, open};
+use crate::{damaged, jobs, open};
 
 pub type Outcome = Result<(), Box<Difference>>;
 
@@ -37,8 +37,9 @@ pub const ALL: &[Family] = &[
     family("run lists and nearly run lists", run_lists),
     family("open jobs, lists of calls", open::lists),
     family("open jobs, all names", open::all_names),
+    family("open jobs, full states", open::full_states),
     family("open jobs, openings", open::openings),
-    family("open jobs, damaged memory", open::damaged_memory),
+    family("open jobs, damaged memory", damaged::damaged_memory),
     family("jobs of 511 runs", most_runs),
     family("large random jobs", large_jobs),
     family("wide random jobs", wide_jobs),

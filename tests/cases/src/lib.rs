@@ -4,6 +4,7 @@
 
 pub mod calls;
 pub mod compare;
+pub mod damaged;
 pub mod families;
 pub mod faults;
 pub mod hex;
@@ -12,7 +13,9 @@ pub mod open;
 pub mod tally;
 pub mod wrong;
 pub mod wrong_level;
+pub mod wrong_memory;
 pub mod wrong_open;
+pub mod wrong_states;
 
 pub use calls::{Calls, Contract, Memory, Record, Reply};
 pub use compare::{Case, Checker, Difference, Step};
@@ -28,8 +31,14 @@ pub const SEED: u64 = 1;
 
 /// Every family once, with cases of this seed.
 pub fn round(checker: &mut Checker, seed: u64) -> Result<(), Box<Difference>> {
+    round_from(checker, seed, 0)
+}
+
+/// The same from this family on, and then those before it.
+pub fn round_from(checker: &mut Checker, seed: u64, first: usize) -> Result<(), Box<Difference>> {
     checker.begin_round(seed);
-    for family in families::ALL {
+    let (before, from) = families::ALL.split_at(first);
+    for family in from.iter().chain(before) {
         checker.begin_family(family.name);
         let mut random = Random::new(seed, family.name);
         (family.run)(checker, &mut random)?;

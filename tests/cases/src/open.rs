@@ -2,29 +2,32 @@
 
 use std::collections::BTreeMap;
 
-use reference::envelope;
-use reference::job::{self, Hazard, Job};
-use reference::memory::{self, BYTES, HEADER, HEADER_BYTES, PLACE_BYTES, PLACES};
-use reference::{Stretch, planned};
+use reference::job::{self, Hazard};
+use reference::memory::BYTES;
+use reference::open::STATES;
+use reference::planned;
 
 use crate::Random;
 use crate::compare::{Checker, Step};
-use crate::draft::{
-    A, B, D, Draft, FIELDS, LEVEL, M, N, PANEL, SIDE, header_range, number_bytes, range,
-};
-use crate::families::{KINDS, Outcome, accepted, accepted_of_kind, around};
+use crate::draft::{Draft, FIELDS, number_bytes, range};
+use crate::families::{KINDS, Outcome, accepted_of_kind, around};
 use crate::faults::{BAD_SIDES, Broken, FAULTS, wrong_forms};
 use crate::jobs;
 
-/// The memory of an open job, and the hazards that were added and not withdrawn
-/// since, by the replies to the calls.
-struct Open {
-    memory: [u8; BYTES],
-    header: Draft,
-    standing: BTreeMap<u8, [u64; FIELDS]>,
+/// Hazards by their names.
+pub type Standing = BTreeMap<u8, [u64; FIELDS]>;
+
+/// The memory of an open job; and by the replies to the calls, the hazards that
+/// stand, and those that stood when each state was last kept.
+#[derive(Clone)]
+pub struct Open {
+    pub memory: [u8; BYTES],
+    pub header: Draft,
+    pub standing: Standing,
+    pub kept: [Option<Standing>; STATES],
 }
 
-fn hazard(fields: [u64; FIELDS]) -> Hazard {
+pub fn hazard(fields: [u64; FIELDS]) -> Hazard {
     let [side, start, end, near, far, level] = fields;
     Hazard {
         side,
@@ -38,25 +41,31 @@ fn hazard(fields: [u64; FIELDS]) -> Hazard {
 
 impl Open {
     /// Opens a job without hazards in memory of any content.
-    fn new(checker: &mut Checker, random: &mut Random, draft: &Draft) -> Result<Open, Difference> {
+    pub fn new(
+        checker: &mut Checker,
+        random: &mut Random,
+        draft: &Draft,
+    ) -> Result<Open, Difference> {
         let mut open = Open {
             memory: any_memory(random),
             header: draft.clone().with_hazards(&[]),
-            standing: BTreeMap::new(),
+            standing: Standing::new(),
+            kept: [const { None }; STATES],
         };
         open.open(checker, open.header.bytes())?;
         Ok(open)
     }
 
-    fn open(&mut self, checker: &mut Checker, bytes: Vec<u8>) -> Result<bool, Difference> {
+    fn open(&mut self, checker: &mut Checker, bytes: Vec<u8>) -> Outcome {
         let reply = checker.step(&mut self.memory, Step::Open { bytes })?;
         if reply.number == 0 {
             self.standing.clear();
+            self.kept.fill(None);
         }
-        Ok(reply.number == 0)
+        Ok(())
     }
 
-    fn add(&mut self, checker: &mut Checker, name: u8, fields: [u64; FIELDS]) -> Outcome {
+    pub fn add(&mut self, checker: &mut Checker, name: u8, fields: [u64; FIELDS]) -> Outcome {
         let step = Step::Add {
             name,
             hazard: hazard(fields),
@@ -67,10 +76,35 @@ impl Open {
         Ok(())
     }
 
-    fn withdraw(&mut self, checker: &mut Checker, name: u8) -> Outcome {
+    /// Adds the hazards of a job under any names.
+    fn add_all(&mut self, checker: &mut Checker, random: &mut Random, draft: &Draft) -> Outcome {
+        for fields in &draft.hazards {
+            self.add(checker, random.draw() as u8, *fields)?;
+        }
+        Ok(())
+    }
+
+    pub fn withdraw(&mut self, checker: &mut Checker, name: u8) -> Outcome {
         let reply = checker.step(&mut self.memory, Step::Withdraw { name })?;
         if reply.number == 0 {
             self.standing.remove(&name);
+        }
+        Ok(())
+    }
+
+    pub fn keep(&mut self, checker: &mut Checker, state: u64) -> Outcome {
+        let reply = checker.step(&mut self.memory, Step::Keep { state })?;
+        if reply.number == 0 {
+            self.kept[state as usize] = Some(self.standing.clone());
+        }
+        Ok(())
+    }
+
+    fn return_to(&mut self, checker: &mut Checker, state: u64) -> Outcome {
+        let reply = checker.step(&mut self.memory, Step::Return { state })?;
+        if reply.number == 0 {
+            let kept = self.kept[state as usize].clone();
+            self.standing = kept.expect("a state that was kept");
         }
         Ok(())
     }
@@ -99,7 +133,7 @@ impl Open {
     }
 
     /// Both schedules are those that plan gives for the hazards that stand.
-    fn as_planned(&self, checker: &mut Checker, random: &mut Random) -> Outcome {
+    pub fn as_planned(&self, checker: &mut Checker, random: &mut Random) -> Outcome {
         let job = self.job(random);
         for side in 0..2 {
             let schedule = planned(&job, side).expect("the hazards that stand are accepted");
@@ -118,7 +152,7 @@ impl Open {
     }
 }
 
-type Difference = Box<crate::Difference>;
+pub type Difference = Box<crate::Difference>;
 
 fn any_memory(random: &mut Random) -> [u8; BYTES] {
     match random.below(3) {
@@ -128,7 +162,7 @@ fn any_memory(random: &mut Random) -> [u8; BYTES] {
     }
 }
 
-fn random_memory(random: &mut Random) -> [u8; BYTES] {
+pub fn random_memory(random: &mut Random) -> [u8; BYTES] {
     let mut memory = [0; BYTES];
     for bytes in memory.chunks_mut(8) {
         let drawn = random.draw().to_le_bytes();
@@ -164,7 +198,8 @@ pub fn lists(checker: &mut Checker, random: &mut Random) -> Outcome {
     Ok(())
 }
 
-/// Tens of calls with few names, so that they often stand already or not.
+/// Tens of calls with few names, so that they often stand already or not. At the
+/// end each state that is kept, one after the other.
 fn list(checker: &mut Checker, random: &mut Random) -> Outcome {
     let draft = source(random);
     let names = few_names(random);
@@ -172,20 +207,37 @@ fn list(checker: &mut Checker, random: &mut Random) -> Outcome {
     for _ in 0..random.between(10, 60) {
         let name = random.pick(&names);
         match random.below(100) {
-            0..=59 => {
+            0..=49 => {
                 let fields = draft.hazards[random.index(draft.hazards.len())];
                 let fields = faulty(random, &draft, fields);
                 open.add(checker, name, fields)?;
             }
-            60..=84 => open.withdraw(checker, name)?,
-            85..=97 => open.schedule(checker, random)?,
-            _ => {
-                let bytes = opening(random, &draft);
-                open.open(checker, bytes)?;
-            }
+            50..=67 => open.withdraw(checker, name)?,
+            68..=77 => open.keep(checker, state(random))?,
+            78..=87 => open.return_to(checker, state(random))?,
+            88..=97 => open.schedule(checker, random)?,
+            _ => open.open(checker, opening(random, &draft))?,
         }
     }
-    open.as_planned(checker, random)
+    open.as_planned(checker, random)?;
+    for state in 0..STATES as u64 {
+        open.return_to(checker, state)?;
+        if random.percent(25) {
+            open.as_planned(checker, random)?;
+        }
+    }
+    Ok(())
+}
+
+/// The state numbers mostly, few of them more often than others; some above 7,
+/// among them such as are below 8 in one byte or in 32 bits.
+pub fn state(random: &mut Random) -> u64 {
+    match random.below(10) {
+        0 => random.pick(&[8, 9, 255, u64::MAX]),
+        1 => random.pick(&[8, 256, 1 << 32, 1 << 63]) + random.below(8),
+        2..=4 => random.below(8),
+        _ => random.below(3),
+    }
 }
 
 /// 0, 255 and neighbours more often than others.
@@ -241,19 +293,30 @@ fn faulty(random: &mut Random, draft: &Draft, fields: [u64; FIELDS]) -> [u64; FI
     changed
 }
 
-/// All 256 names, in no order; each once more; then all withdrawn.
-pub fn all_names(checker: &mut Checker, random: &mut Random) -> Outcome {
+/// 256 hazards that are accepted.
+fn full_draft(random: &mut Random) -> Draft {
     let side = random.below(2);
-    let draft = match random.percent(50) {
+    match random.percent(50) {
         true => jobs::sparse(random, 256),
         false => jobs::islands(random, side, 255),
-    };
+    }
+}
+
+/// All 256 names stand, added in no order.
+fn full(checker: &mut Checker, random: &mut Random, draft: &Draft) -> Result<Open, Difference> {
     let mut names: Vec<u8> = (0..=255).collect();
     random.shuffle(&mut names);
-    let mut open = Open::new(checker, random, &draft)?;
+    let mut open = Open::new(checker, random, draft)?;
     for (name, fields) in names.iter().zip(&draft.hazards) {
         open.add(checker, *name, *fields)?;
     }
+    Ok(open)
+}
+
+/// All 256 names, in no order; each once more; then all withdrawn.
+pub fn all_names(checker: &mut Checker, random: &mut Random) -> Outcome {
+    let draft = full_draft(random);
+    let mut open = full(checker, random, &draft)?;
     open.as_planned(checker, random)?;
     for _ in 0..10 {
         let name = random.draw() as u8;
@@ -267,11 +330,66 @@ pub fn all_names(checker: &mut Checker, random: &mut Random) -> Outcome {
         open.add(checker, name, fields)?;
     }
     open.as_planned(checker, random)?;
+    let mut names: Vec<u8> = (0..=255).collect();
     random.shuffle(&mut names);
     for name in names {
         open.withdraw(checker, name)?;
     }
     open.as_planned(checker, random)
+}
+
+/// Eight states of some 256 hazards each, the first of all of them; each
+/// returned to, in no order.
+pub fn full_states(checker: &mut Checker, random: &mut Random) -> Outcome {
+    let draft = full_draft(random);
+    let mut open = full(checker, random, &draft)?;
+    let mut states: Vec<u64> = (0..STATES as u64).collect();
+    random.shuffle(&mut states);
+    for state in &states {
+        open.keep(checker, *state)?;
+        for _ in 0..random.between(1, 3) {
+            open.withdraw(checker, random.draw() as u8)?;
+        }
+    }
+    random.shuffle(&mut states);
+    for state in states {
+        open.return_to(checker, state)?;
+        open.as_planned(checker, random)?;
+        let name = random.draw() as u8;
+        open.withdraw(checker, name)?;
+        open.add(checker, name, draft.hazards[random.index(256)])?;
+    }
+    Ok(())
+}
+
+/// An open job in which the hazards of an accepted job stand.
+pub fn standing(
+    checker: &mut Checker,
+    random: &mut Random,
+    draft: &Draft,
+) -> Result<Open, Difference> {
+    let mut open = Open::new(checker, random, draft)?;
+    open.add_all(checker, random, draft)?;
+    Ok(open)
+}
+
+/// The same with three states that are kept: of all that stands, of all but one
+/// hazard, and of nothing.
+pub fn standing_and_kept(
+    checker: &mut Checker,
+    random: &mut Random,
+    draft: &Draft,
+) -> Result<Open, Difference> {
+    let mut states: Vec<u64> = (0..STATES as u64).collect();
+    random.shuffle(&mut states);
+    let mut open = Open::new(checker, random, draft)?;
+    open.keep(checker, states[0])?;
+    open.add_all(checker, random, draft)?;
+    open.keep(checker, states[1])?;
+    let first = open.standing.keys().next().copied();
+    open.withdraw(checker, first.unwrap_or(0))?;
+    open.keep(checker, states[2])?;
+    Ok(open)
 }
 
 // Openings.
@@ -298,7 +416,7 @@ fn opening(random: &mut Random, draft: &Draft) -> Vec<u8> {
 pub fn openings(checker: &mut Checker, random: &mut Random) -> Outcome {
     for kind in [KINDS, KINDS].concat() {
         let draft = accepted_of_kind(random, kind, 1, 4);
-        let mut memory = standing(checker, random, &draft)?.memory;
+        let mut memory = standing_and_kept(checker, random, &draft)?.memory;
         let empty = draft.clone().with_hazards(&[]);
         let numbers = empty.numbers();
         for place in 0..numbers.len() {
@@ -355,241 +473,6 @@ fn hazard_counts(
     }
     for bytes in list {
         checker.step(&mut memory.clone(), Step::Open { bytes })?;
-    }
-    Ok(())
-}
-
-// Damaged memory.
-
-/// An open job in which the hazards of an accepted job stand.
-fn standing(checker: &mut Checker, random: &mut Random, draft: &Draft) -> Result<Open, Difference> {
-    let mut open = Open::new(checker, random, draft)?;
-    for fields in &draft.hazards {
-        let name = random.draw() as u8;
-        open.add(checker, name, *fields)?;
-    }
-    Ok(open)
-}
-
-pub fn damaged_memory(checker: &mut Checker, random: &mut Random) -> Outcome {
-    for kind in KINDS {
-        let draft = accepted_of_kind(random, kind, 2, 6);
-        let open = standing(checker, random, &draft)?;
-        damaged_header(checker, random, &open)?;
-        narrowed_road(checker, random, &open)?;
-        damaged_places(checker, random, &open)?;
-        damaged_names(checker, random, &open)?;
-        unused_places(checker, random, &open)?;
-        for _ in 0..60 {
-            let mut memory = open.memory;
-            let used = HEADER_BYTES + PLACE_BYTES * (open.standing.len() + 1);
-            memory[random.index(used)] ^= 1 << random.below(8);
-            ask(checker, random, &open, memory)?;
-        }
-    }
-    full_memory(checker, random)?;
-    let draft = accepted(random, 1, 3);
-    let open = standing(checker, random, &draft)?;
-    for memory in [[0; BYTES], [0xFF; BYTES], [1; BYTES], random_memory(random)] {
-        ask(checker, random, &open, memory)?;
-    }
-    // The right header, and nothing right behind it.
-    let mut memory = random_memory(random);
-    memory[..HEADER_BYTES].copy_from_slice(&open.memory[..HEADER_BYTES]);
-    ask(checker, random, &open, memory)
-}
-
-/// Every call but opening, with and without another fault, on this memory.
-fn ask(checker: &mut Checker, random: &mut Random, open: &Open, memory: [u8; BYTES]) -> Outcome {
-    let stands = open.standing.keys().next().copied().unwrap_or(0);
-    let free = (0..=255).find(|name| !open.standing.contains_key(name));
-    let free = free.unwrap_or(255);
-    let good = open.standing.values().next().copied();
-    let good = good.unwrap_or([0, 0, 1, 60_000, 60_000, 1]);
-    let mut bad = good;
-    bad[random.pick(&[SIDE, LEVEL, N])] = 1 << 20;
-    let any = random.draw() as u8;
-    for (name, fields) in [(free, good), (stands, good), (free, bad), (any, bad)] {
-        let step = Step::Add {
-            name,
-            hazard: hazard(fields),
-        };
-        checker.step(&mut memory.clone(), step)?;
-    }
-    for name in [stands, free] {
-        checker.step(&mut memory.clone(), Step::Withdraw { name })?;
-    }
-    for side in 0..3 {
-        checker.open_schedule(&memory, side, random.pick(&[0, 1, 400, 6_000]))?;
-    }
-    Ok(())
-}
-
-fn set_number(memory: &mut [u8; BYTES], at: usize, value: u64) {
-    memory[at..at + 4].copy_from_slice(&(value as u32).to_le_bytes());
-}
-
-/// Each header number at and beyond the ends of its range, and each count.
-fn damaged_header(checker: &mut Checker, random: &mut Random, open: &Open) -> Outcome {
-    let numbers = open.header.header;
-    for place in 0..HEADER - 1 {
-        for value in around(header_range(&numbers, place)) {
-            let mut memory = open.memory;
-            set_number(&mut memory, 4 * place, value);
-            ask(checker, random, open, memory)?;
-        }
-    }
-    let count = open.standing.len() as u64;
-    for value in [
-        0,
-        1,
-        count - 1,
-        count + 1,
-        255,
-        256,
-        257,
-        1 << 8 | count,
-        1 << 24 | count,
-    ] {
-        let mut memory = open.memory;
-        set_number(&mut memory, HEADER_BYTES - 4, value);
-        ask(checker, random, open, memory)?;
-    }
-    Ok(())
-}
-
-/// A road that just has every envelope, and one a millimetre shorter; then one
-/// that just has every envelope as it is before it is raised to whole panels.
-fn narrowed_road(checker: &mut Checker, random: &mut Random, open: &Open) -> Outcome {
-    let Ok(job) = job::read(&open.job(random)) else {
-        return Ok(());
-    };
-    let before_raising = Job {
-        panel: 1,
-        ..job.clone()
-    };
-    let hazards: Vec<[u64; FIELDS]> = open.standing.values().copied().collect();
-    for job in [job, before_raising] {
-        let envelopes = envelope::envelopes(&job).expect("the hazards that stand are accepted");
-        let Some(Stretch { start, end }) = jobs::taken(&hazards, &envelopes) else {
-            continue;
-        };
-        for (place, value) in [(A, start), (A, start + 1), (B, end), (B, end - 1)] {
-            let mut memory = open.memory;
-            set_number(&mut memory, 4 * place, value);
-            ask(checker, random, open, memory)?;
-        }
-    }
-    // Another panel length, which may leave the road.
-    for _ in 0..4 {
-        let mut memory = open.memory;
-        set_number(&mut memory, 4 * PANEL, random.edgy(1, 10_000));
-        ask(checker, random, open, memory)?;
-    }
-    Ok(())
-}
-
-fn place_at(place: usize) -> usize {
-    HEADER_BYTES + PLACE_BYTES * place
-}
-
-/// Where a field stands in its place, and in how many bytes.
-const FIELD_BYTES: [(usize, usize); FIELDS] = [(18, 1), (0, 4), (4, 4), (8, 4), (12, 4), (19, 1)];
-
-/// Each field of each hazard at and beyond the ends of its range, too near, and
-/// off the road.
-fn damaged_places(checker: &mut Checker, random: &mut Random, open: &Open) -> Outcome {
-    for (place, fields) in open.standing.values().enumerate() {
-        let job = open.header.clone().with_hazards(&[*fields]);
-        let numbers = job.numbers();
-        let first = numbers.len() - FIELDS;
-        let least = numbers[M] + numbers[D];
-        for (field, (at, size)) in FIELD_BYTES.into_iter().enumerate() {
-            let mut values = around(range(&numbers, first + field));
-            if field == N {
-                values.extend([least, least - 1]);
-            }
-            for value in values {
-                let mut memory = open.memory;
-                let at = place_at(place) + at;
-                memory[at..at + size].copy_from_slice(&value.to_le_bytes()[..size]);
-                ask(checker, random, open, memory)?;
-            }
-        }
-    }
-    Ok(())
-}
-
-/// Names doubled, exchanged, out of order and above 255.
-fn damaged_names(checker: &mut Checker, random: &mut Random, open: &Open) -> Outcome {
-    let names: Vec<u8> = open.standing.keys().copied().collect();
-    for (place, name) in names.iter().enumerate() {
-        let at = place_at(place) + 16;
-        let mut values = vec![u16::from(*name) | 256, u16::from(*name) << 8, 256, u16::MAX];
-        values.extend(names.iter().map(|other| u16::from(*other)));
-        values.extend([name.wrapping_sub(1), name.wrapping_add(1), 0, 255].map(u16::from));
-        for value in values {
-            let mut memory = open.memory;
-            memory[at..at + 2].copy_from_slice(&value.to_le_bytes());
-            ask(checker, random, open, memory)?;
-        }
-    }
-    for place in 1..names.len() {
-        let mut memory = open.memory;
-        let (first, second) = memory.split_at_mut(place_at(place));
-        first[place_at(place - 1)..].swap_with_slice(&mut second[..PLACE_BYTES]);
-        ask(checker, random, open, memory)?;
-        // One hazard twice.
-        let mut memory = open.memory;
-        memory.copy_within(place_at(place - 1)..place_at(place), place_at(place));
-        ask(checker, random, open, memory)?;
-    }
-    Ok(())
-}
-
-/// Something in a place that is not used.
-fn unused_places(checker: &mut Checker, random: &mut Random, open: &Open) -> Outcome {
-    let used = place_at(open.standing.len());
-    let mut places: Vec<usize> = (used..used + PLACE_BYTES).collect();
-    places.extend([BYTES - 1, BYTES - PLACE_BYTES, place_at(PLACES - 1) + 16]);
-    for _ in 0..20 {
-        places.push(used + random.index(BYTES - used));
-    }
-    for at in places {
-        let mut memory = open.memory;
-        memory[at] = random.pick(&[1, 0x80, 0xFF]);
-        ask(checker, random, open, memory)?;
-    }
-    // A whole hazard left behind the others.
-    let mut memory = open.memory;
-    memory.copy_within(place_at(0)..place_at(1), used);
-    ask(checker, random, open, memory)
-}
-
-/// Damage where all places are used.
-fn full_memory(checker: &mut Checker, random: &mut Random) -> Outcome {
-    let draft = jobs::sparse(random, 256);
-    let mut open = Open::new(checker, random, &draft)?;
-    for (name, fields) in (0..=255).zip(&draft.hazards) {
-        open.standing.insert(name, *fields);
-    }
-    let full = reference::OpenJob {
-        header: job::read(&draft.clone().with_hazards(&[]).bytes()).expect("an accepted header"),
-        standing: (0..=255)
-            .zip(draft.hazards.iter().copied().map(hazard))
-            .collect(),
-    };
-    memory::write(&full, &mut open.memory);
-    ask(checker, random, &open, open.memory)?;
-    for (at, value) in [
-        (HEADER_BYTES - 4, 1),
-        (HEADER_BYTES - 4, 255),
-        (BYTES - 1, 0),
-        (BYTES - 4, 254),
-    ] {
-        let mut memory = open.memory;
-        memory[at] = value;
-        ask(checker, random, &open, memory)?;
     }
     Ok(())
 }

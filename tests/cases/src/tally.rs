@@ -8,7 +8,7 @@ pub struct Tally {
     families: Vec<(&'static str, u64)>,
     current: usize,
     /// Cases by refusal number; at 0 those without a refusal.
-    outcomes: [u64; 13],
+    outcomes: [u64; 14],
     most_runs: u64,
 }
 

@@ -17,7 +17,7 @@ use crate::calls::{
     reply, right,
 };
 use crate::draft::{G, KIND, PANEL, number_bytes};
-use crate::{wrong_level, wrong_open};
+use crate::{wrong_level, wrong_memory, wrong_open, wrong_states};
 
 /// Every wrong engine with the name of its slip.
 pub fn all() -> Vec<(&'static str, Calls)> {
@@ -35,6 +35,8 @@ pub fn all() -> Vec<(&'static str, Calls)> {
     list.extend(wrong_readings());
     list.extend(wrong_level::all());
     list.extend(wrong_open::all());
+    list.extend(wrong_memory::all());
+    list.extend(wrong_states::all());
     list
 }
 

@@ -3,12 +3,12 @@
 use reference::envelope;
 use reference::job::{self, Hazard, Job};
 use reference::level::Required;
-use reference::memory::{self, BYTES, HEADER, HEADER_BYTES, PLACE_BYTES, PLACES};
+use reference::memory::{self, BYTES, HEADER, HEADER_BYTES, NOW_BYTES, PLACE_BYTES, PLACES};
 use reference::{OpenJob, Refusal, add, open, open_schedule, planned, schedule, withdraw};
 
 use crate::calls::{AddCall, Calls, Memory, OpenCall, OpenScheduleCall, Reply, WithdrawCall};
 use crate::calls::{reply, right};
-use crate::draft::{Draft, KIND, PANEL, header_range};
+use crate::draft::{Draft, KIND, PANEL};
 
 /// Every wrong open job with the name of its slip.
 pub fn all() -> Vec<(&'static str, Calls)> {
@@ -16,33 +16,32 @@ pub fn all() -> Vec<(&'static str, Calls)> {
     list.extend(wrong_withdrawals());
     list.extend(wrong_schedules());
     list.extend(wrong_openings());
-    list.extend(wrong_tests());
     list
 }
 
-fn with_open(open: Box<OpenCall>) -> Calls {
+pub fn with_open(open: Box<OpenCall>) -> Calls {
     Calls { open, ..right() }
 }
 
-fn with_add(add: Box<AddCall>) -> Calls {
+pub fn with_add(add: Box<AddCall>) -> Calls {
     Calls { add, ..right() }
 }
 
-fn with_withdraw(withdraw: Box<WithdrawCall>) -> Calls {
+pub fn with_withdraw(withdraw: Box<WithdrawCall>) -> Calls {
     Calls {
         withdraw,
         ..right()
     }
 }
 
-fn with_schedule(open_schedule: Box<OpenScheduleCall>) -> Calls {
+pub fn with_schedule(open_schedule: Box<OpenScheduleCall>) -> Calls {
     Calls {
         open_schedule,
         ..right()
     }
 }
 
-const DONE: Reply = Reply {
+pub const DONE: Reply = Reply {
     number: 0,
     value: 0,
 };
@@ -307,7 +306,7 @@ fn in_no_panels(job: &Job) -> Job {
 }
 
 /// The reply to memory that breaks the rules.
-const BROKEN: Reply = Reply {
+pub const BROKEN: Reply = Reply {
     number: 3,
     value: 0,
 };
@@ -318,16 +317,16 @@ fn name_stands(memory: &[u8; BYTES], name: u8) -> bool {
     (0..count).any(|place| name_at(memory, place) == u64::from(name))
 }
 
-fn set_number(memory: &mut Memory, place: usize, value: u32) {
+pub fn set_number(memory: &mut Memory, place: usize, value: u32) {
     memory.job[4 * place..4 * place + 4].copy_from_slice(&value.to_le_bytes());
 }
 
 /// The header number at this place, counted from 0.
-fn number_at(memory: &[u8; BYTES], place: usize) -> u64 {
+pub fn number_at(memory: &[u8; BYTES], place: usize) -> u64 {
     four_at(memory, 4 * place)
 }
 
-fn four_at(memory: &[u8; BYTES], at: usize) -> u64 {
+pub fn four_at(memory: &[u8; BYTES], at: usize) -> u64 {
     let mut bytes = [0; 4];
     bytes.copy_from_slice(&memory[at..at + 4]);
     u32::from_le_bytes(bytes).into()
@@ -431,8 +430,8 @@ fn wrong_withdrawals() -> Vec<(&'static str, Calls)> {
 /// Takes a place out of the row; the places behind it move up.
 fn without_place(memory: &mut Memory, index: usize) {
     let at = HEADER_BYTES + PLACE_BYTES * index;
-    memory.job.copy_within(at + PLACE_BYTES.., at);
-    memory.job[BYTES - PLACE_BYTES..].fill(0);
+    memory.job.copy_within(at + PLACE_BYTES..NOW_BYTES, at);
+    place(memory, PLACES - 1).fill(0);
     let left = number_at(&memory.job, HEADER - 1) as u32 - 1;
     set_number(memory, HEADER - 1, left);
 }
@@ -623,7 +622,8 @@ fn wrong_openings() -> Vec<(&'static str, Calls)> {
             "an opening leaves the places as they were",
             after(|reply, memory, before, _| {
                 if reply.number == 0 {
-                    memory.job[HEADER_BYTES..].copy_from_slice(&before.job[HEADER_BYTES..]);
+                    let places = HEADER_BYTES..NOW_BYTES;
+                    memory.job[places.clone()].copy_from_slice(&before.job[places]);
                 }
             }),
         ),
@@ -762,276 +762,4 @@ fn header_bytes(job: &Job) -> Vec<u8> {
         hazards: Vec::new(),
     };
     draft.bytes()
-}
-
-// The test of the memory.
-
-/// A rule that memory may break.
-#[derive(Clone, Copy, Debug, PartialEq, Eq)]
-pub enum Rule {
-    Kind,
-    /// Another header number is in its range.
-    Header,
-    /// The panel length of kind 2 is in its range.
-    Panel,
-    /// The panel length of kind 1 is 1.
-    NoPanel,
-    /// At most 256 hazards.
-    Count,
-    /// A name is a byte.
-    Name,
-    /// No name stands twice, one behind the other.
-    Twice,
-    /// Names rise.
-    Order,
-    /// Refusals 4, 5 and 6 of a hazard that stands.
-    Field,
-    Near,
-    OffRoad,
-    /// A place that is not used is all 0.
-    Unused,
-}
-
-/// Every rule that the memory breaks. Where the count or a header number does
-/// without which a hazard cannot be asked, the hazards are not looked at.
-pub fn broken(memory: &[u8; BYTES]) -> Vec<Rule> {
-    let numbers: Vec<u64> = (0..HEADER).map(|place| number_at(memory, place)).collect();
-    let mut list = Vec::new();
-    for place in 0..HEADER - 1 {
-        let (rule, (low, high)) = match place {
-            KIND => (Rule::Kind, header_range(&numbers, place)),
-            PANEL if numbers[KIND] == 1 => (Rule::NoPanel, (1, 1)),
-            PANEL => (Rule::Panel, header_range(&numbers, place)),
-            _ => (Rule::Header, header_range(&numbers, place)),
-        };
-        if !(low..=high).contains(&numbers[place]) {
-            list.push(rule);
-        }
-    }
-    let count = numbers[HEADER - 1] as usize;
-    if count > PLACES {
-        list.push(Rule::Count);
-    }
-    if list.contains(&Rule::Header) || count > PLACES || numbers[PANEL] == 0 {
-        return list;
-    }
-    let used = HEADER_BYTES + PLACE_BYTES * count;
-    let header = job_of(&numbers);
-    let mut previous = None;
-    for place in 0..count {
-        let name = name_at(memory, place);
-        if name > 255 {
-            list.push(Rule::Name);
-        }
-        if previous == Some(name) {
-            list.push(Rule::Twice);
-        }
-        if previous > Some(name) {
-            list.push(Rule::Order);
-        }
-        previous = Some(name);
-        list.extend(broken_by(&header, &hazard_at(memory, place)));
-    }
-    if memory[used..].iter().any(|byte| *byte != 0) {
-        list.push(Rule::Unused);
-    }
-    list
-}
-
-/// The job of these header numbers, which are in their ranges.
-fn job_of(numbers: &[u64]) -> Job {
-    Job {
-        kind: numbers[0],
-        road_begin: numbers[1],
-        road_end: numbers[2],
-        runout_forward: numbers[3],
-        runout_opposite: numbers[4],
-        clear_zone: numbers[5],
-        centreline: numbers[6],
-        barrier_offset: numbers[7],
-        deflection: numbers[8],
-        flare_along: numbers[9],
-        flare_across: numbers[10],
-        straight: numbers[11],
-        continuity: numbers[12],
-        panel: numbers[13],
-        hazards: Vec::new(),
-    }
-}
-
-fn hazard_at(memory: &[u8; BYTES], place: usize) -> Hazard {
-    let at = HEADER_BYTES + PLACE_BYTES * place;
-    Hazard {
-        side: memory[at + 18].into(),
-        start: four_at(memory, at),
-        end: four_at(memory, at + 4),
-        near: four_at(memory, at + 8),
-        far: four_at(memory, at + 12),
-        level: memory[at + 19].into(),
-    }
-}
-
-fn broken_by(header: &Job, hazard: &Hazard) -> Option<Rule> {
-    if !job::in_range(header, hazard) {
-        return Some(Rule::Field);
-    }
-    match envelope::envelope(header, 0, hazard) {
-        Err(Refusal { number: 5, .. }) => Some(Rule::Near),
-        Err(_) => Some(Rule::OffRoad),
-        Ok(_) => None,
-    }
-}
-
-fn wrong_tests() -> Vec<(&'static str, Calls)> {
-    let mut list = vec![
-        (
-            "the memory not tested by add",
-            with_add(Box::new(|memory, name, hazard| {
-                match reply(add(&mut memory.job, name, hazard)) {
-                    BROKEN => DONE,
-                    reply => reply,
-                }
-            })),
-        ),
-        (
-            "the memory not tested by a withdrawal",
-            with_withdraw(Box::new(|memory, name| {
-                match reply(withdraw(&mut memory.job, name)) {
-                    BROKEN => DONE,
-                    reply => reply,
-                }
-            })),
-        ),
-        (
-            "the memory not tested by a schedule",
-            with_schedule(Box::new(|memory, side, room, lent| {
-                match reply(open_schedule(&memory.job, side, &mut room[lent])) {
-                    BROKEN => Reply {
-                        number: 9,
-                        value: 1,
-                    },
-                    reply => reply,
-                }
-            })),
-        ),
-        (
-            "broken memory refused with the header number",
-            with_withdraw(Box::new(|memory, name| {
-                let mut reply = reply(withdraw(&mut memory.job, name));
-                if reply == BROKEN && broken(&memory.job).contains(&Rule::Kind) {
-                    reply.value = 1;
-                }
-                reply
-            })),
-        ),
-    ];
-    let names = [
-        ("the kind in the memory not tested", Rule::Kind),
-        ("the header in the memory not tested", Rule::Header),
-        ("the panel length in the memory not tested", Rule::Panel),
-        (
-            "kind 1 in the memory with another panel length taken",
-            Rule::NoPanel,
-        ),
-        ("a count above 256 in the memory taken", Rule::Count),
-        ("a name above 255 in the memory taken", Rule::Name),
-        ("a name twice in the memory taken", Rule::Twice),
-        ("names out of order in the memory taken", Rule::Order),
-        ("fields of hazards in the memory not tested", Rule::Field),
-        ("a hazard too near in the memory taken", Rule::Near),
-        ("a hazard off the road in the memory taken", Rule::OffRoad),
-        ("places that are not used not tested", Rule::Unused),
-    ];
-    list.extend(names.map(|(name, rule)| (name, untested(move |memory| breaks(memory, rule)))));
-    list.push((
-        "the panel length passed over in the test of the memory",
-        untested(off_road_when_raised),
-    ));
-    list
-}
-
-/// Whether the memory breaks this rule alone.
-fn breaks(memory: &Memory, rule: Rule) -> bool {
-    let broken = broken(&memory.job);
-    !broken.is_empty() && broken.iter().all(|other| *other == rule)
-}
-
-/// Whether all is well but for hazards that leave the road when they are raised
-/// to whole panels.
-fn off_road_when_raised(memory: &Memory) -> bool {
-    let mut before_raising = memory.clone();
-    set_number(&mut before_raising, PANEL, 1);
-    breaks(memory, Rule::OffRoad) && broken(&before_raising.job).is_empty()
-}
-
-/// This memory is taken by every call: nothing is done with it, and the reply
-/// says that all is well.
-fn untested(passed_over: impl Fn(&Memory) -> bool + Copy + 'static) -> Calls {
-    let taken = move |memory: &Memory, reply: Reply| match passed_over(memory) {
-        true => DONE,
-        false => reply,
-    };
-    Calls {
-        add: Box::new(move |memory, name, hazard| {
-            let reply = reply(add(&mut memory.job, name, hazard));
-            taken(memory, reply)
-        }),
-        withdraw: Box::new(move |memory, name| {
-            let reply = reply(withdraw(&mut memory.job, name));
-            taken(memory, reply)
-        }),
-        open_schedule: Box::new(move |memory, side, room, lent| {
-            let reply = reply(open_schedule(&memory.job, side, &mut room[lent]));
-            taken(memory, reply)
-        }),
-        ..right()
-    }
-}
-
-#[cfg(test)]
-mod tests {
-    use super::*;
-    use crate::Random;
-    use crate::jobs;
-
-    /// The rules, asked one by one, and the reference's reading find the same
-    /// memory right.
-    #[test]
-    fn the_rules_are_those_of_the_reference() {
-        let mut random = Random::new(1, "rules");
-        let [mut right, mut wrong] = [0; 2];
-        for _ in 0..3_000 {
-            let draft = jobs::small(&mut random);
-            let Ok(mut open) = OpenJob::open(&draft.clone().with_hazards(&[]).bytes()) else {
-                continue;
-            };
-            for [side, start, end, near, far, level] in draft.hazards {
-                let hazard = Hazard {
-                    side,
-                    start,
-                    end,
-                    near,
-                    far,
-                    level,
-                };
-                let _ = open.add(random.draw() as u8, hazard);
-            }
-            let mut memory = [0; BYTES];
-            memory::write(&open, &mut memory);
-            let used = HEADER_BYTES + PLACE_BYTES * (open.standing.len() + 1);
-            for _ in 0..random.below(3) {
-                memory[random.index(used)] ^= 1 << random.below(8);
-            }
-            let is_right = memory::read(&memory).is_some();
-            assert_eq!(
-                broken(&memory).is_empty(),
-                is_right,
-                "{:?}",
-                broken(&memory)
-            );
-            right += u64::from(is_right);
-            wrong += u64::from(!is_right);
-        }
-        assert!(right > 500 && wrong > 500, "{right} {wrong}");
-    }
 }

@@ -2,7 +2,7 @@
 //! finds every wrong engine, and finds nothing where nothing is wrong.
 
 use cases::draft::{Draft, KIND};
-use cases::{Checker, Random, SEED, calls, jobs, round, wrong};
+use cases::{Checker, Random, SEED, calls, families, jobs, round, round_from, wrong};
 use reference::job::Job;
 use reference::{envelope, job, planned};
 
@@ -13,7 +13,7 @@ fn the_reference_passes_and_every_row_is_seen() {
     if let Err(difference) = round(&mut checker, SEED) {
         panic!("{difference}");
     }
-    for number in 0..=12 {
+    for number in 0..=13 {
         assert!(checker.tally.outcome(number) > 0, "no refusal {number}");
     }
     assert_eq!(checker.tally.most_runs(), 511);
@@ -24,12 +24,16 @@ fn the_reference_passes_and_every_row_is_seen() {
 #[test]
 fn every_wrong_engine_is_found() {
     // As many as README.md says.
-    assert_eq!(wrong::all().len(), 247);
+    assert_eq!(wrong::all().len(), 303);
+    // A slip is often found where the one before it was: that saves time.
+    let mut first = 0;
     for (name, calls) in wrong::all() {
         let mut checker = Checker::new(calls);
-        let Err(found) = round(&mut checker, SEED) else {
+        let Err(found) = round_from(&mut checker, SEED, first) else {
             panic!("not found: {name}");
         };
+        let mut names = families::ALL.iter().map(|family| family.name);
+        first = names.position(|name| name == found.family).unwrap_or(0);
         println!("{:>9}  {name} (in: {})", found.cases, found.family);
         let again = checker.case(&found.case);
         assert!(again.is_err(), "{name}: {}", found.case);

@@ -21,6 +21,8 @@ on an open job, its memory in hex, bytes of 0 at the end left out:
   --open MEMORY JOB
   --add MEMORY NAME SIDE,START,END,NEAR,FAR,LEVEL
   --withdraw MEMORY NAME
+  --keep MEMORY STATE
+  --return MEMORY STATE
   --schedule MEMORY SIDE OUTPUT_LENGTH FILL
 ";
 
@@ -85,7 +87,7 @@ fn values(option: &str) -> Option<usize> {
     match option {
         "--plan" | "--quantity" | "--lookup" | "--schedule" => Some(4),
         "--level" | "--quantities" | "--add" => Some(3),
-        "--open" | "--withdraw" => Some(2),
+        "--open" | "--withdraw" | "--keep" | "--return" => Some(2),
         _ => None,
     }
 }
@@ -135,6 +137,8 @@ fn read_case(option: &str, values: &[&str]) -> Option<Case> {
         "--withdraw" => on_open_job(Step::Withdraw {
             name: value(1)?.try_into().ok()?,
         })?,
+        "--keep" => on_open_job(Step::Keep { state: value(1)? })?,
+        "--return" => on_open_job(Step::Return { state: value(1)? })?,
         _ => on_open_job(Step::Schedule {
             side: value(1)?,
             out_length: value(2)? as usize,

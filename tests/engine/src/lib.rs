@@ -14,9 +14,11 @@ pub mod barrier;
 
 use barrier::{Refusal, c};
 
-// Declared as the header has it, beside the shipped file.
+// Declared as the header has them, beside the shipped file.
 unsafe extern "C" {
     fn barrier_level(job: *const u8, job_len: usize, side: u64, station: u64) -> c::Reply;
+    fn barrier_keep(job: *mut c::OpenJob, state: u64) -> c::Reply;
+    fn barrier_return(job: *mut c::OpenJob, state: u64) -> c::Reply;
 }
 
 impl From<c::Reply> for Reply {
@@ -87,6 +89,16 @@ pub fn add(memory: &mut Memory, name: u8, hazard: Hazard) -> Reply {
 pub fn withdraw(memory: &mut Memory, name: u8) -> Reply {
     // SAFETY: as in `open`.
     unsafe { c::barrier_withdraw(open_job(memory), name).into() }
+}
+
+pub fn keep(memory: &mut Memory, state: u64) -> Reply {
+    // SAFETY: as in `open`.
+    unsafe { barrier_keep(open_job(memory), state).into() }
+}
+
+pub fn return_to(memory: &mut Memory, state: u64) -> Reply {
+    // SAFETY: as in `open`.
+    unsafe { barrier_return(open_job(memory), state).into() }
 }
 
 pub fn open_schedule(memory: &mut Memory, side: u64, out: &mut [u8]) -> Reply {
@@ -172,6 +184,8 @@ pub fn calls() -> Calls {
         }),
         add: Box::new(add),
         withdraw: Box::new(withdraw),
+        keep: Box::new(keep),
+        return_to: Box::new(return_to),
         open_schedule: Box::new(|memory, side, room, lent| {
             assert!(lent.start <= lent.end && lent.end <= room.len());
             let job = open_job(memory);

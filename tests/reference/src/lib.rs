@@ -24,6 +24,6 @@ pub mod stretch;
 pub use calls::{
     Lookup, Outcome, Quantities, level, lookup, plan, plan_job, planned, quantities, quantity,
 };
-pub use open::{OpenJob, add, open, open_schedule, withdraw};
+pub use open::{OpenJob, add, keep, open, open_schedule, return_to, withdraw};
 pub use refusal::Refusal;
 pub use stretch::Stretch;

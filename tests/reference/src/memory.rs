@@ -1,12 +1,15 @@
-//! The memory of an open job, byte by byte: the header's numbers with the count
-//! of hazards that stand, then 256 places. The hazards stand in the first
-//! places, in rising order of their names; every other place is all 0. Numbers
-//! are written lowest byte first, without padding.
+//! The memory of an open job, byte by byte. First the open job as it is now: the
+//! header's numbers with the count of hazards that stand, then a row of 256
+//! places. Behind it the eight kept states: whether it is used, the count, and a
+//! row of places like that of the open job. The hazards stand in the first places
+//! of a row, in rising order of their names; every other place is all 0, and so
+//! is a state that is not kept. Numbers are written lowest byte first, without
+//! padding.
 
 use crate::envelope;
 use crate::job::{self, Hazard, Job};
 use crate::number;
-use crate::open::OpenJob;
+use crate::open::{OpenJob, STATES, Standing};
 
 /// Numbers of the header, four bytes each: those of kind 2, the last the count.
 pub const HEADER: usize = 15;
@@ -14,31 +17,51 @@ pub const HEADER: usize = 15;
 /// The bytes of the header.
 pub const HEADER_BYTES: usize = 4 * HEADER;
 
-/// Places for hazards.
+/// Places for hazards in a row.
 pub const PLACES: usize = 256;
 
 /// The bytes of a place: s, e, n and f in four bytes each, the name in two, the
 /// side and the level in one each.
 pub const PLACE_BYTES: usize = 20;
 
+/// The bytes of a row of places.
+pub const ROW_BYTES: usize = PLACES * PLACE_BYTES;
+
+/// The bytes of the open job as it is now.
+pub const NOW_BYTES: usize = HEADER_BYTES + ROW_BYTES;
+
+/// The bytes of a kept state: used and count in four bytes each, then its row.
+pub const STATE_BYTES: usize = 8 + ROW_BYTES;
+
 /// The bytes of the whole memory.
-pub const BYTES: usize = HEADER_BYTES + PLACES * PLACE_BYTES;
+pub const BYTES: usize = NOW_BYTES + STATES * STATE_BYTES;
 
 /// Writes an open job over the whole memory.
 pub fn write(open: &OpenJob, memory: &mut [u8]) {
     let mut bytes = Vec::new();
-    let count = open.standing.len() as u64;
-    for value in header_numbers(&open.header).into_iter().chain([count]) {
+    for value in header_numbers(&open.header) {
         bytes.extend(four_bytes(value));
     }
-    for (name, hazard) in &open.standing {
+    write_row(&open.standing, &mut bytes);
+    for kept in &open.kept {
+        bytes.extend(four_bytes(kept.is_some().into()));
+        let nothing = Standing::new();
+        write_row(kept.as_ref().unwrap_or(&nothing), &mut bytes);
+    }
+    memory.copy_from_slice(&bytes);
+}
+
+/// The count of the hazards, then their places and those that are not used.
+fn write_row(standing: &Standing, bytes: &mut Vec<u8>) {
+    bytes.extend(four_bytes(standing.len() as u64));
+    let end = bytes.len() + ROW_BYTES;
+    for (name, hazard) in standing {
         for value in [hazard.start, hazard.end, hazard.near, hazard.far] {
             bytes.extend(four_bytes(value));
         }
         bytes.extend([*name, 0, hazard.side as u8, hazard.level as u8]);
     }
-    bytes.resize(BYTES, 0);
-    memory.copy_from_slice(&bytes);
+    bytes.resize(end, 0);
 }
 
 /// The numbers of a header in the paper's order, without the hazard count. Kind
@@ -73,14 +96,40 @@ pub fn read(memory: &[u8]) -> Option<OpenJob> {
     if memory.len() != BYTES {
         return None;
     }
-    let (header, places) = memory.split_at(HEADER_BYTES);
-    let numbers: Vec<u64> = header.chunks(4).map(value).collect();
-    let count = *numbers.last()?;
+    let (now, states) = memory.split_at(NOW_BYTES);
+    let (header, row) = now.split_at(HEADER_BYTES - 4);
+    let header: Vec<u64> = header.chunks(4).map(value).collect();
+    let standing = read_row(&header, row)?;
+    let mut kept = [const { None }; STATES];
+    for (kept, state) in kept.iter_mut().zip(states.chunks(STATE_BYTES)) {
+        *kept = read_state(&header, state)?;
+    }
+    Some(OpenJob {
+        header: accepted(&header, &[])?,
+        standing,
+        kept,
+    })
+}
+
+/// A state with its row, or one that is not kept.
+fn read_state(header: &[u64], state: &[u8]) -> Option<Option<Standing>> {
+    let (used, row) = state.split_at(4);
+    match value(used) {
+        0 => all_0(row).then_some(None),
+        1 => Some(Some(read_row(header, row)?)),
+        _ => None,
+    }
+}
+
+/// The hazards of a row by their names: its count, then its places.
+fn read_row(header: &[u64], row: &[u8]) -> Option<Standing> {
+    let (count, places) = row.split_at(4);
+    let count = value(count);
     if count > PLACES as u64 {
         return None;
     }
     let (used, unused) = places.split_at(count as usize * PLACE_BYTES);
-    if unused.iter().any(|byte| *byte != 0) {
+    if !all_0(unused) {
         return None;
     }
     let places: Vec<(u64, Hazard)> = used.chunks(PLACE_BYTES).map(place).collect();
@@ -90,15 +139,14 @@ pub fn read(memory: &[u8]) -> Option<OpenJob> {
         return None;
     }
     let hazards: Vec<Hazard> = places.iter().map(|(_, hazard)| *hazard).collect();
-    let job = accepted(&numbers, &hazards)?;
+    accepted(header, &hazards)?;
     let names = places.iter().map(|(name, _)| *name as u8);
-    Some(OpenJob {
-        standing: names.zip(hazards).collect(),
-        header: Job {
-            hazards: Vec::new(),
-            ..job
-        },
-    })
+    Some(names.zip(hazards).collect())
+}
+
+/// Without an early end, which would make it slower over so many bytes.
+pub fn all_0(bytes: &[u8]) -> bool {
+    bytes.iter().fold(0, |bits, byte| bits | byte) == 0
 }
 
 /// The value of a few bytes, lowest first.
@@ -123,14 +171,12 @@ fn place(bytes: &[u8]) -> (u64, Hazard) {
 /// The job of these header numbers and hazards, if it is an accepted one: its
 /// bytes are read as any job's are.
 fn accepted(header: &[u64], hazards: &[Hazard]) -> Option<Job> {
+    let mut numbers = in_job_bytes(header)?;
+    numbers.push(hazards.len() as u64);
+    numbers.extend(hazards.iter().flat_map(job::fields));
     let mut bytes = Vec::new();
-    for value in in_job_bytes(header)? {
+    for value in numbers {
         number::write(value, &mut bytes);
-    }
-    for hazard in hazards {
-        for value in job::fields(hazard) {
-            number::write(value, &mut bytes);
-        }
     }
     let job = job::read(&bytes).ok()?;
     envelope::envelopes(&job).ok()?;

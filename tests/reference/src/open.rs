@@ -1,4 +1,5 @@
-//! An open job: a header, and hazards by name that come and go.
+//! An open job: a header, hazards by name that come and go, and kept states to
+//! return to.
 
 use std::collections::BTreeMap;
 
@@ -8,12 +9,20 @@ use crate::memory;
 use crate::plan_job;
 use crate::refusal::Refusal;
 
-/// A header and the hazards that stand, each under its name.
+/// Hazards, each under its name.
+pub type Standing = BTreeMap<u8, Hazard>;
+
+/// As many states may be kept, under numbers from 0.
+pub const STATES: usize = 8;
+
+/// A header, the hazards that stand, and the hazards that stood when a state was
+/// last kept.
 #[derive(Clone, Debug, PartialEq, Eq)]
 pub struct OpenJob {
     /// Its own list of hazards stays empty.
     pub header: Job,
-    pub standing: BTreeMap<u8, Hazard>,
+    pub standing: Standing,
+    pub kept: [Option<Standing>; STATES],
 }
 
 impl OpenJob {
@@ -25,7 +34,8 @@ impl OpenJob {
         job::nothing_follows(&reader)?;
         Ok(OpenJob {
             header,
-            standing: BTreeMap::new(),
+            standing: Standing::new(),
+            kept: [const { None }; STATES],
         })
     }
 
@@ -50,6 +60,19 @@ impl OpenJob {
         }
     }
 
+    /// Keeps what stands under a number; a used one is replaced.
+    pub fn keep(&mut self, state: u64) -> Result<(), Refusal> {
+        self.kept[place(state)?] = Some(self.standing.clone());
+        Ok(())
+    }
+
+    /// Returns to what stood when a state was last kept.
+    pub fn return_to(&mut self, state: u64) -> Result<(), Refusal> {
+        let kept = &self.kept[place(state)?];
+        self.standing = kept.clone().ok_or(Refusal::state())?;
+        Ok(())
+    }
+
     /// Writes the schedule of one side, as plan does: 8, then 9.
     pub fn schedule(&self, side: u64, out: &mut [u8]) -> Result<u64, Refusal> {
         plan_job(&self.job(), side, out)
@@ -64,6 +87,14 @@ impl OpenJob {
     }
 }
 
+/// The place of a state number, which is 64 bits wide.
+fn place(state: u64) -> Result<usize, Refusal> {
+    match state < STATES as u64 {
+        true => Ok(state as usize),
+        false => Err(Refusal::state()),
+    }
+}
+
 // The calls, on the caller's memory. A refused call alters nothing.
 
 /// Opening takes memory with any content.
@@ -74,15 +105,27 @@ pub fn open(memory: &mut [u8], bytes: &[u8]) -> Result<u64, Refusal> {
 }
 
 pub fn add(memory: &mut [u8], name: u8, hazard: Hazard) -> Result<u64, Refusal> {
-    let mut open = tested(memory)?;
-    open.add(name, hazard)?;
-    memory::write(&open, memory);
-    Ok(0)
+    change(memory, |open| open.add(name, hazard))
 }
 
 pub fn withdraw(memory: &mut [u8], name: u8) -> Result<u64, Refusal> {
+    change(memory, |open| open.withdraw(name))
+}
+
+pub fn keep(memory: &mut [u8], state: u64) -> Result<u64, Refusal> {
+    change(memory, |open| open.keep(state))
+}
+
+pub fn return_to(memory: &mut [u8], state: u64) -> Result<u64, Refusal> {
+    change(memory, |open| open.return_to(state))
+}
+
+fn change(
+    memory: &mut [u8],
+    call: impl FnOnce(&mut OpenJob) -> Result<(), Refusal>,
+) -> Result<u64, Refusal> {
     let mut open = tested(memory)?;
-    open.withdraw(name)?;
+    call(&mut open)?;
     memory::write(&open, memory);
     Ok(0)
 }
@@ -92,8 +135,8 @@ pub fn open_schedule(memory: &[u8], side: u64, out: &mut [u8]) -> Result<u64, Re
     tested(memory)?.schedule(side, out)
 }
 
-/// Memory whose header, names or hazards break the rules is refused 3 with 0
-/// before any other test.
+/// Memory whose header, names or hazards, the kept ones too, break the rules is
+/// refused 3 with 0 before any other test.
 fn tested(memory: &[u8]) -> Result<OpenJob, Refusal> {
     memory::read(memory).ok_or(Refusal::header_range(0))
 }

@@ -69,6 +69,12 @@ impl Refusal {
     pub fn name(name: u8) -> Refusal {
         refusal(12, name.into())
     }
+
+    /// 13: a state number above 7, or in a return one under which nothing is
+    /// kept.
+    pub fn state() -> Refusal {
+        refusal(13, 0)
+    }
 }
 
 fn refusal(number: u64, value: u64) -> Refusal {

@@ -6,8 +6,8 @@ use common::*;
 use reference::job::Hazard;
 use reference::random::Random;
 use reference::{
-    OpenJob, Quantities, Refusal, add, level, memory, open, open_schedule, planned, quantities,
-    quantity, withdraw,
+    OpenJob, Quantities, Refusal, add, keep, level, memory, open, open_schedule, planned,
+    quantities, quantity, return_to, withdraw,
 };
 
 // 1: quantities for a whole contract.
@@ -218,12 +218,12 @@ fn schedule(memory: &[u8], side: u64) -> Vec<u8> {
 #[test]
 fn the_memory_byte_by_byte() {
     let mut memory = opened();
-    assert_eq!(memory.len(), 5_180);
+    assert_eq!(memory.len(), 46_204);
     let header = [
         1, 0, 1_000_000, 101_000, 0, 9_000, 0, 3_000, 1_000, 15, 1, 13_340, 0, 1, 0u32,
     ];
     assert_eq!(memory[..60], header.map(u32::to_le_bytes).concat());
-    assert_eq!(memory[60..], [0; 5_120]);
+    assert!(memory[60..].iter().all(|byte| *byte == 0));
 
     let second = [1, 300_000, 310_001, 5_001, 60_000, 6];
     assert_eq!(add(&mut memory, 255, hazard(PRINTED_HAZARD)), Ok(0));
@@ -235,7 +235,7 @@ fn the_memory_byte_by_byte() {
     let behind = [200_000, 210_000, 5_000, 9_000u32].map(u32::to_le_bytes);
     assert_eq!(memory[80..96], behind.concat());
     assert_eq!(memory[96..100], [255, 0, 0, 3]);
-    assert_eq!(memory[100..], [0; 5_080]);
+    assert!(memory[100..].iter().all(|byte| *byte == 0));
 
     // A withdrawal closes the row and clears the place behind it.
     assert_eq!(withdraw(&mut memory, 7), Ok(0));
@@ -416,6 +416,10 @@ fn broken(memory: &[u8]) -> bool {
         withdraw(&mut memory, 7),
         open_schedule(&memory, 0, &mut [0; 100]),
         open_schedule(&memory, 2, &mut []),
+        keep(&mut memory, 0),
+        keep(&mut memory, 8),
+        return_to(&mut memory, 0),
+        return_to(&mut memory, u64::MAX),
     ];
     let refusal = Err(Refusal {
         number: 3,
@@ -485,7 +489,7 @@ fn memory_that_breaks_the_rules() {
     assert!(with(60, &310_000u32.to_le_bytes()) && with(60, &44_226u32.to_le_bytes()));
     assert!(!with(60, &44_227u32.to_le_bytes()));
     // Places that are not used.
-    for at in [100, 119, 120, 3_000, 5_179] {
+    for at in [100, 119, 120, 3_000, 5_179, 5_184, 5_188, 46_203] {
         assert!(with(at, &[1]) && !with(at, &[0]));
     }
     assert!(broken(&[0; memory::BYTES]) && broken(&[0xFF; memory::BYTES]));
@@ -501,7 +505,16 @@ fn lists_of_calls() {
         };
         let mut open = OpenJob::open(&header.bytes()).unwrap();
         let mut list: Vec<(u8, [u64; 6])> = Vec::new();
-        for _ in 0..30 {
+        let mut kept = vec![None; 8];
+        for _ in 0..40 {
+            let state = random.below(9);
+            match random.below(10) {
+                0 if open.keep(state).is_ok() => kept[state as usize] = Some(list.clone()),
+                1 if open.return_to(state).is_ok() => {
+                    list = kept[state as usize].clone().expect("a state that was kept");
+                }
+                _ => (),
+            }
             let name = random.pick(&[0, 1, 2, 100, 254, 255]);
             let start = random.between(40_000, 60_000);
             let near = random.between(3_990, 4_020);
@@ -727,4 +740,145 @@ fn the_level_refused_as_plan_without_9() {
     }
     let left_over = [&whole[..], &[0x00]].concat();
     assert_eq!(refused(&left_over, 0), (7, whole.len() as u64));
+}
+
+// 7: named states of an open job.
+
+/// The names that stand.
+fn names(memory: &[u8]) -> Vec<u8> {
+    let open = memory::read(memory).expect("it is an open job");
+    open.standing.into_keys().collect()
+}
+
+#[test]
+fn a_variant_is_tried_and_left() {
+    let mut memory = two_standing(PRINTED.in_panels(4_000));
+    let first = memory.clone();
+    assert_eq!(keep(&mut memory, 3), Ok(0));
+    let kept = memory.clone();
+    assert_eq!(memory[..5_180], first[..5_180], "what stands stays");
+    assert_eq!(withdraw(&mut memory, 7), Ok(0));
+    assert_eq!(withdraw(&mut memory, 9), Ok(0));
+    assert_eq!(add(&mut memory, 9, hazard(PRINTED_HAZARD)), Ok(0));
+    assert_eq!(memory[5_180..], kept[5_180..], "what is kept stays");
+    assert_eq!(keep(&mut memory, 0), Ok(0));
+    assert_eq!(names(&memory), [9]);
+    assert_eq!(return_to(&mut memory, 3), Ok(0));
+    assert_eq!(schedule(&memory, 0), schedule(&first, 0));
+    assert_eq!(memory[..5_180], first[..5_180]);
+    // A return does not use its state up, and leaves the others.
+    assert_eq!(return_to(&mut memory, 0), Ok(0));
+    assert_eq!(names(&memory), [9]);
+    assert_eq!(return_to(&mut memory, 3), Ok(0));
+    assert_eq!(names(&memory), [7, 9]);
+}
+
+#[test]
+fn keeping_under_a_used_number_replaces_it() {
+    let mut memory = two_standing(PRINTED);
+    assert_eq!(keep(&mut memory, 7), Ok(0));
+    assert_eq!(withdraw(&mut memory, 7), Ok(0));
+    assert_eq!(keep(&mut memory, 7), Ok(0));
+    assert_eq!(withdraw(&mut memory, 9), Ok(0));
+    assert_eq!(return_to(&mut memory, 7), Ok(0));
+    assert_eq!(names(&memory), [9]);
+}
+
+#[test]
+fn an_empty_job_can_be_kept() {
+    let mut memory = opened();
+    assert_eq!(keep(&mut memory, 5), Ok(0));
+    assert_eq!(add(&mut memory, 1, hazard(PRINTED_HAZARD)), Ok(0));
+    assert_eq!(return_to(&mut memory, 5), Ok(0));
+    assert_eq!(names(&memory), []);
+    // Without the mark of the kept state it is a job just opened.
+    memory[5_180 + 5 * 5_128] = 0;
+    assert_eq!(memory, opened());
+}
+
+#[test]
+fn the_kept_states_byte_by_byte() {
+    let mut memory = two_standing(PRINTED);
+    assert_eq!(keep(&mut memory, 0), Ok(0));
+    assert_eq!(keep(&mut memory, 7), Ok(0));
+    for state in [5_180, 41_076] {
+        assert_eq!(memory[state..state + 4], 1u32.to_le_bytes(), "used");
+        assert_eq!(memory[state + 4..state + 8], 2u32.to_le_bytes(), "count");
+        assert_eq!(
+            memory[state + 8..state + 5_128],
+            memory[60..5_180],
+            "places"
+        );
+    }
+    assert!(memory[10_308..41_076].iter().all(|byte| *byte == 0));
+    assert_eq!(memory.len(), 41_076 + 5_128);
+}
+
+#[test]
+fn opening_empties_all_states() {
+    let mut memory = two_standing(PRINTED);
+    for state in 0..8 {
+        assert_eq!(keep(&mut memory, state), Ok(0));
+    }
+    assert_eq!(open(&mut memory, &PRINTED.bytes()), Ok(0));
+    assert_eq!(memory, opened());
+    for state in 0..8 {
+        let returning = |memory: &mut [u8]| return_to(memory, state);
+        assert_eq!(refused(&mut memory, returning), (13, 0));
+    }
+}
+
+#[test]
+fn row_13() {
+    let mut memory = two_standing(PRINTED);
+    assert_eq!(keep(&mut memory, 1), Ok(0));
+    for state in [
+        8,
+        9,
+        255,
+        256,
+        257,
+        1 << 32,
+        (1 << 32) + 1,
+        1 << 63,
+        u64::MAX,
+    ] {
+        assert_eq!(refused(&mut memory, |m| keep(m, state)), (13, 0));
+        assert_eq!(refused(&mut memory, |m| return_to(m, state)), (13, 0));
+    }
+    for state in [0, 2, 7] {
+        assert_eq!(refused(&mut memory, |m| return_to(m, state)), (13, 0));
+    }
+}
+
+/// The test of the memory takes in the kept names and hazards, for every call.
+#[test]
+fn kept_states_that_break_the_rules() {
+    let mut right = two_standing(PRINTED.in_panels(4_000));
+    assert_eq!(keep(&mut right, 2), Ok(0));
+    assert_eq!(withdraw(&mut right, 7), Ok(0));
+    assert_eq!(withdraw(&mut right, 9), Ok(0));
+    assert!(!broken(&right));
+    let state = 5_180 + 2 * 5_128;
+    let with = |at: usize, bytes: &[u8]| broken_with(&right, state + at, bytes);
+    let four = |at: usize, value: u32| with(at, &value.to_le_bytes());
+    // Used and count.
+    assert!(four(0, 0) && four(0, 2) && four(0, 256) && !four(0, 1));
+    assert!(four(4, 0) && four(4, 1) && four(4, 3) && four(4, 257));
+    // Names.
+    assert!(with(24, &[9]) && with(24, &[10]) && !with(24, &[8]));
+    assert!(with(44, &[9, 1]) && !with(44, &[255, 0]));
+    // Hazards under the one header: 4, 5 and 6, in whole panels.
+    assert!(with(26, &[2]) && with(27, &[0]) && with(27, &[7]) && !with(27, &[6]));
+    assert!(four(16, 3_999) && !four(16, 4_000));
+    assert!(four(8, 47_999) && !four(8, 48_000));
+    assert!(broken_with_number(&right, 2, 152_001));
+    assert!(!broken_with_number(&right, 2, 152_000));
+    // Places that are not used, and a state that is not kept.
+    for at in [48, 5_127] {
+        assert!(with(at, &[1]) && !with(at, &[0]));
+    }
+    let next = 5_128;
+    assert!(!four(next, 1), "an empty job kept");
+    assert!(four(next, 2) && four(next + 4, 1) && with(next + 8, &[1]));
 }

@@ -1,6 +1,6 @@
 //! An open job: the header of document 01's printed example, to which hazards
-//! come as a controller meets them. It ends with 1 where a call does not do
-//! what it should.
+//! come as a controller meets them; then a variant, tried and taken back. It
+//! ends with 1 where a call does not do what it should.
 //!
 //! It prints the same text as examples/open_job.c.
 
@@ -34,6 +34,10 @@ const HEADER: [u64; 14] = [
 /// The names under which the hazards stand.
 const HEADWALL: u8 = 7;
 const POLE: u8 = 20;
+
+/// The state number under which a state is kept, and one of which none is.
+const BEFORE: u64 = 0;
+const NEVER_KEPT: u64 = 1;
 
 /// A hazard on the right side, its offsets those of the printed example.
 fn hazard(start: u64, end: u64, level: u64) -> Hazard {
@@ -103,8 +107,8 @@ fn print_runs(out: &mut impl Write, job: &OpenJob) -> Result<(), Stop> {
     Ok(())
 }
 
-/// Everything in turn.
-fn show(out: &mut impl Write) -> Result<(), Stop> {
+/// Hazards come and go; the job then has the headwall and the pole.
+fn show_hazards(out: &mut impl Write) -> Result<OpenJob, Stop> {
     let headwall = hazard(200_000, 210_000, NC_3);
     let pole = hazard(600_000, 600_300, NC_2);
 
@@ -120,7 +124,29 @@ fn show(out: &mut impl Write) -> Result<(), Stop> {
     ends_with(out, "withdraw 7", job.withdraw(HEADWALL), barrier::DONE)?;
     print_runs(out, &job)?;
     ends_with(out, "add 7", job.add(HEADWALL, headwall), barrier::DONE)?;
-    print_runs(out, &job)
+    print_runs(out, &job)?;
+    Ok(job)
+}
+
+/// The pole 100 m farther on, and back.
+fn show_variant(out: &mut impl Write, job: &mut OpenJob) -> Result<(), Stop> {
+    let moved_pole = hazard(700_000, 700_300, NC_2);
+
+    writeln!(out, "A variant")?;
+    ends_with(out, "keep 0", job.keep(BEFORE), barrier::DONE)?;
+    ends_with(out, "withdraw 20", job.withdraw(POLE), barrier::DONE)?;
+    ends_with(out, "add 20", job.add(POLE, moved_pole), barrier::DONE)?;
+    print_runs(out, job)?;
+    ends_with(out, "return 0", job.return_to(BEFORE), barrier::DONE)?;
+    print_runs(out, job)?;
+    ends_with(out, "return 1", job.return_to(NEVER_KEPT), barrier::STATE)?;
+    Ok(())
+}
+
+/// Everything in turn.
+fn show(out: &mut impl Write) -> Result<(), Stop> {
+    let mut job = show_hazards(out)?;
+    show_variant(out, &mut job)
 }
 
 /// println! would panic where standard output is full or closed.

@@ -1,0 +1,4 @@
+pub mod UnusedLaws
+pub mod PartLaws
+pub mod StateLaws
+pub mod WholeLaws

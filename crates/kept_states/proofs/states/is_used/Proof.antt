@@ -1,0 +1,12 @@
+-- `kept_states::states::is_used` meets its contract: its test is the definition's. Assumes nothing.
+use mathlib.Core.Path.{refl}
+use Rattle.kept_states.specs.States.{isUsed}
+use Rattle.kept_states.proofs.states.is_used.Statement.{statement}
+use Rattle.kept_states.proofs.states.is_used.Tie as tie
+
+returns : tie.Need-returns
+unfolding isUsed
+returns c = refl
+
+pub is-used-spec : {M : Type 1} → statement M
+is-used-spec = tie.close (tie.spec returns)

@@ -1,0 +1,64 @@
+-- The calls on the parts of the memory, one kept state at a time. `sound` says that all that is kept is sound: it keeps the rules.
+-- Assumes nothing.
+use Prim.Native.Nat.{ℕ, _+_, _*_}
+use mathlib.Core.Bool.{Bool, _&&_}
+use mathlib.Core.List.{List}
+use lib.Dec.{leb, eqb}
+use Rattle.refusal.specs.Choice.{if_then_else_}
+use Rattle.refusal.specs.Answer.{Answer, accepted, _>>=_, unless-refuse}
+use Rattle.job.specs.declared.Header.{Header}
+use Rattle.job.specs.declared.Hazard.{Hazard}
+use Rattle.job.specs.declared.NamedHazard.{NamedHazard}
+use Rattle.job.specs.declared.StoredJob.{StoredJob}
+use Rattle.open_memory.specs.Memory.{isOpenJob}
+use Rattle.open_job.specs.Open.{addTo, withdrawFrom, scheduleOf}
+use Rattle.kept_states.specs.declared.KeptState.{KeptState}
+use Rattle.kept_states.specs.States.{greatestStateNumber, nothingKept, stateOf, isUsed, keptSound}
+
+-- A place, as it is compared with 0
+
+-- The four numbers of 32 bits, and the others side by side.
+abbrev pub wordsUnused : NamedHazard → Bool
+wordsUnused p = eqb (p .start) 0 && eqb (p .end) 0 && eqb (p .near) 0 && eqb (p .far) 0
+
+abbrev pub restOf : NamedHazard → ℕ
+restOf p = p .name + p .side * 65536 + p .level * 16777216
+
+-- One kept state
+
+-- What is kept under the numbers before is sound, and so is this.
+abbrev pub alsoSound : (before : Bool) → Header → KeptState → Bool
+alsoSound before h k = before && keptSound h k
+
+-- The new one where it is asked for and the numbers are equal, else the old one.
+unfoldable pub chosen : (asked : Bool) → (number own : ℕ) → (new old : KeptState) → KeptState
+chosen asked number own new old = if asked && eqb number own then new else old
+
+-- What is kept after an opening.
+unfoldable pub emptied : (done : Bool) → KeptState → KeptState
+emptied done old = if done then nothingKept else old
+
+-- The calls
+
+unfoldable pub addPart : (sound : Bool) → StoredJob → (name : ℕ) → Hazard → Answer StoredJob
+addPart sound a name z = unless-refuse sound 3 0 >>= λ _. addTo a name z
+
+unfoldable pub withdrawPart : (sound : Bool) → StoredJob → (name : ℕ) → Answer StoredJob
+withdrawPart sound a name = unless-refuse sound 3 0 >>= λ _. withdrawFrom a name
+
+unfoldable pub schedulePart : (sound : Bool) → StoredJob → (side room : ℕ) → Answer (List ℕ)
+schedulePart sound a side room = unless-refuse sound 3 0 >>= λ _. scheduleOf a side room
+
+-- The tests of keep and return.
+unfoldable pub testNumber : (sound : Bool) → StoredJob → (number : ℕ) → Answer (Unit {0})
+testNumber sound a number =
+    unless-refuse sound 3 0 >>= λ _.
+    unless-refuse (isOpenJob a) 3 0 >>= λ _.
+    unless-refuse (leb number greatestStateNumber) 13 0
+
+-- The state now after a return to what was found under a number.
+unfoldable pub returnPart : (sound : Bool) → StoredJob → (number : ℕ) → (kept : KeptState) → Answer StoredJob
+returnPart sound a number kept =
+    testNumber sound a number >>= λ _.
+    unless-refuse (isUsed kept) 13 0 >>= λ _.
+    accepted (stateOf (a .header) kept)

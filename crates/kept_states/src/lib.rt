@@ -1,0 +1,30 @@
+// Named states of an open job: the state now, and up to eight states that are kept under the numbers 0 to 7.
+use job::NamedHazard;
+use job::StoredJob;
+
+pub mod calls; // the calls on the parts of the memory, by value
+pub mod states; // one kept state: its rules, made and taken back
+mod unused; // are all places of a kept state 0
+
+// What is kept under a number. Nothing: all is 0. A state: used is 1, and its names and hazards stand as in an open job, whose header is
+// that of the state now.
+#[repr(C)]
+pub struct KeptState {
+    pub used: u32,
+    pub count: u32,
+    pub hazards: [NamedHazard; 256],
+}
+
+// The memory of an open job. Eight fields lie as an array of eight does; each is read and stored by itself.
+#[repr(C)]
+pub struct OpenStates {
+    pub now: StoredJob,
+    pub kept0: KeptState,
+    pub kept1: KeptState,
+    pub kept2: KeptState,
+    pub kept3: KeptState,
+    pub kept4: KeptState,
+    pub kept5: KeptState,
+    pub kept6: KeptState,
+    pub kept7: KeptState,
+}

@@ -1,0 +1,29 @@
+-- The C interface's structs for each answer of the calls.
+-- Assumes nothing.
+use Prim.Native.Nat.{ℕ, _+_}
+use mathlib.Core.List.{[]}
+use Rattle.refusal.specs.Answer.{Answer, accepted, refused}
+use Rattle.queries.specs.Lookup.{Found, found, nowhere}
+use Rattle.queries.specs.Ranges.{Counted, placesOf}
+use Rattle.replies.specs.declared.Reply.{Reply}
+use Rattle.replies.specs.declared.Record.{Record}
+use Rattle.replies.specs.declared.Quantities.{Quantities}
+
+abbrev pub reply : (number value : ℕ) → Reply
+reply number value = record { number = number; value = value }
+
+-- Number 0 is done; else the refusal's number and what it returns.
+unfoldable pub replyOf : Answer ℕ → Reply
+replyOf (accepted value) = reply 0 value
+replyOf (refused number value) = reply number value
+
+-- The record's first byte, and the index behind its last.
+unfoldable pub recordOf : Answer Found → Record
+recordOf (accepted (found p)) = record { number = 0; found = 1; start = p .at; end = p .at + p .len }
+recordOf (accepted nowhere) = record { number = 0; found = 0; start = 0; end = 0 }
+recordOf (refused number value) = record { number = number; found = 0; start = 0; end = 0 }
+
+-- The records read, a quantity for each range and zeros behind them; after a refusal zeros alone.
+unfoldable pub quantitiesOf : Answer Counted → Quantities
+quantitiesOf (accepted c) = record { number = 0; value = 0; records = c .records; quantities = placesOf (c .quantities) }
+quantitiesOf (refused number value) = record { number = number; value = value; records = 0; quantities = placesOf [] }
