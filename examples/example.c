@@ -1,9 +1,10 @@
 /*
  * The first program: plans document 01's printed example, looks up the barrier
  * at some stations, asks for the level at two of them without the schedule,
- * prices it by lots and shows two refusals.  It ends with 1 where a call does
- * not do what it should: a schedule that cannot be read must not be priced as
- * one without barriers.
+ * prices it by lots, plans a job whose approach runs into the neighbouring
+ * contract and shows two refusals.  It ends with 1 where a call does not do
+ * what it should: a schedule that cannot be read must not be priced as one
+ * without barriers.
  *
  *     cc example.c $(pkg-config --cflags --libs barrier_engine) -o example
  */
@@ -15,7 +16,9 @@
 #include "number_form.h"
 
 /* The header, 14 numbers, and one hazard: a culvert headwall on the right. */
-enum { JOB_NUMBERS = 20, NEAR_OFFSET = 17, ROAD_END = 1000000 };
+enum { JOB_NUMBERS = 20, ROAD_END = 1000000 };
+/* The places, from 0, of the numbers that are changed below. */
+enum { FLARE_ACROSS = 10, FIRST_STATION = 15, NEAR_OFFSET = 17 };
 
 static const uint64_t printed_job[JOB_NUMBERS] = {
     1,               /* kind */
@@ -44,6 +47,12 @@ static size_t write_job(const uint64_t *numbers, uint8_t *job)
     for (int i = 0; i < JOB_NUMBERS; i++)
         length += put_number(job + length, numbers[i]);
     return length;
+}
+
+static void copy_printed_job(uint64_t *numbers)
+{
+    for (int i = 0; i < JOB_NUMBERS; i++)
+        numbers[i] = printed_job[i];
 }
 
 static void print_bytes(const char *name, const uint8_t *bytes, size_t length)
@@ -75,9 +84,6 @@ static void print_refusal(const char *what, barrier_reply reply)
     case BARRIER_HAZARD_NEAR:
         printf("hazard %" PRIu64 " leaves the barrier no room to deflect\n", value);
         break;
-    case BARRIER_ENVELOPE_OFF_ROAD:
-        printf("the envelope of hazard %" PRIu64 " leaves the road\n", value);
-        break;
     case BARRIER_JOB_LEFT_OVER:
         printf("bytes are left over from byte %" PRIu64 " on\n", value);
         break;
@@ -104,13 +110,23 @@ static void print_refusal(const char *what, barrier_reply reply)
     }
 }
 
-/* Plans one side into BARRIER_SCHEDULE_MAX bytes; 0 bytes if refused. */
+/* A plan's reply without its overhangs: a refusal has none. */
+static barrier_reply without_overhangs(barrier_plan_reply planned)
+{
+    const barrier_reply reply = {planned.number, planned.value};
+    return reply;
+}
+
+/*
+ * Plans one side into BARRIER_SCHEDULE_MAX bytes; 0 bytes if refused.  This job
+ * hangs over nowhere; a program for any job looks at before and after too.
+ */
 static size_t plan(const uint8_t *job, size_t job_len, uint64_t side, uint8_t *out)
 {
-    const barrier_reply reply =
+    const barrier_plan_reply reply =
         barrier_plan(job, job_len, side, out, BARRIER_SCHEDULE_MAX);
     if (reply.number != BARRIER_DONE) {
-        print_refusal("plan", reply);
+        print_refusal("plan", without_overhangs(reply));
         return 0;
     }
     return (size_t)reply.value;
@@ -230,6 +246,35 @@ static int print_prices(const uint8_t *right, size_t right_len)
     return print_lots(right, right_len, 155773) && print_road(right, right_len);
 }
 
+/*
+ * Case K8's second job: without flare, and the headwall from 67,333 on, one
+ * millimetre nearer to the road's begin than its approach is long.  The
+ * schedule begins with the road.  What hangs over stands in the neighbouring
+ * contract and is in no quantity of this one, so that office has to be told;
+ * 0 if refused.
+ */
+static int print_overhang(void)
+{
+    uint64_t numbers[JOB_NUMBERS];
+    uint8_t job[JOB_NUMBERS * NUMBER_BYTES_MAX];
+    uint8_t out[BARRIER_SCHEDULE_MAX];
+    copy_printed_job(numbers);
+    numbers[FLARE_ACROSS] = 0;
+    numbers[FIRST_STATION] = 67333;
+    const size_t job_len = write_job(numbers, job);
+    const barrier_plan_reply reply =
+        barrier_plan(job, job_len, BARRIER_RIGHT, out, sizeof out);
+    if (reply.number != BARRIER_DONE) {
+        print_refusal("plan", without_overhangs(reply));
+        return 0;
+    }
+    printf("An approach that runs into the neighbouring contract\n");
+    print_bytes("right schedule", out, (size_t)reply.value);
+    printf("  overhang on the right: %" PRIu64 " mm before the road, %" PRIu64 " mm behind it\n",
+           reply.before, reply.after);
+    return 1;
+}
+
 /* A call that has to be refused; 0 if it is done. */
 static int print_refused(const char *what, barrier_reply reply)
 {
@@ -247,15 +292,16 @@ static int print_refusals(const uint8_t *job, size_t job_len)
     uint64_t numbers[JOB_NUMBERS];
     uint8_t near_job[JOB_NUMBERS * NUMBER_BYTES_MAX];
     uint8_t out[BARRIER_SCHEDULE_MAX];
-    for (int i = 0; i < JOB_NUMBERS; i++)
-        numbers[i] = printed_job[i];
+    copy_printed_job(numbers);
     numbers[NEAR_OFFSET] = 3999;
     const size_t near_len = write_job(numbers, near_job);
     printf("Refusals\n");
-    if (!print_refused("near offset 3999",
-                       barrier_plan(near_job, near_len, BARRIER_RIGHT, out, sizeof out)))
+    const barrier_plan_reply too_near =
+        barrier_plan(near_job, near_len, BARRIER_RIGHT, out, sizeof out);
+    if (!print_refused("near offset 3999", without_overhangs(too_near)))
         return 0;
-    return print_refused("room for 7 bytes", barrier_plan(job, job_len, BARRIER_RIGHT, out, 7));
+    const barrier_plan_reply too_short = barrier_plan(job, job_len, BARRIER_RIGHT, out, 7);
+    return print_refused("room for 7 bytes", without_overhangs(too_short));
 }
 
 /* Everything in turn; 0 where a call does not do what it should. */
@@ -278,7 +324,7 @@ static int show(void)
     print_bytes("right schedule", right, right_len);
     print_bytes("left schedule", left, left_len);
     return print_stations(right, right_len) && print_levels(job, job_len) &&
-           print_prices(right, right_len) && print_refusals(job, job_len);
+           print_prices(right, right_len) && print_overhang() && print_refusals(job, job_len);
 }
 
 int main(void)

@@ -1,7 +1,8 @@
 /*
  * An open job: the header of document 01's printed example, to which hazards
- * come as a controller meets them; then a variant, tried and taken back.  It
- * ends with 1 where a call does not do what it should.
+ * come as a controller meets them; then a variant, tried and taken back; then
+ * hazards by the road's begin.  It ends with 1 where a call does not do what it
+ * should.
  *
  *     cc open_job.c $(pkg-config --cflags --libs barrier_engine) -o open_job
  */
@@ -29,7 +30,7 @@ static const uint64_t header[HEADER_NUMBERS] = {
 };
 
 /* The names under which the hazards stand. */
-enum { HEADWALL = 7, POLE = 20 };
+enum { HEADWALL = 7, POLE = 20, CULVERT = 30, PIER = 31 };
 
 /* The state number under which a state is kept, and one of which none is. */
 enum { BEFORE = 0, NEVER_KEPT = 1 };
@@ -38,6 +39,9 @@ enum { BEFORE = 0, NEVER_KEPT = 1 };
 static const barrier_hazard headwall = {BARRIER_RIGHT, 200000, 210000, 5000, 9000, BARRIER_NC_3};
 static const barrier_hazard pole = {BARRIER_RIGHT, 600000, 600300, 5000, 9000, BARRIER_NC_2};
 static const barrier_hazard moved_pole = {BARRIER_RIGHT, 700000, 700300, 5000, 9000, BARRIER_NC_2};
+/* Two by the road's begin, whose approaches of 44,227 do not fit before them. */
+static const barrier_hazard culvert = {BARRIER_RIGHT, 30000, 31000, 5000, 9000, BARRIER_NC_3};
+static const barrier_hazard pier = {BARRIER_RIGHT, 40000, 42000, 5000, 9000, BARRIER_NC_4};
 
 /* Prints how a call ended; 0 unless that is what is wanted. */
 static int ends_with(const char *what, barrier_reply reply, uint64_t wanted)
@@ -58,15 +62,16 @@ static int open_header(barrier_open_job *job)
     return ends_with("open", barrier_open(job, bytes, length), BARRIER_DONE);
 }
 
-/* The runs of the right side, as they are now; 0 if refused. */
+/* The runs of the right side, as they are now, and its overhang; 0 if refused. */
 static int print_runs(const barrier_open_job *job)
 {
     static uint8_t schedule[BARRIER_SCHEDULE_MAX];
     size_t at = 0;
     uint64_t end = 0;
-    if (!ends_with("schedule",
-                   barrier_open_schedule(job, BARRIER_RIGHT, schedule, sizeof schedule),
-                   BARRIER_DONE))
+    const barrier_plan_reply planned =
+        barrier_open_schedule(job, BARRIER_RIGHT, schedule, sizeof schedule);
+    const barrier_reply reply = {planned.number, planned.value};
+    if (!ends_with("schedule", reply, BARRIER_DONE))
         return 0;
     for (uint64_t count = get_number(schedule, &at); count > 0; count--) {
         /* A record has the distance from the run before, not the station. */
@@ -75,6 +80,10 @@ static int print_runs(const barrier_open_job *job)
         const uint64_t level = get_number(schedule, &at);
         printf("    [%" PRIu64 ", %" PRIu64 ") at NC-%" PRIu64 "\n", start, end, level);
     }
+    /* Not in the runs: it stands in the neighbouring contract. */
+    if (planned.before > 0 || planned.after > 0)
+        printf("    overhang: %" PRIu64 " mm before the road, %" PRIu64 " mm behind it\n",
+               planned.before, planned.after);
     return 1;
 }
 
@@ -106,10 +115,21 @@ static int show_variant(barrier_open_job *job)
            ends_with("return 1", barrier_return(job, NEVER_KEPT), BARRIER_STATE);
 }
 
+/* By the boundary; 0 where a call does not do what it should. */
+static int show_overhang(barrier_open_job *job)
+{
+    printf("By the neighbouring contract\n");
+    return ends_with("add 30", barrier_add(job, CULVERT, culvert), BARRIER_DONE) &&
+           ends_with("add 31", barrier_add(job, PIER, pier), BARRIER_DONE) &&
+           print_runs(job) &&
+           ends_with("withdraw 30", barrier_withdraw(job, CULVERT), BARRIER_DONE) &&
+           print_runs(job);
+}
+
 int main(void)
 {
     static barrier_open_job job; /* 45 KiB: too much for some stacks */
-    const int shown = show_hazards(&job) && show_variant(&job);
+    const int shown = show_hazards(&job) && show_variant(&job) && show_overhang(&job);
     if (fflush(stdout) != 0 || ferror(stdout)) {
         fprintf(stderr, "open_job: standard output cannot be written\n");
         return 1;

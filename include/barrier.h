@@ -22,12 +22,13 @@
  *
  * CONTENTS
  *
- *     Stations and ranges          Refusals, and their order
- *     The number form              Memory
- *     The job                      Threads
- *     What is planned              Linking
+ *     Stations and ranges          Open jobs
+ *     The number form              Refusals, and their order
+ *     The job                      Memory
+ *     What is planned              Threads
+ *     Overhangs                    Linking
  *     The schedule                 Constants
- *     Open jobs                    The calls
+ *                                  The calls
  *
  * ---------------------------------------------------------------------------
  * STATIONS AND RANGES
@@ -137,10 +138,50 @@
  *     [200000, 210000) approached from lower stations: with 44227 the envelope
  *     is [155773, 210000), with 48000 it is [152000, 210000)
  *
+ * An envelope that begins before A or ends behind B is cut there: what is left
+ * of it lies on the road [A, B), and what is cut off is its overhang, of which
+ * the next part speaks.
+ *
  * For each side and level v, take the millimetres in envelopes of level v or
- * higher, and add every gap between them that is shorter than G.  The required
- * level of a millimetre is the highest v whose set, gaps added, has it, else
- * 0.  A run is a longest stretch of one required level above 0.
+ * higher, as cut, and add every gap between them that is shorter than G.  The
+ * required level of a millimetre is the highest v whose set, gaps added, has
+ * it, else 0; outside the road it is 0.  A run is a longest stretch of one
+ * required level above 0.
+ *
+ * ---------------------------------------------------------------------------
+ * OVERHANGS
+ *
+ * Roads are let in sections.  The approach to a hazard by the boundary can run
+ * into the neighbouring contract, and the job is planned all the same.  Its
+ * schedule is that of this road: no run begins before A or ends behind B.  How
+ * far the envelopes of the asked side hang over is said beside it, for each end
+ * of the road by itself (barrier_plan_reply):
+ *
+ *     before    A less the start of the envelope that begins first, where that
+ *               is before A; else 0
+ *     after     the end of the envelope that ends last, less B, where that is
+ *               behind B; else 0
+ *
+ * These are the envelopes as raised to whole panels, and before they are cut.
+ * So each is the greatest overhang among the reached hazards of that side, in
+ * millimetres, and the two may be of different hazards.  A hazard that nobody
+ * reaches has no envelope and does not count.  No overhang is above 209979: the
+ * greatest runout length, 200000, in panels of 9999.
+ *
+ *     Document 01's case K8, its second job: a hazard [67333, 210000) on a road
+ *     from 0 on, approached from lower stations, without flare; its approach
+ *     length is 67334.  The envelope begins 1 mm before the road:
+ *     run [0, 210000), before 1, after 0.
+ *     With the hazard from 67334 on: the same run, before 0, after 0.
+ *
+ * An overhang is no refusal, and the schedule is complete for this road.  The
+ * hazard is not protected, though, until barrier stands along the overhang too:
+ * from A - before to A, or from B to B + after.  (A - before may be below 0:
+ * reckon it in signed numbers.)  That stretch is the neighbouring contract's.
+ * Nothing of it is in the schedule, nor in any
+ * quantity or price taken from it, so tell the neighbour's office: which side,
+ * which end of the road, how many millimetres.  The level there is that of the
+ * hazards which hang over; the reply does not have it.
  *
  * ---------------------------------------------------------------------------
  * THE SCHEDULE
@@ -156,7 +197,8 @@
  * A side without runs has the schedule 00, one byte.  Two runs may touch
  * (distance 0) where their levels differ.  No run ends above 2000000000.
  * Two jobs that require the same levels on a side have equal schedules of that
- * side, byte for byte; so schedules can be compared with memcmp.
+ * side, byte for byte; so schedules can be compared with memcmp.  Their
+ * overhangs may differ: nothing outside the road is in a schedule.
  *
  * ---------------------------------------------------------------------------
  * OPEN JOBS
@@ -175,9 +217,9 @@
  * (each of them with its reply looked at).  Opening takes the bytes of a job,
  * of either kind, with hazard count 0.  After whatever list of calls, the
  * schedule is, byte for byte, the one that barrier_plan writes for a job of the
- * same header and the hazards added and not withdrawn since, in any order.
- * After a return, those that stood when its state was last kept count as added
- * and not withdrawn.
+ * same header and the hazards added and not withdrawn since, in any order, and
+ * the overhangs are those of that job.  After a return, those that stood when
+ * its state was last kept count as added and not withdrawn.
  *
  *   - A name stands once.  A withdrawn name can be added again, with the same
  *     hazard or another.  One hazard may stand under two names.
@@ -211,8 +253,8 @@
  * look at what it held.  Every other call tests all of it first, and refuses
  * it with 3 and 0 where it is not an open job: a header number outside its
  * range, a panel length other than 1 in kind 1, a name twice, out of order or
- * above 255, a hazard that an add would refuse with 4, 5 or 6, or anything but
- * 0 in a place where no hazard stands.  The names and hazards of kept states go
+ * above 255, a hazard that an add would refuse with 4 or 5, or anything but 0
+ * in a place where no hazard stands.  The names and hazards of kept states go
  * by the same rules, and where nothing is kept, all is 0.  So memory that was
  * never opened, or written over since, is refused; or it happens to be what
  * some calls would have left, and is taken for that.
@@ -235,8 +277,9 @@
  *             the name (add)
  *      5      the same                  reached hazard with n < M + D: the
  *                                       barrier has no room to deflect
- *      6      the same                  its envelope begins before A or ends
- *                                       after B
+ *      6                                no longer given, and not used again;
+ *                                       before version 1.0.0, an envelope that
+ *                                       leaves the road, now an overhang
  *      7      index of the first        bytes behind the last hazard
  *             byte left over
  *      8      0                         side above 1, level not 1 to 6, p > q
@@ -255,22 +298,20 @@
  *     barrier_plan           8; then the job's numbers as they stand, each for
  *                            1, for 2 and for its range (3 or 4) before the
  *                            next is read; then 7; then the hazards by index,
- *                            those of both sides, each for 5 and then for 6;
- *                            then 9
+ *                            those of both sides, each for 5; then 9
  *     barrier_level          as barrier_plan, without 9
  *     barrier_quantity       8, then 10
  *     barrier_quantities     8, then 11, then 10
  *     barrier_lookup         8, then 10, of the asked side's schedule
  *     barrier_open           the header's numbers as barrier_plan reads them,
  *                            the hazard count's range being 0 alone; then 7
- *     barrier_add            3 with 0, then 12, then the hazard for 4, for 5
- *                            and for 6
+ *     barrier_add            3 with 0, then 12, then the hazard for 4 and for 5
  *     barrier_withdraw       3 with 0, then 12
  *     barrier_open_schedule  3 with 0, then 8, then 9
  *     barrier_keep           3 with 0, then 13
  *     barrier_return         3 with 0, then 13
  *
- * A job to which none of 1 to 7 applies is accepted, on both sides alike.
+ * A job to which none of 1 to 5 and 7 applies is accepted, on both sides alike.
  *
  * Refusal 10 is for any fault anywhere in the schedule, also behind the record
  * that is wanted: a count above 511 or not that of the records, a number not
@@ -320,10 +361,15 @@
  * libraries alike, exports the eleven calls alone, and asks the C library for
  * nothing but block copies and fills (memcpy, memset and their kin).
  *
- * A program that has an open job is compiled with the header of the archive
- * that it links.  The open job has 5176 bytes in version 0.4.0, 5180 in 0.5.0
- * to 0.6.1, and 46204 from 0.7.0 on, so a program of an earlier version has to
- * be compiled anew.
+ * A program is compiled with the header of the archive that it links: the
+ * linker does not see where they differ.  In version 1.0.0 barrier_plan and
+ * barrier_open_schedule reply with a longer struct, which is handed over in
+ * another way.  A program compiled with an earlier header still links, but the
+ * call then takes its arguments for others and writes over the job's bytes or
+ * other memory: it has to be compiled anew.  In its text, barrier_reply becomes
+ * barrier_plan_reply there, and what it did for refusal 6 (the name
+ * BARRIER_ENVELOPE_OFF_ROAD is gone) it does for an overhang.  The open job has
+ * 5176 bytes in version 0.4.0, 5180 in 0.5.0 to 0.6.1, and 46204 from 0.7.0 on.
  */
 #ifndef BARRIER_H
 #define BARRIER_H
@@ -335,8 +381,13 @@
 extern "C" {
 #endif
 
-/* The version of the engine that this header belongs to. */
-#define BARRIER_VERSION "0.7.0"
+/*
+ * The version of the engine that this header belongs to.  The first number
+ * goes up where a call that was there before is called or replies in another
+ * way, so that programs already compiled break ("Linking"): 1.0.0 is such a
+ * version.
+ */
+#define BARRIER_VERSION "1.0.0"
 
 /*
  * CONSTANTS
@@ -387,7 +438,7 @@ enum barrier_containment {
     BARRIER_NC_6 = 6
 };
 
-/* The numbers of the refusal table above, and 0. */
+/* The numbers of the refusal table above, and 0.  No refusal has 6 any more. */
 enum barrier_number {
     BARRIER_DONE = 0,
     BARRIER_JOB_ENDED = 1,
@@ -395,7 +446,6 @@ enum barrier_number {
     BARRIER_HEADER_RANGE = 3,
     BARRIER_HAZARD_RANGE = 4,
     BARRIER_HAZARD_NEAR = 5,
-    BARRIER_ENVELOPE_OFF_ROAD = 6,
     BARRIER_JOB_LEFT_OVER = 7,
     BARRIER_ARGUMENT = 8,
     BARRIER_OUTPUT_SHORT = 9,
@@ -414,19 +464,34 @@ enum barrier_number {
  */
 
 /*
- * What barrier_plan, barrier_level, barrier_quantity and the calls on an open
- * job reply.
+ * What barrier_level, barrier_quantity and the calls on an open job reply,
+ * but for its schedule.
  *
  *     number    BARRIER_DONE, or the refusal's number
- *     value     done: bytes written (plan, open_schedule), the level (level),
- *               millimetres (quantity) or 0 (open, add, withdraw, keep,
- *               return);
+ *     value     done: the level (level), millimetres (quantity) or 0 (open,
+ *               add, withdraw, keep, return);
  *               refused: the refusal's value
  */
 typedef struct {
     uint64_t number;
     uint64_t value;
 } barrier_reply;
+
+/*
+ * What barrier_plan and barrier_open_schedule reply.
+ *
+ *     number    BARRIER_DONE, or the refusal's number
+ *     value     done: bytes written; refused: the refusal's value
+ *     before    done: the greatest overhang before A, in millimetres, among the
+ *               asked side's hazards, 0 where there is none; refused: 0
+ *     after     done: the greatest overhang behind B, likewise; refused: 0
+ */
+typedef struct {
+    uint64_t number;
+    uint64_t value;
+    uint64_t before;
+    uint64_t after;
+} barrier_plan_reply;
 
 /*
  * What barrier_quantities replies.
@@ -468,15 +533,20 @@ typedef struct {
  *     side            BARRIER_RIGHT or BARRIER_LEFT
  *     out, out_len    the output lent to the call
  *
- * Done: value is the count of bytes written, 1 to BARRIER_SCHEDULE_MAX.
- * Refused: 1 to 9.  Nothing is written.
+ * Done: value is the count of bytes written, 1 to BARRIER_SCHEDULE_MAX, and
+ * before and after are the overhangs of that side.
+ * Refused: 1 to 5 or 7 to 9, without overhangs.  Nothing is written.
  *
  * An output of BARRIER_SCHEDULE_MAX bytes is always long enough.  To ask for
  * the size first, lend none (NULL, 0): an accepted job is then refused 9 with
- * the bytes needed, since no schedule is empty.
+ * the bytes needed, since no schedule is empty.  That reply has overhang 0
+ * whatever hangs over: take the overhangs from the call that is done.
+ *
+ * A job that versions before 1.0.0 accepted gets the same bytes, and overhang 0
+ * at both ends.
  */
-barrier_reply barrier_plan(const uint8_t *job, size_t job_len, uint64_t side,
-                           uint8_t *out, size_t out_len);
+barrier_plan_reply barrier_plan(const uint8_t *job, size_t job_len, uint64_t side,
+                                uint8_t *out, size_t out_len);
 
 /*
  * Level: the level that one side of a job requires at a station, directly from
@@ -486,8 +556,9 @@ barrier_reply barrier_plan(const uint8_t *job, size_t job_len, uint64_t side,
  *     side            BARRIER_RIGHT or BARRIER_LEFT
  *     station         any station, on or off the road
  *
- * Done: value is BARRIER_NC_1 to BARRIER_NC_6, or 0 where none is required.
- * Refused: 1 to 8.
+ * Done: value is BARRIER_NC_1 to BARRIER_NC_6, or 0 where none is required, as
+ * everywhere outside the road [A, B), also where an envelope hangs over.
+ * Refused: 1 to 5, 7 or 8.
  *
  * In the schedule that barrier_plan writes for the same job and side,
  * barrier_lookup finds a run of this level at the station, or none where the
@@ -645,8 +716,11 @@ barrier_reply barrier_open(barrier_open_job *job, const uint8_t *bytes, size_t b
  *     hazard    its six numbers
  *
  * Done: value is 0.
- * Refused: 3 with 0, 12, 4, 5 or 6; the last four with the name.  The open job
+ * Refused: 3 with 0, 12, 4 or 5; the last three with the name.  The open job
  * stays as it was.
+ *
+ * A hazard whose envelope leaves the road is added; the schedule's reply has
+ * its overhang.
  */
 barrier_reply barrier_add(barrier_open_job *job, uint8_t name, barrier_hazard hazard);
 
@@ -663,17 +737,18 @@ barrier_reply barrier_withdraw(barrier_open_job *job, uint8_t name);
 
 /*
  * Schedule of an open job: writes that of one side to the start of the output,
- * as barrier_plan does for a job of the hazards that stand.
+ * and replies, as barrier_plan does for a job of the hazards that stand.
  *
  *     job             the open job, which is only read
  *     side            BARRIER_RIGHT or BARRIER_LEFT
  *     out, out_len    the output lent to the call
  *
- * Done: value is the count of bytes written, 1 to BARRIER_SCHEDULE_MAX.
- * Refused: 3 with 0, 8 or 9.  Nothing is written.
+ * Done: value is the count of bytes written, 1 to BARRIER_SCHEDULE_MAX, and
+ * before and after are the overhangs of that side.
+ * Refused: 3 with 0, 8 or 9, without overhangs.  Nothing is written.
  */
-barrier_reply barrier_open_schedule(const barrier_open_job *job, uint64_t side,
-                                    uint8_t *out, size_t out_len);
+barrier_plan_reply barrier_open_schedule(const barrier_open_job *job, uint64_t side,
+                                         uint8_t *out, size_t out_len);
 
 /*
  * Keep: keeps the hazards that stand in an open job, with their names, under a

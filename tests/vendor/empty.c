@@ -30,6 +30,12 @@ static void reply_is(const char *what, barrier_reply reply, uint64_t number, uin
     expect(what, reply.number == number && reply.value == value);
 }
 
+/* A plan that is refused: no overhang goes with it. */
+static void plan_is(const char *what, barrier_plan_reply reply, uint64_t number, uint64_t value)
+{
+    expect(what, reply.number == number && reply.value == value && reply.before == 0 && reply.after == 0);
+}
+
 static void record_is(const char *what, barrier_record record, uint64_t number)
 {
     expect(what, record.number == number && record.found == 0 && record.start == 0 && record.end == 0);
@@ -38,11 +44,11 @@ static void record_is(const char *what, barrier_record record, uint64_t number)
 static void plans(void)
 {
     uint8_t out[4] = {0xA5, 0xA5, 0xA5, 0xA5};
-    reply_is("plan, no job", barrier_plan(NULL, 0, BARRIER_RIGHT, out, sizeof out), BARRIER_JOB_ENDED, 0);
+    plan_is("plan, no job", barrier_plan(NULL, 0, BARRIER_RIGHT, out, sizeof out), BARRIER_JOB_ENDED, 0);
     expect("plan, no job: the output is changed", out[0] == 0xA5 && out[3] == 0xA5);
-    reply_is("plan, no output", barrier_plan(job, sizeof job, BARRIER_RIGHT, NULL, 0), BARRIER_OUTPUT_SHORT, 1);
-    reply_is("plan, neither", barrier_plan(NULL, 0, BARRIER_LEFT, NULL, 0), BARRIER_JOB_ENDED, 0);
-    reply_is("plan, neither, no such side", barrier_plan(NULL, 0, 2, NULL, 0), BARRIER_ARGUMENT, 0);
+    plan_is("plan, no output", barrier_plan(job, sizeof job, BARRIER_RIGHT, NULL, 0), BARRIER_OUTPUT_SHORT, 1);
+    plan_is("plan, neither", barrier_plan(NULL, 0, BARRIER_LEFT, NULL, 0), BARRIER_JOB_ENDED, 0);
+    plan_is("plan, neither, no such side", barrier_plan(NULL, 0, 2, NULL, 0), BARRIER_ARGUMENT, 0);
 }
 
 static void levels(void)
@@ -103,10 +109,10 @@ static void open_jobs(void)
     memcpy(before, &open_job, sizeof open_job);
     reply_is("open, no bytes", barrier_open(&open_job, NULL, 0), BARRIER_JOB_ENDED, 0);
     expect("open, no bytes: the memory is changed", memcmp(before, &open_job, sizeof open_job) == 0);
-    reply_is("schedule, broken memory, no output", barrier_open_schedule(&open_job, BARRIER_RIGHT, NULL, 0), BARRIER_HEADER_RANGE, 0);
+    plan_is("schedule, broken memory, no output", barrier_open_schedule(&open_job, BARRIER_RIGHT, NULL, 0), BARRIER_HEADER_RANGE, 0);
     reply_is("open", barrier_open(&open_job, job, sizeof job), BARRIER_DONE, 0);
-    reply_is("schedule, no output", barrier_open_schedule(&open_job, BARRIER_RIGHT, NULL, 0), BARRIER_OUTPUT_SHORT, 1);
-    reply_is("schedule, no output, no such side", barrier_open_schedule(&open_job, 2, NULL, 0), BARRIER_ARGUMENT, 0);
+    plan_is("schedule, no output", barrier_open_schedule(&open_job, BARRIER_RIGHT, NULL, 0), BARRIER_OUTPUT_SHORT, 1);
+    plan_is("schedule, no output, no such side", barrier_open_schedule(&open_job, 2, NULL, 0), BARRIER_ARGUMENT, 0);
 }
 
 /* Behind the opening of `open_jobs`. Cut down to fewer bits, some of the numbers above 7 would be 0. */

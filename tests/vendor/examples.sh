@@ -49,11 +49,13 @@ refused level example '  level: refused 1 with 34, the job ends before or inside
 refused quantities example '  lots: refused 10 with 0, these bytes are not a schedule'
 refused quantity example '  road: refused 10 with 0, these bytes are not a schedule'
 refused nothing example '  near offset 3999: done, but it should be refused'
+grep -qx '  overhang on the right: 2 mm before the road, 3 mm behind it' "$tmp/nothing/c" || fail "the overhangs of plan"
 refused open open_job '  open: refused 1 with 22'
 refused add open_job '  add 7: refused 4 with 7'
 refused withdraw open_job '  withdraw 7: refused 12 with 7'
 refused open_schedule open_job '  schedule: refused 3 with 0'
 refused keep open_job '  keep 0: refused 13 with 0'
 refused return_to open_job '  return 0: refused 13 with 0'
+grep -qx '    overhang: 4 mm before the road, 5 mm behind it' "$tmp/keep/c" || fail "the overhangs of an open job"
 refused nothing open_job '  add 7: done'
 echo "examples: C and Rust end with 1 at the first call refused, and at one that is not and should be"

@@ -1,7 +1,8 @@
 #!/bin/sh
 # The header compiles alone, as C and as C++, without a warning; in C++ each
-# enum's name is a type, which a call of the same name would hide; and an open
-# job has the size that it names.
+# enum's name is a type, which a call of the same name would hide; an open job
+# has the size that it names; and the refusals' numbers are those of the table,
+# in the calls for Rust too.
 set -eu
 # Flags are several words: they stand unquoted.
 warnings="-Wall -Wextra -Werror -pedantic -fsyntax-only"
@@ -26,3 +27,18 @@ struct aligned { char before; barrier_open_job job; };
 typedef char as_named[sizeof(barrier_open_job) == $size && offsetof(struct aligned, job) == 4 ? 1 : -1];
 END
 echo "header: an open job has $size bytes, as named"
+
+# NAME NUMBER of each refusal, from the enum, from Rust, and the table's rows.
+tmp=$(mktemp -d)
+trap 'rm -rf "$tmp"' EXIT
+sed -n '/^enum barrier_number {/,/^}/s/^    BARRIER_\([A-Z_]*\) = \([0-9]*\),*$/\1 \2/p' include/barrier.h >"$tmp/header"
+sed -n '/The numbers of the refusal table/,/^$/s/^pub const \([A-Z_]*\): u64 = \([0-9]*\);$/\1 \2/p' examples/rust/src/barrier.rs >"$tmp/rust"
+diff "$tmp/header" "$tmp/rust"
+awk 'BEGIN { print 0 }
+    /^ \*     number  value/ { table = 1 }
+    /^ \* The first that holds/ { table = 0 }
+    table && /^ \*     [ 1][0-9]  / { print $2 }' include/barrier.h >"$tmp/rows"
+# 6 has a row, which says that it is not given any more, and no name.
+awk '{ print $2; if ($2 == 5) print 6 }' "$tmp/header" | diff "$tmp/rows" -
+grep -q '^ \*      6  *no longer given, and not used again;$' include/barrier.h
+echo "header: a name for each row of the refusal table but 6, which is no longer given; the same in Rust"

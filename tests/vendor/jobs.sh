@@ -1,7 +1,9 @@
 #!/bin/sh
 # Each sample job gives the stored output: through the C calls, and through the
-# program barrier. Where no program is named, none is built: makers who have
-# the archive alone test without it.
+# program barrier. The listing made with the calls has the overhangs too, which
+# are stored beside the output of a job that has any; the program does not print
+# them. Where no program is named, none is built: makers who have the archive
+# alone test without it.
 set -eu
 tmp=$(mktemp -d)
 trap 'rm -rf "$tmp"' EXIT
@@ -12,19 +14,26 @@ fail() {
 }
 # A program's status is looked at before what it printed.
 prints() {
-    "$1" <"$2" >"$tmp/printed" || fail "$1 ends with $? for $3"
-    diff "$3" "$tmp/printed"
+    "$1" <"$2" >"$tmp/printed" || fail "$1 ends with $? for $job"
+    diff "$3" "$tmp/printed" || fail "$1 prints something else for $job"
 }
 
 [ -z "$BARRIER" ] || [ -x "$BARRIER" ] || fail "there is no program $BARRIER"
 count=0
+hanging=0
 for job in examples/jobs/*.job; do
     "$BUILD/jobtext" <"$job" >"$tmp/job"
-    prints "$BUILD/listing" "$tmp/job" "${job%.job}.out"
+    cat "${job%.job}.out" >"$tmp/listed"
+    if [ -e "${job%.job}.overhang" ]; then
+        cat "${job%.job}.overhang" >>"$tmp/listed"
+        hanging=$((hanging + 1))
+    fi
+    prints "$BUILD/listing" "$tmp/job" "$tmp/listed"
     [ -z "$BARRIER" ] || prints "$BARRIER" "$tmp/job" "${job%.job}.out"
     count=$((count + 1))
 done
-echo "jobs: $count sample jobs as stored, through the calls"
+[ "$hanging" -gt 0 ] || fail "no sample job hangs over"
+echo "jobs: $count sample jobs as stored, through the calls, $hanging of them with overhangs"
 if [ -n "$BARRIER" ]; then
     echo "jobs: $count sample jobs as stored, through the program"
 else

@@ -57,8 +57,14 @@ judged '' 'kind 2' 'refused 7 23'
 judged '/^road/d' 'road 5 5' 'refused 3 3'
 judged 's/^hazard right/hazard 2/' '' 'refused 4 0'
 judged 's/ 5000 / 3999 /' '' 'refused 5 0'
-judged 's/ 200000 / 44226 /' '' 'refused 6 0'
 judged '' 'hazards 0' 'refused 7 22'
+# One millimetre nearer to the road's begin than the approach is long: nothing
+# wrong, but it hangs over.
+judged 's/ 200000 / 44226 /' '' 'R 0 210000 3
+total 210000 0
+overhang R 1 0'
+judged 's/ 200000 / 44227 /' '' 'R 0 210000 3
+total 210000 0'
 
 # Text that cannot be read: the line is named, the status is 1, no byte comes
 # out. Arguments: the line's number and a sed command for the printed job.

@@ -1,6 +1,7 @@
 #!/bin/sh
-# The header's greatest sizes are attained: the longest accepted job, and a
-# schedule of 511 runs. The stack that it names suffices for both.
+# The header's greatest sizes are attained: the longest accepted job, a schedule
+# of 511 runs, and the greatest overhang. The stack that it names suffices for
+# all of them.
 set -eu
 tmp=$(mktemp -d)
 trap 'rm -rf "$tmp"' EXIT
@@ -45,10 +46,34 @@ header() {
 } | "$BUILD/jobtext" >"$tmp/many"
 "$BUILD/listing" <"$tmp/many" >"$tmp/runs"
 [ "$(grep -c '^R' "$tmp/runs")" -eq "$(constant BARRIER_RUNS_MAX)" ] || fail "511 runs"
-echo "limits: the longest job is accepted, 511 runs are planned"
+
+# A barrier at the edge itself, so that an approach is as long as the runout
+# length, and panels that raise it the most. Each hazard has the whole road, and
+# both traffics reach it.
+most=$(sed -n 's/^ \* .*No overhang is above \([0-9]*\):.*/\1/p' include/barrier.h)
+[ -n "$most" ] || fail "the header does not name the greatest overhang"
+{
+    echo "road 1000 2000000000"
+    echo "runout-forward 200000
+        runout-opposite 200000
+        clear-zone 30000
+        centreline 0
+        barrier-offset 0
+        deflection 1
+        flare 100 0
+        straight 0
+        continuity 0
+        panel 9999"
+    awk 'BEGIN { for (i = 0; i < 256; i++) print "hazard", i % 2, 1000, 2000000000, 1, 30000, 1 + i % 6 }'
+} | "$BUILD/jobtext" >"$tmp/hanging"
+"$BUILD/listing" <"$tmp/hanging" >"$tmp/overhangs"
+printf '%s\n' "R 1000 2000000000 5" "L 1000 2000000000 6" "total 1999999000 1999999000" \
+    "overhang R $most $most" "overhang L $most $most" >"$tmp/wanted"
+diff "$tmp/wanted" "$tmp/overhangs" || fail "the greatest overhang"
+echo "limits: the longest job is accepted, 511 runs are planned, an overhang of $most is given"
 
 $CC -std=c99 -O2 -Wall -Wextra -Werror -pedantic -Iinclude tests/vendor/stack.c -L"$LIBDIR" -lbarrier_engine -o "$tmp/stack"
-for job in longest many; do
+for job in longest hanging many; do
     status=0
     "$tmp/stack" <"$tmp/$job" >"$tmp/depths" || status=$?
     [ "$status" -eq 0 ] || cat "$tmp/depths" >&2

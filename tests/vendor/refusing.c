@@ -22,12 +22,13 @@ enum {
     return_to
 };
 
-barrier_reply barrier_plan(const uint8_t *job, size_t job_len, uint64_t side, uint8_t *out,
-                           size_t out_len)
+/* Overhangs that differ, so that it shows where the two are exchanged. */
+barrier_plan_reply barrier_plan(const uint8_t *job, size_t job_len, uint64_t side, uint8_t *out,
+                                size_t out_len)
 {
     static const uint8_t schedule[8] = {0x01, 0xFD, 0xC0, 0x09, 0xD3, 0xA7, 0x03, 0x03};
-    const barrier_reply done = {BARRIER_DONE, sizeof schedule};
-    const barrier_reply refused = {BARRIER_JOB_ENDED, job_len};
+    const barrier_plan_reply done = {BARRIER_DONE, sizeof schedule, 2, 3};
+    const barrier_plan_reply refused = {BARRIER_JOB_ENDED, job_len, 0, 0};
     (void)job;
     (void)side;
     if (REFUSED == plan)
@@ -119,11 +120,11 @@ barrier_reply barrier_withdraw(barrier_open_job *job, uint8_t name)
     return REFUSED == withdraw ? refused : done;
 }
 
-barrier_reply barrier_open_schedule(const barrier_open_job *job, uint64_t side, uint8_t *out,
-                                    size_t out_len)
+barrier_plan_reply barrier_open_schedule(const barrier_open_job *job, uint64_t side, uint8_t *out,
+                                         size_t out_len)
 {
-    const barrier_reply done = {BARRIER_DONE, 1};
-    const barrier_reply refused = {BARRIER_HEADER_RANGE, 0};
+    const barrier_plan_reply done = {BARRIER_DONE, 1, 4, 5};
+    const barrier_plan_reply refused = {BARRIER_HEADER_RANGE, 0, 0, 0};
     (void)job;
     (void)side;
     if (REFUSED == open_schedule)

@@ -27,7 +27,8 @@ static ucontext_t here, there;
 static unsigned char job[BARRIER_JOB_MAX];
 static size_t job_length;
 static unsigned char schedule[BARRIER_SCHEDULE_MAX];
-static barrier_reply planned, exact, level_found, counted;
+static barrier_plan_reply planned, exact, scheduled;
+static barrier_reply level_found, counted;
 static barrier_quantities_reply priced;
 static barrier_record found;
 static barrier_open_job open_job, whole_job;
@@ -35,7 +36,7 @@ static unsigned char header[64];
 static size_t header_length;
 static barrier_hazard last;
 static uint8_t last_name;
-static barrier_reply opened, added, withdrawn, scheduled, kept, returned;
+static barrier_reply opened, added, withdrawn, kept, returned;
 static uint64_t ranges[128];
 
 static void nothing(void)

@@ -17,7 +17,7 @@ use Rattle.runs.proofs.RunLaws.{ShownRun, shown-run}
 use Rattle.approach.specs.Panel.{raisedLength}
 use Rattle.approach.proofs.ApproachLaws.{divisor-some}
 use Rattle.approach.proofs.PanelLaws.{raised-length-below}
-use Rattle.planning.specs.Envelope.{Traffic, runout, reaches, reachOf, offsetOf, Upstream, BelowApproach, acceptJob}
+use Rattle.planning.specs.Envelope.{Traffic, runout, reaches, reachOf, offsetOf, OnRoad, Upstream, BelowApproach, acceptJob}
 use Rattle.planning.specs.Required.{jobRuns}
 use Rattle.planning.proofs.EnvelopeLaws.{accepted-fits, domain-of}
 use Rattle.planning.proofs.FormulaLaws.{formula-level}
@@ -91,15 +91,15 @@ module _ (s : List ℕ) (j : Job) (a : acceptJob s ≡ accepted j) (v t : ℕ) w
   printed (suc zero) l w h = left-printed w h
   printed (suc (suc n)) l w h = absurd (omega arith)
 
--- For every accepted job: upstream of a hazard, a millimetre whose end towards it is nearer than the approach length in whole panels lies in a printed run
+-- For every accepted job: upstream of a hazard, a millimetre of the road whose end towards it is nearer than the approach length in whole panels lies in a printed run
 -- of the hazard's level or a higher one.
 pub printed-formula : (s : List ℕ) (j : Job) → acceptJob s ≡ accepted j → (z : Hazard) → List·Memᴰ z (j .hazards) → (traffic : Traffic) → reaches (j .header) z traffic ≡ true
-    → (d t : ℕ) → Upstream traffic z d t → BelowApproach (j .header) z traffic d → PrintedRun s (sideWord (z .side)) (z .level) t
-printed-formula s j a z m traffic r d t u l =
+    → (d t : ℕ) → Upstream traffic z d t → BelowApproach (j .header) z traffic d → OnRoad (j .header) t → PrintedRun s (sideWord (z .side)) (z .level) t
+printed-formula s j a z m traffic r d t u l road =
     let fits = accepted-fits s j a in
     let own = fits .fits .hazards .each z m in
     let shows = job-runs j (z .side) fits .shows t in
-    let level = formula-level j fits z m traffic r d t u l in
+    let level = formula-level j fits z m traffic r d t u l road in
     let w = shown-run (jobRuns j (z .side)) t (omega (arith, own .level-low)) in
     printed s j a (z .level) t (z .side) (own .side) w (omega (arith, w .level))
 
@@ -107,8 +107,8 @@ printed-formula s j a z m traffic r d t u l =
 pub printed-length : (s : List ℕ) (j : Job) → acceptJob s ≡ accepted j → (z : Hazard) → List·Memᴰ z (j .hazards) → (traffic : Traffic) → reaches (j .header) z traffic ≡ true
     → (d t : ℕ) → Upstream traffic z d t
     → let h = j .header in d < raisedLength (h .panel) (h .along) (h .across) (h .straight) (runout h traffic) (reachOf h z traffic) (offsetOf h z traffic)
-    → PrintedRun s (sideWord (z .side)) (z .level) t
-printed-length s j a z m traffic r d t u l =
+    → OnRoad h t → PrintedRun s (sideWord (z .side)) (z .level) t
+printed-length s j a z m traffic r d t u l road =
     let fits = accepted-fits s j a in
     let some = divisor-some _ _ _ _ _ _ (domain-of j fits z m traffic r) in
-    printed-formula s j a z m traffic r d t u (raised-length-below _ _ _ _ _ _ _ (fits .fits .header .panel-low) some d .0 l)
+    printed-formula s j a z m traffic r d t u (raised-length-below _ _ _ _ _ _ _ (fits .fits .header .panel-low) some d .0 l) road

@@ -1,6 +1,7 @@
 // The engine's C interface: numbers, slices as pointer and length, and replies as plain structs. include/barrier.h declares it.
 pub mod open; // the calls on an open job
 
+use replies::PlanReply;
 use replies::Quantities;
 use replies::Record;
 use replies::Reply;
@@ -11,11 +12,11 @@ ghost use Rattle.station_level.specs.Level.{levelAt};
 ghost use Rattle.queries.specs.Quantity.{quantity};
 ghost use Rattle.queries.specs.Lookup.{lookup};
 ghost use Rattle.queries.specs.Ranges.{quantities};
-ghost use Rattle.replies.specs.Interface.{replyOf, recordOf, quantitiesOf};
+ghost use Rattle.replies.specs.Interface.{replyOf, planReplyOf, recordOf, quantitiesOf};
 
 #[no_mangle]
-pub extern "C" fn barrier_plan(job: &[u8], side: u64, out: &mut [u8]) -> Reply
-    ensures { λ r. ⌜ r ≡ replyOf (bytesWritten (plan (now (job .entry)) side (length (now (out .entry))))) ⌝ }
+pub extern "C" fn barrier_plan(job: &[u8], side: u64, out: &mut [u8]) -> PlanReply
+    ensures { λ r. ⌜ r ≡ planReplyOf (bytesWritten (plan (now (job .entry)) side (length (now (out .entry))))) ⌝ }
     ensures { λ _. ⌜ now (out .exit) ≡ outputAfter (plan (now (job .entry)) side (length (now (out .entry)))) (now (out .entry)) ⌝ }
 {
     replies::calls::plan(job, side, out)

@@ -6,6 +6,7 @@ use kept_states::states::choose;
 use kept_states::states::empty;
 use kept_states::states::kept_from;
 use open_memory::GivenHazard;
+use replies::PlanReply;
 use replies::Reply;
 use replies::open::added;
 use replies::open::kept;
@@ -19,7 +20,7 @@ ghost use Rattle.schedule.specs.Plan.{bytesWritten, outputAfter};
 ghost use Rattle.open_memory.specs.Memory.{hazardGiven};
 ghost use Rattle.open_job.specs.Open.{memoryAfter, replied};
 ghost use Rattle.kept_states.specs.States.{openStates, addIn, withdrawIn, scheduleIn, keepIn, returnIn};
-ghost use Rattle.replies.specs.Interface.{replyOf};
+ghost use Rattle.replies.specs.Interface.{replyOf, planReplyOf};
 
 #[no_mangle]
 pub extern "C" fn barrier_open(job: &mut OpenStates, bytes: &[u8]) -> Reply
@@ -129,8 +130,8 @@ pub extern "C" fn barrier_return(job: &mut OpenStates, state: u64) -> Reply
 }
 
 #[no_mangle]
-pub extern "C" fn barrier_open_schedule(job: &OpenStates, side: u64, out: &mut [u8]) -> Reply
-    ensures { λ r. ⌜ (r ≡ replyOf (bytesWritten (scheduleIn (now (job .entry)) side (length (now (out .entry)))))) × (now (out .exit) ≡ outputAfter (scheduleIn (now (job .entry)) side (length (now (out .entry)))) (now (out .entry))) ⌝ }
+pub extern "C" fn barrier_open_schedule(job: &OpenStates, side: u64, out: &mut [u8]) -> PlanReply
+    ensures { λ r. ⌜ (r ≡ planReplyOf (bytesWritten (scheduleIn (now (job .entry)) side (length (now (out .entry)))))) × (now (out .exit) ≡ outputAfter (scheduleIn (now (job .entry)) side (length (now (out .entry)))) (now (out .entry))) ⌝ }
 {
     let header = (*job).now.header;
     let mut sound = also_sound(true, header, (*job).kept0);

@@ -8,7 +8,7 @@ use Rattle.approach.specs.Approach.{ceilDiv, formulaLength, approachLength}
 use Rattle.approach.specs.Panel.{raised, raisedLength}
 use Rattle.job.specs.Writing.{writeNumbers}
 use Rattle.job.specs.Job.{sharedRanges, headerRanges, hazardRanges, readFields, readHeader, readHazards, readJob, readRest}
-use Rattle.planning.specs.Envelope.{farther, reachOf, offsetOf, reaches, reached, lengthening, envelope, envelopes, testHazard, testHazards, acceptJob}
+use Rattle.planning.specs.Envelope.{farther, reachOf, offsetOf, reaches, reached, lengthening, envelope, envelopes, cutToRoad, overhang, greater, overhangs, standsNear, testHazard, testHazards, acceptJob}
 use Rattle.runs.specs.Level.{filled, highest, requiredLevel}
 use Rattle.runs.specs.Required.{insertStation, endPoints, put, runsBetween, requiredRuns}
 use Rattle.schedule.specs.Schedule.{writeRecord, writeRecords, writeSchedule}
@@ -18,7 +18,7 @@ use Rattle.demands.specs.Cases.{header, hazard, run, cases, planned, wri
 
 -- One theorem over the list.
 pub cases-hold : map planned cases ≡ map written cases
-unfolding header hazard cases writeNumbers planned written someOf keep writeIn writeNumber scan readNumber numberAt ceilDiv formulaLength approachLength raised raisedLength sharedRanges headerRanges hazardRanges readFields readHeader readHazards readRest readJob farther reachOf offsetOf reaches reached lengthening envelope envelopes testHazard testHazards acceptJob filled highest requiredLevel insertStation endPoints put runsBetween requiredRuns writeRecord writeRecords writeSchedule jobRuns fitted plan
+unfolding header hazard cases writeNumbers planned written someOf keep writeIn writeNumber scan readNumber numberAt ceilDiv formulaLength approachLength raised raisedLength sharedRanges headerRanges hazardRanges readFields readHeader readHazards readRest readJob farther reachOf offsetOf reaches reached lengthening envelope envelopes cutToRoad overhang greater overhangs standsNear testHazard testHazards acceptJob filled highest requiredLevel insertStation endPoints put runsBetween requiredRuns writeRecord writeRecords writeSchedule jobRuns fitted plan
 cases-hold = refl
 
 -- The printed schedule of K1.

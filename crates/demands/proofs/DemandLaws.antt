@@ -5,16 +5,16 @@ use native.Mathlib.Omega.{arith}
 use mathlib.Core.Path.{_≡_, sym, subst, ap, _∙_, fun-ext}
 use mathlib.Core.Bool.{Bool, true}
 use mathlib.Core.List.{List, [], _∷_, List·Memᴰ}
-use lib.ListN.{length, drop}
+use lib.ListN.{length, take, drop}
 use lib.Seq.{take-append-seam, drop-append-seam}
 use lib.Dec.{leb, eqb}
 use borrow.Author.Tests.{le-leb, leb-true}
-use Rattle.refusal.specs.Answer.{accepted, refused, unless-refuse}
+use Rattle.refusal.specs.Answer.{Answer, accepted, refused, _>>=_, unless-refuse}
 use Rattle.job.specs.declared.Header.{Header}
 use Rattle.job.specs.declared.Hazard.{Hazard}
 use Rattle.job.specs.Job.{Job}
 use Rattle.runs.specs.declared.Stretch.{Stretch}
-use Rattle.planning.specs.Envelope.{farther, reachOf, offsetOf, reaches, lengthening, acceptJob, reached, envelope, sideEnvelopes}
+use Rattle.planning.specs.Envelope.{farther, reachOf, offsetOf, reaches, lengthening, acceptJob, reached, envelope, cutToRoad, cutEnvelope, sideEnvelopes, sideOverhangs}
 use Rattle.runs.specs.Level.{Covers, NoShortGap, Has, requiredLevel}
 use Rattle.runs.specs.RunList.{shownLevel}
 use Rattle.runs.specs.Count.{countFrom}
@@ -24,40 +24,47 @@ use Rattle.schedule.proofs.PlanLaws.{output-length}
 use Rattle.demands.proofs.LookupLaws.{Finds, none-shown, lookup-written}
 use Rattle.planning.specs.Required.{jobLevel, jobRuns}
 use Rattle.queries.specs.Lookup.{Found, found, nowhere, asked}
-use Rattle.schedule.specs.Plan.{fitted, plan}
+use Rattle.schedule.specs.Plan.{PlannedSide, fitted, plan, outputAfter}
 use Rattle.queries.specs.Quantity.{millimetres, quantity}
 use Rattle.runs.proofs.GapLaws.{required-covers, required-no-short-gap, required-least, required-is-highest, required-more}
 use Rattle.runs.proofs.RequiredLaws.{runs-of-unique, member→run, run→member}
 use Rattle.refusal.proofs.AnswerLaws.{bound, tested}
-use Rattle.schedule.specs.Planned.{Accepted, Planned, scheduleLevel}
-use Rattle.schedule.proofs.PlannedLaws.{planned-is, planned-only, job-read, job-shown}
+use Rattle.schedule.specs.Planned.{Accepted, scheduleAlone, Planned, scheduleLevel}
+use Rattle.schedule.proofs.PlannedLaws.{planned-writing, planned-only, job-read, job-shown}
 use Rattle.planning.proofs.JobRunLaws.{job-runs, job-run-list}
-use Rattle.planning.proofs.EnvelopeLaws.{AcceptedFits, accepted-fits, from-hazard, to-envelope, side-proper, side-levelled}
-use Rattle.demands.specs.Demands.{CoversHazards, LeastCovering, Demand2, Demand1, ShowsLevel, Demand2-lookup, Demand3-writing, Demand3-planned, Demand3-equal, Alike, Demand3-growth, RisingStations, lastOf, lotsTotal, Demand3-quantities}
+use Rattle.planning.proofs.EnvelopeLaws.{AcceptedFits, accepted-fits, cut-has, from-cut, to-cut, side-lies, side-proper, side-levelled}
+use Rattle.planning.proofs.RoadLaws.{level-off-road}
+use Rattle.demands.specs.Demands.{CoversHazards, NoShortGapOnRoad, LeastCovering, Demand2, Demand1, ShowsLevel, Demand2-lookup, Demand3-writing, Demand3-planned, Demand3-equal, Demand3-off-road, Alike, Demand3-growth, RisingStations, lastOf, lotsTotal, Demand3-quantities}
 
 pub demand3-planned : Demand3-planned
-demand3-planned s j side a h room r = planned-is s j side room a h r
+demand3-planned s j side a h = planned-writing s j side a h
 
 -- The runs of a side of an accepted job.
 module _ (j : Job) (side : ℕ) (fits : AcceptedFits j) where
   covers-side : (f : ℕ → ℕ) → CoversHazards j side f → Covers (sideEnvelopes j side) f
-  unfolding envelope
+  unfolding cutEnvelope cutToRoad envelope
   covers-side f c e m t h =
-      let w = from-hazard (j .header) side (j .hazards) e m in
-      let k : Has (envelope (j .header) (w .hazard)) t = rw (w .is) at h in
-      rw (w .is) (c (w .hazard) (w .member) (w .on-side) (w .reach) t k)
+      let w = from-cut j side e m in
+      let own = w .own in
+      let k : Has (cutEnvelope (j .header) (w .hazard)) t = rw (w .is) at h in
+      let road = cut-has (j .header) (w .hazard) t .0 k in
+      rw (w .is) (c (w .hazard) (own .member) (own .on-side) (own .reach) t (road .0) (road .1))
 
   job-covers : CoversHazards j side (jobLevel j side)
-  unfolding jobLevel envelope
-  job-covers z m on r t h = required-covers (sideEnvelopes j side) (j .header .continuity) (side-levelled j side fits) (envelope (j .header) z) (to-envelope (j .header) side m on r) t h
+  unfolding jobLevel cutEnvelope cutToRoad envelope
+  job-covers z m on r t road h =
+      required-covers (sideEnvelopes j side) (j .header .continuity) (side-levelled j side fits) (cutEnvelope (j .header) z)
+      (to-cut j side (record { member = m; on-side = on; reach = r })) t (cut-has (j .header) z t .1 (road, h))
 
   job-no-short-gap : NoShortGap (j .header .continuity) (jobLevel j side)
   unfolding jobLevel
   job-no-short-gap = required-no-short-gap (sideEnvelopes j side) (j .header .continuity) (side-proper j side fits)
 
-  job-least : (f : ℕ → ℕ) → CoversHazards j side f → NoShortGap (j .header .continuity) f → (t : ℕ) → jobLevel j side t ≤ f t
+  job-least : (f : ℕ → ℕ) → CoversHazards j side f → NoShortGapOnRoad j f → (t : ℕ) → jobLevel j side t ≤ f t
   unfolding jobLevel
-  job-least f c n t = required-least (sideEnvelopes j side) (j .header .continuity) (side-proper j side fits) f (covers-side f c) n t
+  job-least f c n t =
+      required-least (sideEnvelopes j side) (j .header .continuity) (j .header .begin) (j .header .end) (side-proper j side fits)
+      (λ e m. (side-lies j side fits e m .begins, side-lies j side fits e m .ends)) f (covers-side f c) n t
 
   job-level-shown : scheduleLevel (writeSchedule (jobRuns j side)) ≡ jobLevel j side
   job-level-shown = fun-ext (job-shown j side fits)
@@ -68,6 +75,7 @@ module _ (j : Job) (side : ℕ) (fits : AcceptedFits j) where
     covers = subst (CoversHazards j side) (sym job-level-shown) job-covers;
     no-short-gap = subst (NoShortGap (j .header .continuity)) (sym job-level-shown) job-no-short-gap;
     least = λ f c n t. rw (job-shown j side fits t) (job-least f c n t);
+    off-road = λ t off. job-shown j side fits t ∙ level-off-road j side fits t off;
     reads = job-read j side fits;
     level = job-shown j side fits;
     highest = λ t. required-is-highest (sideEnvelopes j side) (j .header .continuity) t (side-proper j side fits);
@@ -109,6 +117,9 @@ demand3-equal s₁ s₂ j₁ j₂ side₁ side₂ w₁ w₂ a₁ a₂ h₁ h₂ 
         q₁ ∙ ap writeSchedule (runs-of-unique (jobRuns j₁ side₁) (jobRuns j₂ side₂) (job-runs j₁ side₁ f₁)
         (record { rising = job-runs j₂ side₂ f₂ .rising; shows = λ t. job-runs j₂ side₂ f₂ .shows t ∙ sym (e t) })) ∙ sym q₂
 
+pub demand3-off-road : Demand3-off-road
+demand3-off-road s j side a t off = level-off-road j side (accepted-fits s j a) t off
+
 -- Headers that are alike give a hazard the same envelope.
 alike-path : (h k : Header) → Alike h k → record {
   kind = h .kind;
@@ -149,9 +160,9 @@ alike-reached : (h k : Header) → Alike h k → (z : Hazard) → reached h z �
 unfolding reached reaches farther
 alike-reached h k a z = ap (λ (x : Header). reached x z) (alike-path h k a)
 
-alike-envelope : (h k : Header) → Alike h k → (z : Hazard) → envelope h z ≡ envelope k z
-unfolding envelope lengthening reaches reachOf offsetOf farther
-alike-envelope h k a z = ap (λ (x : Header). envelope x z) (alike-path h k a)
+alike-envelope : (h k : Header) → Alike h k → (z : Hazard) → cutEnvelope h z ≡ cutEnvelope k z
+unfolding cutEnvelope cutToRoad envelope lengthening reaches reachOf offsetOf farther
+alike-envelope h k a z = ap (λ (x : Header). cutEnvelope x z) (alike-path h k a)
 
 pub demand3-growth : Demand3-growth
 unfolding jobLevel
@@ -165,10 +176,10 @@ demand3-growth s₁ s₂ j₁ j₂ side w₁ w₂ a₁ a₂ h p₁ p₂ alike mo
 
     sub : (e : Stretch) → List·Memᴰ e (sideEnvelopes j₁ side) → List·Memᴰ e (sideEnvelopes j₂ side)
     sub e m =
-        let w = from-hazard (j₁ .header) side (j₁ .hazards) e m in
-        let r : reached (j₂ .header) (w .hazard) ≡ true = sym (alike-reached (j₁ .header) (j₂ .header) alike (w .hazard)) ∙ w .reach in
-        let q : e ≡ envelope (j₂ .header) (w .hazard) = w .is ∙ alike-envelope (j₁ .header) (j₂ .header) alike (w .hazard) in
-        subst (λ (x : Stretch). List·Memᴰ x (sideEnvelopes j₂ side)) (sym q) (to-envelope (j₂ .header) side (more (w .hazard) (w .member)) (w .on-side) r)
+        let w = from-cut j₁ side e m in
+        let r : reached (j₂ .header) (w .hazard) ≡ true = sym (alike-reached (j₁ .header) (j₂ .header) alike (w .hazard)) ∙ w .own .reach in
+        let q : e ≡ cutEnvelope (j₂ .header) (w .hazard) = w .is ∙ alike-envelope (j₁ .header) (j₂ .header) alike (w .hazard) in
+        subst (λ (x : Stretch). List·Memᴰ x (sideEnvelopes j₂ side)) (sym q) (to-cut j₂ side (record { member = more (w .hazard) (w .own .member); on-side = w .own .on-side; reach = r }))
 
     grows : requiredLevel (sideEnvelopes j₁ side) (j₂ .header .continuity) t ≤ requiredLevel (sideEnvelopes j₂ side) (j₂ .header .continuity) t
     grows = required-more (sideEnvelopes j₁ side) (sideEnvelopes j₂ side) (j₂ .header .continuity) t sub
@@ -208,11 +219,12 @@ demand3-quantities s j side w a h pl v l u p qs r =
     lots-total w (jobRuns j side) (jobLevel j side) v (d .reads) (fun-ext (job-runs j side fits .shows)) l u p qs r
 
 pub demand1 : Demand1
-demand1 s side out = record {
-  planned = λ w e. rw e (take-append-seam w (drop (length w) out), drop-append-seam w (drop (length w) out));
-  refused = λ k v e. rw e;
-  same-length = output-length s side out;
-}
+unfolding scheduleAlone
+demand1 s side out = record { planned = written (plan s side (length out)); refused = λ k v e. rw e; same-length = output-length s side out }
+  where
+    written : (a : Answer PlannedSide) (w : List ℕ) → (a >>= λ p. accepted (p .schedule)) ≡ accepted w → (take (length w) (outputAfter a out) ≡ w) × (drop (length w) (outputAfter a out) ≡ drop (length w) out)
+    written (accepted p) w e = let same : p .schedule ≡ w = cc in rw same (take-append-seam w (drop (length w) out), drop-append-seam w (drop (length w) out))
+    written (refused k v) w e = absurd (let z : _≡_ {A = ℕ} 0 1 = cc in omega arith)
 
 pub demand2-lookup : Demand2-lookup
 demand2-lookup s j side right left a h p t =
@@ -239,15 +251,16 @@ pub record PlannedJob (s : List ℕ) (side : ℕ) (w : List ℕ) : Type 0 where
   pub side-ok : side ≤ 1
   pub planned : Planned s side w
 
-pub plan-accepted : (s : List ℕ) (side room : ℕ) (w : List ℕ) → plan s side room ≡ accepted w → PlannedJob s side w
+pub plan-accepted : (s : List ℕ) (side room : ℕ) (p : PlannedSide) → plan s side room ≡ accepted p → PlannedJob s side (p .schedule)
 unfolding plan fitted
-plan-accepted s side room w e =
-    let b1 = bound (unless-refuse (leb side 1) 8 0) _ w e in
-    let b2 = bound (acceptJob s) _ w (b1 .rest) in
-    let b3 = bound (unless-refuse (leb (length (writeSchedule (jobRuns (b2 .first) side))) room) 9 (length (writeSchedule (jobRuns (b2 .first) side)))) _ w (b2 .rest) in
+plan-accepted s side room p e =
+    let b1 = bound (unless-refuse (leb side 1) 8 0) _ p e in
+    let b2 = bound (acceptJob s) _ p (b1 .rest) in
+    let b3 = bound (unless-refuse (leb (length (writeSchedule (jobRuns (b2 .first) side))) room) 9 (length (writeSchedule (jobRuns (b2 .first) side)))) _ p (b2 .rest) in
     finish (b2 .first) (b2 .taken) (leb-true side 1 (tested (leb side 1) 8 0 (b1 .first) (b1 .taken))) (b3 .rest)
   where
-    finish : (j : Job) → Accepted s j → side ≤ 1 → accepted (writeSchedule (jobRuns j side)) ≡ accepted w → PlannedJob s side w
+    finish : (j : Job) → Accepted s j → side ≤ 1 → accepted (record { schedule = writeSchedule (jobRuns j side); overhangs = sideOverhangs j side }) ≡ accepted p → PlannedJob s side (p .schedule)
     finish j a h q =
-        let z : writeSchedule (jobRuns j side) ≡ w = cc in
+        let whole : record { schedule = writeSchedule (jobRuns j side); overhangs = sideOverhangs j side } ≡ p = cc in
+        let z : writeSchedule (jobRuns j side) ≡ p .schedule = ap (λ (x : PlannedSide). x .schedule) whole in
         record { job = j; is-accepted = a; side-ok = h; planned = subst (Planned s side) z (demand3-planned s j side a h) }

@@ -17,6 +17,7 @@ use Rattle.runs.proofs.RunLaws.{Next}
 use Rattle.runs.proofs.StoredLaws.{lastLevel, next-after, run-list-rising}
 use Rattle.planning.specs.Envelope.{acceptJob}
 use Rattle.planning.specs.Required.{jobLevel, jobRuns}
+use Rattle.planning.proofs.RoadLaws.{level-off-road}
 use Rattle.planning.proofs.EnvelopeLaws.{accepted-fits}
 use Rattle.planning.proofs.JobRunLaws.{job-run-list}
 use Rattle.schedule.specs.Schedule.{writeRecord}
@@ -26,7 +27,7 @@ use Rattle.station_level.specs.Level.{levelAt}
 use Rattle.station_level.proofs.LevelLaws.{level-bad-side, level-by-job}
 use Rattle.queries.specs.Lookup.{Found, found, nowhere, asked}
 use Rattle.demands.specs.Demands.{ShowsLevel}
-use Rattle.demands.specs.Level.{recordLevel, levelFound, lookupLevel, Level-lookup, Level-refusals}
+use Rattle.demands.specs.Level.{recordLevel, levelFound, lookupLevel, Level-lookup, Level-refusals, Level-off-road}
 use Rattle.demands.proofs.DemandLaws.{demand2-lookup}
 use Rattle.demands.proofs.RefusalLaws.{OneToSeven, accept-refusals, PlanVerdict, bad-side, bad-job, no-room, written, plan-verdict, plan-job}
 
@@ -110,6 +111,9 @@ level-refusals s side t room k v = (λ e. to e (decLe side 1), λ w. from (w .0)
 
     from : plan s side room ≡ refused k v → k ≢ 9 → PlanVerdict s side room → levelAt s side t ≡ refused k v
     from e n (bad-side h p) = let number : 8 ≡ k = cc in let value : 0 ≡ v = cc in level-bad-side s side t h ∙ ap₂ refused number value
-    from e n (bad-job h i w a l u p) = let number : i ≡ k = cc in let value : w ≡ v = cc in job-refused s side t h i w a ∙ ap₂ refused number value
+    from e n (bad-job h i w a l u x p) = let number : i ≡ k = cc in let value : w ≡ v = cc in job-refused s side t h i w a ∙ ap₂ refused number value
     from e n (no-room h j a l p) = absurd (n (let number : 9 ≡ k = cc in sym number))
     from e n (written h j a l p) = absurd (let z : _≡_ {A = ℕ} 0 1 = cc in omega arith)
+
+pub level-off : Level-off-road
+level-off s j side t a h off = job-required s side t h j a ∙ ap accepted (level-off-road j side (accepted-fits s j a) t off)

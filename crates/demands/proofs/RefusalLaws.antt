@@ -1,14 +1,14 @@
--- Plan's refusals, exactly: 8 for the side, 1 to 7 for the job, 9 for the room, and else the schedule is written.
+-- Plan's refusals, exactly: 8 for the side, 1 to 5 and 7 for the job, 9 for the room, and else the schedule is written.
 -- Assumes nothing.
 use Prim.Native.Nat.{ℕ, zero, suc, _+_, _≤_, _<_}
 use native.Mathlib.Omega.{arith}
 use native.Mathlib.Decide.{decLe}
-use mathlib.Core.Path.{_≡_, refl, ap₂, _∙_}
-use mathlib.Core.Logic.{_↔_}
-use mathlib.Core.Bool.{Bool, true, false, _&&_, _||_, not}
+use mathlib.Core.Path.{_≡_, refl, sym, subst, ap, ap₂, _∙_}
+use mathlib.Core.Logic.{_↔_, _≢_}
+use mathlib.Core.Bool.{Bool, true, false, not}
 use mathlib.Core.List.{List, [], _∷_, _++_}
 use lib.ListN.{length}
-use lib.Dec.{leb, ltb}
+use lib.Dec.{leb}
 use borrow.Author.Tests.{le-leb}
 use Rattle.refusal.specs.Answer.{Answer, accepted, refused, _>>=_, unless-refuse}
 use Rattle.number.specs.declared.Read.{Read}
@@ -17,27 +17,29 @@ use Rattle.number.specs.Number.{readNumber, readingOf, numberAt}
 use Rattle.job.specs.declared.Header.{Header}
 use Rattle.job.specs.declared.Hazard.{Hazard}
 use Rattle.job.specs.Job.{Job, Range, within, nextInHeader, nextInHazard, readFields, moreNumbers, readHeader, headerOf, hazardOf, readHazards, readJob, readRest}
-use Rattle.planning.specs.Envelope.{forward, opposite, reached, lengthening, testHazard, testHazards, acceptJob}
+use Rattle.planning.specs.Envelope.{sideOverhangs, standsNear, testHazard, testHazards, acceptJob}
+use Rattle.planning.proofs.OverhangLaws.{greatest-before, greatest-after}
 use Rattle.planning.specs.Required.{jobRuns}
 use Rattle.schedule.specs.Schedule.{writeSchedule}
-use Rattle.schedule.specs.Plan.{fitted, plan}
+use Rattle.schedule.specs.Plan.{PlannedSide, fitted, plan}
 use Rattle.schedule.proofs.PlanLaws.{fitted-fits, fitted-short}
 use Rattle.schedule.proofs.PlanLaws.{plan-bad-side}
+use Rattle.demands.specs.Road.{Overhanging, Plan-overhangs, Plan-six}
 
 -- The job's refusals
 
--- An answer that refuses with 1 to 7 only.
+-- An answer that refuses with 1 to 5 and 7 only: "number 6 no longer occurs".
 abbrev pub OneToSeven : {A : Type 0} → Answer A → Type 0
 OneToSeven (accepted a) = Unit {0}
-OneToSeven (refused k v) = (1 ≤ k) × (k ≤ 7)
+OneToSeven (refused k v) = (1 ≤ k) × (k ≤ 7) × (k ≢ 6)
 
 both : {A B : Type 0} (m : Answer A) (f : A → Answer B) → OneToSeven m → ((a : A) → OneToSeven (f a)) → OneToSeven (m >>= f)
 both (accepted a) f p q = q a
 both (refused k v) f p q = p
 
-test : (t : Bool) (k v : ℕ) → 1 ≤ k → k ≤ 7 → OneToSeven (unless-refuse t k v)
-test true k v l h = tt
-test false k v l h = (l, h)
+test : (t : Bool) (k v : ℕ) → 1 ≤ k → k ≤ 7 → k ≢ 6 → OneToSeven (unless-refuse t k v)
+test true k v l h n = tt
+test false k v l h n = (l, h, n)
 
 number-refusals : (s : List ℕ) (at : ℕ) → OneToSeven (numberAt s at)
 unfolding numberAt
@@ -45,41 +47,37 @@ number-refusals s at = go (readNumber s at)
   where
     go : (r : Read) → OneToSeven (readingOf at r)
     go (Number value next) = tt
-    go Ended = (omega arith, omega arith)
-    go Malformed = (omega arith, omega arith)
+    go Ended = (omega arith, omega arith, omega arith)
+    go Malformed = (omega arith, omega arith, omega arith)
 
-fields-refusals : (rangeOf : List ℕ → Range) (number : ℕ) (valueOf : List ℕ → ℕ) (k : ℕ) (got s : List ℕ) (at : ℕ) → 1 ≤ number → number ≤ 7 → OneToSeven (readFields rangeOf number valueOf k got s at)
+fields-refusals : (rangeOf : List ℕ → Range) (number : ℕ) (valueOf : List ℕ → ℕ) (k : ℕ) (got s : List ℕ) (at : ℕ) → 1 ≤ number → number ≤ 7 → number ≢ 6 → OneToSeven (readFields rangeOf number valueOf k got s at)
 unfolding readFields
-fields-refusals rangeOf number valueOf zero got s at l h = tt
-fields-refusals rangeOf number valueOf (suc k) got s at l h =
+fields-refusals rangeOf number valueOf zero got s at l h n = tt
+fields-refusals rangeOf number valueOf (suc k) got s at l h n =
     both (numberAt s at) _ (number-refusals s at) (λ x.
-    both (unless-refuse (within (rangeOf got) (x .value)) number (valueOf got)) _ (test (within (rangeOf got) (x .value)) number (valueOf got) l h) (λ _.
-    fields-refusals rangeOf number valueOf k (got ++ x .value ∷ []) s (x .next) l h))
+    both (unless-refuse (within (rangeOf got) (x .value)) number (valueOf got)) _ (test (within (rangeOf got) (x .value)) number (valueOf got) l h n) (λ _.
+    fields-refusals rangeOf number valueOf k (got ++ x .value ∷ []) s (x .next) l h n))
 
 hazards-refusals : (h : Header) (k : ℕ) (got : List Hazard) (s : List ℕ) (at : ℕ) → OneToSeven (readHazards h k got s at)
 unfolding readHazards
 hazards-refusals h zero got s at = tt
 hazards-refusals h (suc k) got s at =
-    both (readFields (nextInHazard h) 4 (λ _. length got) 6 [] s at) _ (fields-refusals (nextInHazard h) 4 (λ _. length got) 6 [] s at (omega arith) (omega arith)) (λ z.
+    both (readFields (nextInHazard h) 4 (λ _. length got) 6 [] s at) _ (fields-refusals (nextInHazard h) 4 (λ _. length got) 6 [] s at (omega arith) (omega arith) (omega arith)) (λ z.
     hazards-refusals h k (got ++ hazardOf (z .numbers) ∷ []) s (z .next))
 
 read-refusals : (s : List ℕ) → OneToSeven (readJob s)
 unfolding readJob readRest readHeader
 read-refusals s =
     both (readHeader s) _
-    (both (readFields nextInHeader 3 (λ got. length got + 1) 14 [] s 0) _ (fields-refusals nextInHeader 3 (λ got. length got + 1) 14 [] s 0 (omega arith) (omega arith)) (λ f.
-    fields-refusals nextInHeader 3 (λ got. length got + 1) (moreNumbers (f .numbers)) (f .numbers) s (f .next) (omega arith) (omega arith))) (λ f.
+    (both (readFields nextInHeader 3 (λ got. length got + 1) 14 [] s 0) _ (fields-refusals nextInHeader 3 (λ got. length got + 1) 14 [] s 0 (omega arith) (omega arith) (omega arith)) (λ f.
+    fields-refusals nextInHeader 3 (λ got. length got + 1) (moreNumbers (f .numbers)) (f .numbers) s (f .next) (omega arith) (omega arith) (omega arith))) (λ f.
     both (readHazards (headerOf (f .numbers)) (headerOf (f .numbers) .count) [] s (f .next)) _ (hazards-refusals (headerOf (f .numbers)) (headerOf (f .numbers) .count) [] s (f .next)) (λ r.
-    both (unless-refuse (leb (length s) (r .next)) 7 (r .next)) _ (test (leb (length s) (r .next)) 7 (r .next) (omega arith) (omega arith)) (λ _. tt)))
+    both (unless-refuse (leb (length s) (r .next)) 7 (r .next)) _ (test (leb (length s) (r .next)) 7 (r .next) (omega arith) (omega arith) (omega arith)) (λ _. tt)))
 
 test-refusals : (h : Header) (i : ℕ) (zs : List Hazard) → OneToSeven (testHazards h i zs)
 unfolding testHazards testHazard
 test-refusals h i [] = tt
-test-refusals h i (z ∷ zs) =
-    let near = not (reached h z && ltb (z .near) (h .offset + h .deflection)) in
-    let off = not (reached h z && (ltb (z .start) (h .begin + lengthening h z forward) || ltb (h .end) (z .end + lengthening h z opposite))) in
-    both (testHazard h i z) _ (both (unless-refuse near 5 i) _ (test near 5 i (omega arith) (omega arith)) (λ _. test off 6 i (omega arith) (omega arith))) (λ _.
-    test-refusals h (i + 1) zs)
+test-refusals h i (z ∷ zs) = both (testHazard h i z) _ (test (not (standsNear h z)) 5 i (omega arith) (omega arith) (omega arith)) (λ _. test-refusals h (i + 1) zs)
 
 pub accept-refusals : (s : List ℕ) → OneToSeven (acceptJob s)
 unfolding acceptJob
@@ -87,32 +85,35 @@ accept-refusals s = both (readJob s) _ (read-refusals s) (λ j. both (testHazard
 
 -- Plan
 
--- The schedule of a side of a job.
+-- The schedule of a side of a job, and with its overhangs.
 abbrev pub sideSchedule : Job → (side : ℕ) → List ℕ
 sideSchedule j side = writeSchedule (jobRuns j side)
+
+abbrev pub sidePlanned : Job → (side : ℕ) → PlannedSide
+sidePlanned j side = record { schedule = sideSchedule j side; overhangs = sideOverhangs j side }
 
 module _ (s : List ℕ) (side room : ℕ) where
   -- What plan answers, and why.
   pub data PlanVerdict : Type 0 where
     bad-side : 1 < side → plan s side room ≡ refused 8 0 → PlanVerdict
-    bad-job : side ≤ 1 → (k v : ℕ) → acceptJob s ≡ refused k v → 1 ≤ k → k ≤ 7 → plan s side room ≡ refused k v → PlanVerdict
+    bad-job : side ≤ 1 → (k v : ℕ) → acceptJob s ≡ refused k v → 1 ≤ k → k ≤ 7 → k ≢ 6 → plan s side room ≡ refused k v → PlanVerdict
     no-room : side ≤ 1 → (j : Job) → acceptJob s ≡ accepted j → room < length (sideSchedule j side) → plan s side room ≡ refused 9 (length (sideSchedule j side)) → PlanVerdict
-    written : side ≤ 1 → (j : Job) → acceptJob s ≡ accepted j → length (sideSchedule j side) ≤ room → plan s side room ≡ accepted (sideSchedule j side) → PlanVerdict
+    written : side ≤ 1 → (j : Job) → acceptJob s ≡ accepted j → length (sideSchedule j side) ≤ room → plan s side room ≡ accepted (sidePlanned j side) → PlanVerdict
 
-  by-job : side ≤ 1 → plan s side room ≡ (acceptJob s >>= λ j. fitted (sideSchedule j side) room)
+  by-job : side ≤ 1 → plan s side room ≡ (acceptJob s >>= λ j. fitted (sideSchedule j side) (sideOverhangs j side) room)
   unfolding plan
   by-job h = rw (le-leb side 1 h)
 
   pub plan-verdict : PlanVerdict
   plan-verdict = sided (decLe side 1)
     where
-      fitting : side ≤ 1 → (j : Job) → acceptJob s ≡ accepted j → plan s side room ≡ fitted (sideSchedule j side) room → Dec (length (sideSchedule j side) ≤ room) → PlanVerdict
-      fitting h j e p (yes l) = written h j e l (p ∙ fitted-fits (sideSchedule j side) room l)
-      fitting h j e p (no l) = no-room h j e (omega arith) (p ∙ fitted-short (sideSchedule j side) room (omega arith))
+      fitting : side ≤ 1 → (j : Job) → acceptJob s ≡ accepted j → plan s side room ≡ fitted (sideSchedule j side) (sideOverhangs j side) room → Dec (length (sideSchedule j side) ≤ room) → PlanVerdict
+      fitting h j e p (yes l) = written h j e l (p ∙ fitted-fits (sideSchedule j side) (sideOverhangs j side) room l)
+      fitting h j e p (no l) = no-room h j e (omega arith) (p ∙ fitted-short (sideSchedule j side) (sideOverhangs j side) room (omega arith))
 
-      job : side ≤ 1 → (a : Answer Job) → acceptJob s ≡ a → OneToSeven a → plan s side room ≡ (a >>= λ j. fitted (sideSchedule j side) room) → PlanVerdict
+      job : side ≤ 1 → (a : Answer Job) → acceptJob s ≡ a → OneToSeven a → plan s side room ≡ (a >>= λ j. fitted (sideSchedule j side) (sideOverhangs j side) room) → PlanVerdict
       job h (accepted j) e o p = fitting h j e p (decLe (length (sideSchedule j side)) room)
-      job h (refused k v) e o p = bad-job h k v e (o .0) (o .1) p
+      job h (refused k v) e o p = bad-job h k v e (o .0) (o .1) (o .2) p
 
       sided : Dec (side ≤ 1) → PlanVerdict
       sided (yes h) = job h (acceptJob s) refl (accept-refusals s) (by-job h)
@@ -124,7 +125,7 @@ module _ (s : List ℕ) (side room : ℕ) where
     where
       go : plan s side room ≡ refused 8 0 → PlanVerdict → 1 < side
       go e (bad-side h p) = h
-      go e (bad-job h k v a l u p) = absurd (let z : k ≡ 8 = cc in omega arith)
+      go e (bad-job h k v a l u n p) = absurd (let z : k ≡ 8 = cc in omega arith)
       go e (no-room h j a l p) = absurd (let z : _≡_ {A = ℕ} 9 8 = cc in omega arith)
       go e (written h j a l p) = absurd (let z : _≡_ {A = ℕ} 0 1 = cc in omega arith)
 
@@ -134,7 +135,7 @@ module _ (s : List ℕ) (side room : ℕ) where
     where
       go : plan s side room ≡ refused k v → PlanVerdict → (side ≤ 1) × (acceptJob s ≡ refused k v)
       go e (bad-side h p) = absurd (let z : 8 ≡ k = cc in omega arith)
-      go e (bad-job h i w a l u p) = let number : i ≡ k = cc in let value : w ≡ v = cc in (h, a ∙ ap₂ refused number value)
+      go e (bad-job h i w a l u n p) = let number : i ≡ k = cc in let value : w ≡ v = cc in (h, a ∙ ap₂ refused number value)
       go e (no-room h j a l p) = absurd (let z : 9 ≡ k = cc in omega arith)
       go e (written h j a l p) = absurd (let z : _≡_ {A = ℕ} 0 1 = cc in omega arith)
 
@@ -148,28 +149,52 @@ module _ (s : List ℕ) (side room : ℕ) where
 
   -- 9: "output shorter than that", the bytes needed, and no other.
   pub plan-nine : (n : ℕ) → (plan s side room ≡ refused 9 n) ↔ NeedsRoom n
-  plan-nine n = (λ e. go e plan-verdict, λ w. by-job (w .good-side) ∙ rw (w .taken) (fitted-short (sideSchedule (w .job) side) room (omega (arith, w .needed, w .short)) ∙ rw (w .needed)))
+  plan-nine n = (λ e. go e plan-verdict, λ w. by-job (w .good-side) ∙ rw (w .taken) (fitted-short (sideSchedule (w .job) side) (sideOverhangs (w .job) side) room (omega (arith, w .needed, w .short)) ∙ rw (w .needed)))
     where
       go : plan s side room ≡ refused 9 n → PlanVerdict → NeedsRoom n
       go e (bad-side h p) = absurd (let z : _≡_ {A = ℕ} 8 9 = cc in omega arith)
-      go e (bad-job h k v a l u p) = absurd (let z : k ≡ 9 = cc in omega arith)
+      go e (bad-job h k v a l u n p) = absurd (let z : k ≡ 9 = cc in omega arith)
       go e (no-room h j a l p) = let same : length (sideSchedule j side) ≡ n = cc in record { good-side = h; job = j; taken = a; needed = same; short = omega arith }
       go e (written h j a l p) = absurd (let z : _≡_ {A = ℕ} 0 1 = cc in omega arith)
 
-  -- An accepted job on a good side, whose schedule w there is room for.
-  pub record Fits (w : List ℕ) : Type 0 where
+  -- An accepted job on a good side, whose schedule and overhangs are p, and for whose schedule there is room.
+  pub record Fits (p : PlannedSide) : Type 0 where
     pub good-side : side ≤ 1
     pub job : Job
     pub taken : acceptJob s ≡ accepted job
-    pub is : sideSchedule job side ≡ w
-    pub room-enough : length w ≤ room
+    pub is : sidePlanned job side ≡ p
+    pub room-enough : length (p .schedule) ≤ room
 
   -- The schedule is written exactly then.
-  pub plan-written : (w : List ℕ) → (plan s side room ≡ accepted w) ↔ Fits w
-  plan-written w = (λ e. go e plan-verdict, λ f. by-job (f .good-side) ∙ rw (f .taken, f .is) (fitted-fits w room (f .room-enough)))
+  pub plan-written : (p : PlannedSide) → (plan s side room ≡ accepted p) ↔ Fits p
+  plan-written p = (
+    λ e. go e plan-verdict,
+    λ f. by-job (f .good-side)
+        ∙ rw (f .taken) (fitted-fits (sideSchedule (f .job) side) (sideOverhangs (f .job) side) room (subst (λ (q : PlannedSide). length (q .schedule) ≤ room) (sym (f .is)) (f .room-enough)) ∙ ap accepted (f .is)),
+  )
     where
-      go : plan s side room ≡ accepted w → PlanVerdict → Fits w
-      go e (bad-side h p) = absurd (let z : _≡_ {A = ℕ} 0 1 = cc in omega arith)
-      go e (bad-job h k v a l u p) = absurd (let z : _≡_ {A = ℕ} 0 1 = cc in omega arith)
-      go e (no-room h j a l p) = absurd (let z : _≡_ {A = ℕ} 0 1 = cc in omega arith)
-      go e (written h j a l p) = let same : sideSchedule j side ≡ w = cc in record { good-side = h; job = j; taken = a; is = same; room-enough = rw same at l }
+      go : plan s side room ≡ accepted p → PlanVerdict → Fits p
+      go e (bad-side h q) = absurd (let z : _≡_ {A = ℕ} 0 1 = cc in omega arith)
+      go e (bad-job h k v a l u n q) = absurd (let z : _≡_ {A = ℕ} 0 1 = cc in omega arith)
+      go e (no-room h j a l q) = absurd (let z : _≡_ {A = ℕ} 0 1 = cc in omega arith)
+      go e (written h j a l q) =
+          let same : sidePlanned j side ≡ p = cc in
+          record { good-side = h; job = j; taken = a; is = same; room-enough = subst (λ (x : PlannedSide). length (x .schedule) ≤ room) same l }
+
+-- Document 02, request 8
+
+pub plan-six : Plan-six
+plan-six s side room k v e = go (plan-verdict s side room)
+  where
+    go : PlanVerdict s side room → k ≢ 6
+    go (bad-side h p) six = let z : 8 ≡ k = cc in omega arith
+    go (bad-job h i w a l u n p) six = let z : i ≡ k = cc in n (omega arith)
+    go (no-room h j a l p) six = let z : 9 ≡ k = cc in omega arith
+    go (written h j a l p) six = let z : _≡_ {A = ℕ} 0 1 = cc in omega arith
+
+pub plan-overhangs : Plan-overhangs
+plan-overhangs s j side room p a e =
+    let f = plan-written s side room p .0 e in
+    let same : f .job ≡ j = let q = sym (f .taken) ∙ a in cc in
+    let own : sideOverhangs j side ≡ p .overhangs = ap (λ (i : Job). sideOverhangs i side) (sym same) ∙ ap (λ (q : PlannedSide). q .overhangs) (f .is) in
+    subst (Overhanging j side) own (record { before = greatest-before j side; after = greatest-after j side })

@@ -1,12 +1,14 @@
--- Document 01's cases K1 to K10 in one list: each job with its runs on the right, or its refusal.
+-- Document 01's cases K1 to K10 in one list: each job with its runs on the right and its overhangs there, or its refusal.
 -- Assumes nothing.
 use Prim.Native.Nat.{ℕ, _+_, _-_}
 use mathlib.Core.List.{List, [], _∷_, _++_}
 use Rattle.refusal.specs.Answer.{Answer, accepted, refused, _>>=_}
 use Rattle.job.specs.Writing.{writeNumbers}
 use Rattle.runs.specs.declared.Stretch.{Stretch}
+use Rattle.planning.specs.declared.Overhangs.{Overhangs}
+use Rattle.planning.specs.Envelope.{noOverhang}
 use Rattle.schedule.specs.Schedule.{writeSchedule}
-use Rattle.schedule.specs.Plan.{plan}
+use Rattle.schedule.specs.Plan.{PlannedSide, plan}
 
 -- The numbers of a header: what the cases change; the rest is as printed.
 unfoldable pub header : (LF LO C W M b G h : ℕ) → List ℕ
@@ -19,13 +21,18 @@ hazard s e n level = 0 ∷ s ∷ e ∷ n ∷ 9000 ∷ level ∷ []
 abbrev pub run : (start end level : ℕ) → Stretch
 run s e l = record { start = s; end = e; level = l }
 
--- A job's numbers, and its runs on the right or its refusal.
+-- A job's numbers, its runs on the right or its refusal, and the overhangs there.
 pub record Case : Type 0 where
   pub job : List ℕ
   pub expected : Answer (List Stretch)
+  pub overhangs : Overhangs
 
 abbrev pub case : List ℕ → Answer (List Stretch) → Case
-case j e = record { job = j; expected = e }
+case j e = record { job = j; expected = e; overhangs = noOverhang }
+
+-- A case whose approach hangs over before A.
+abbrev pub hangingOver : (before : ℕ) → Case → Case
+hangingOver before c = record { job = c .job; expected = c .expected; overhangs = record { before = before; after = 0 } }
 
 unfoldable pub cases : List Case
 cases =
@@ -45,9 +52,9 @@ cases =
     -- K7: n 4,000 planned; 3,999 refused 5
     ∷ case (header 101000 0 9000 0 3000 1 0 1 ++ hazard 200000 210000 4000 3) (accepted (run 155773 210000 3 ∷ []))
     ∷ case (header 101000 0 9000 0 3000 1 0 1 ++ hazard 200000 210000 3999 3) (refused 5 0)
-    -- K8: K2 with s 67,334 begins at 0; s 67,333 refused 6
+    -- K8: K2 with s 67,334 begins at 0; s 67,333: "the second job of K8 now begins at 0 with overhang 1"
     ∷ case (header 101000 0 9000 0 3000 0 0 1 ++ hazard 67334 210000 5000 3) (accepted (run 0 210000 3 ∷ []))
-    ∷ case (header 101000 0 9000 0 3000 0 0 1 ++ hazard 67333 210000 5000 3) (refused 6 0)
+    ∷ hangingOver 1 (case (header 101000 0 9000 0 3000 0 0 1 ++ hazard 67333 210000 5000 3) (accepted (run 0 210000 3 ∷ [])))
     -- K9: level-2 envelopes 49,999 apart at G = 50,000 make one run; 50,000 apart two
     ∷ case (header 101000 0 9000 0 3000 1 50000 2 ++ (hazard 200000 210000 5000 2 ++ hazard (210000 + 49999 + 44227) 310000 5000 2)) (accepted (run 155773 310000 2 ∷ []))
     ∷ case (header 101000 0 9000 0 3000 1 50000 2 ++ (hazard 200000 210000 5000 2 ++ hazard (210000 + 50000 + 44227) 310000 5000 2))
@@ -57,8 +64,8 @@ cases =
     ∷ []
 
 -- What plan gives for the right side with room for 64 bytes, and the writing of what is expected.
-unfoldable pub planned : Case → Answer (List ℕ)
+unfoldable pub planned : Case → Answer PlannedSide
 planned c = plan (writeNumbers (c .job)) 0 64
 
-unfoldable pub written : Case → Answer (List ℕ)
-written c = c .expected >>= λ rs. accepted (writeSchedule rs)
+unfoldable pub written : Case → Answer PlannedSide
+written c = c .expected >>= λ rs. accepted (record { schedule = writeSchedule rs; overhangs = c .overhangs })

@@ -1,4 +1,5 @@
--- The owner's three demands, sentence by sentence, as statements about the definitions.
+-- The owner's three demands, sentence by sentence, as statements about the definitions; since document 02's request 8 envelopes are cut, and
+-- "coverage, leastness and the comparison of two jobs alike in their headers hold over the millimetres of [A, B)".
 -- Assumes nothing.
 use Prim.Native.Nat.{ℕ, _+_, _≤_}
 use mathlib.Core.Path.{_≡_}
@@ -12,11 +13,11 @@ use Rattle.job.specs.declared.Header.{Header}
 use Rattle.job.specs.declared.Hazard.{Hazard}
 use Rattle.job.specs.Job.{Job}
 use Rattle.runs.specs.declared.Stretch.{Stretch}
-use Rattle.planning.specs.Envelope.{Traffic, envelope, reached, reaches, sideEnvelopes, Upstream, BelowApproach}
-use Rattle.runs.specs.Level.{NoShortGap, Has, InSet, Filled, Highest}
+use Rattle.planning.specs.Envelope.{Traffic, envelope, reached, reaches, sideEnvelopes, OnRoad, Upstream, BelowApproach}
+use Rattle.runs.specs.Level.{NoShortGap, NoShortGapIn, Has, InSet, Filled, Highest}
 use Rattle.runs.specs.RunList.{isRunList, IsRun}
 use Rattle.schedule.specs.Schedule.{writeSchedule, readSchedule}
-use Rattle.schedule.specs.Planned.{Accepted, Planned, scheduleLevel}
+use Rattle.schedule.specs.Planned.{Accepted, scheduleAlone, Planned, scheduleLevel}
 use Rattle.queries.specs.Ranges.{mostRanges, quantities, replied}
 use Rattle.planning.specs.Required.{jobLevel, jobRuns}
 use Rattle.queries.specs.Lookup.{FoundRun, Found, found, nowhere, asked, lookup}
@@ -25,22 +26,30 @@ use Rattle.queries.specs.Quantity.{millimetres, quantity}
 
 -- Demand 1, of the definitions: after every call the output holds the complete schedule from its first byte, the bytes behind it untouched, or exactly what it held before; its length never changes.
 pub record OutputKept (s : List ℕ) (side : ℕ) (out : List ℕ) : Type 0 where
-  pub planned : (w : List ℕ) → plan s side (length out) ≡ accepted w → (take (length w) (outputAfter (plan s side (length out)) out) ≡ w) × (drop (length w) (outputAfter (plan s side (length out)) out) ≡ drop (length w) out)
+  pub planned : (w : List ℕ) → scheduleAlone (plan s side (length out)) ≡ accepted w → (take (length w) (outputAfter (plan s side (length out)) out) ≡ w) × (drop (length w) (outputAfter (plan s side (length out)) out) ≡ drop (length w) out)
   pub refused : (k v : ℕ) → plan s side (length out) ≡ refused k v → outputAfter (plan s side (length out)) out ≡ out
   pub same-length : length (outputAfter (plan s side (length out)) out) ≡ length out
 
 abbrev pub Demand1 : Type 0
 Demand1 = (s : List ℕ) (side : ℕ) (out : List ℕ) → OutputKept s side out
 
--- An assignment of levels covers the envelope of each reached hazard of a side, at that hazard's level or higher.
+-- An assignment of levels covers the envelope, not cut, of each reached hazard of a side, at that hazard's level or higher, on the road.
 abbrev pub CoversHazards : Job → ℕ → (ℕ → ℕ) → Type 0
-CoversHazards j side f = (z : Hazard) → List·Memᴰ z (j .hazards) → z .side ≡ side → reached (j .header) z ≡ true → (t : ℕ) → Has (envelope (j .header) z) t → z .level ≤ f t
+CoversHazards j side f =
+    (z : Hazard) → List·Memᴰ z (j .hazards) → z .side ≡ side → reached (j .header) z ≡ true
+    → (t : ℕ) → OnRoad (j .header) t → Has (envelope (j .header) z) t → z .level ≤ f t
 
--- Demand 2.
+-- At no level has it a gap under the continuity limit between two of its millimetres of the road.
+abbrev pub NoShortGapOnRoad : Job → (ℕ → ℕ) → Type 0
+NoShortGapOnRoad j f = NoShortGapIn (j .header .begin) (j .header .end) (j .header .continuity) f
+
+-- Demand 2. The schedule has no short gap anywhere, shows nothing off the road, and is nowhere above another assignment that covers the
+-- envelopes on the road and has no short gap there.
 pub record LeastCovering (j : Job) (side : ℕ) (w : List ℕ) : Type 0 where
   pub covers : CoversHazards j side (scheduleLevel w)
   pub no-short-gap : NoShortGap (j .header .continuity) (scheduleLevel w)
-  pub least : (f : ℕ → ℕ) → CoversHazards j side f → NoShortGap (j .header .continuity) f → (t : ℕ) → scheduleLevel w t ≤ f t
+  pub least : (f : ℕ → ℕ) → CoversHazards j side f → NoShortGapOnRoad j f → (t : ℕ) → scheduleLevel w t ≤ f t
+  pub off-road : (t : ℕ) → (OnRoad (j .header) t → ⊥) → scheduleLevel w t ≡ 0
   pub reads : readSchedule w ≡ accepted (jobRuns j side)
   pub level : (t : ℕ) → scheduleLevel w t ≡ jobLevel j side t
   pub highest : (t : ℕ) → Highest (λ (v : ℕ). Filled (j .header .continuity) (InSet (sideEnvelopes j side) v) t) (jobLevel j side t)
@@ -49,13 +58,13 @@ abbrev pub Demand2 : Type 0
 Demand2 = (s : List ℕ) (j : Job) (side : ℕ) (w : List ℕ) → Accepted s j → side ≤ 1 → Planned s side w → LeastCovering j side w
 
 -- Demand 2, "built in document 01 from the published length-of-need formula", with document 02's rules for the straight part and for whole
--- panels: formula and rules themselves, multiplied out, with no rounding and no division. Each millimetre whose end towards the hazard is
--- nearer to it than the approach length in whole panels is covered.
+-- panels: formula and rules themselves, multiplied out, with no rounding and no division. Each millimetre of the road whose end towards the
+-- hazard is nearer to it than the approach length in whole panels is covered.
 abbrev pub Demand2-formula : Type 0
 Demand2-formula =
     (s : List ℕ) (j : Job) (side : ℕ) (w : List ℕ) → Accepted s j → side ≤ 1 → Planned s side w
     → (z : Hazard) → List·Memᴰ z (j .hazards) → z .side ≡ side → (traffic : Traffic) → reaches (j .header) z traffic ≡ true
-    → (d t : ℕ) → Upstream traffic z d t → BelowApproach (j .header) z traffic d
+    → (d t : ℕ) → Upstream traffic z d t → BelowApproach (j .header) z traffic d → OnRoad (j .header) t
     → z .level ≤ scheduleLevel w t
 
 -- What lookup finds at t in the schedule of a job that requires a level there: the record of a run of that level that has t, or nothing where the level is 0.
@@ -92,6 +101,10 @@ Demand3-equal =
     → Accepted s₁ j₁ → Accepted s₂ j₂ → side₁ ≤ 1 → side₂ ≤ 1 → Planned s₁ side₁ w₁ → Planned s₂ side₂ w₂
     → (w₁ ≡ w₂) ↔ ((t : ℕ) → jobLevel j₁ side₁ t ≡ jobLevel j₂ side₂ t)
 
+-- "Equal schedules still mean equal levels at every millimetre, 0 outside a job's road": there the required level is 0.
+abbrev pub Demand3-off-road : Type 0
+Demand3-off-road = (s : List ℕ) (j : Job) (side : ℕ) → Accepted s j → (t : ℕ) → (OnRoad (j .header) t → ⊥) → jobLevel j side t ≡ 0
+
 -- Alike in every header number but the hazard count.
 pub record Alike (h k : Header) : Type 0 where
   pub kind : h .kind ≡ k .kind
@@ -109,7 +122,7 @@ pub record Alike (h k : Header) : Type 0 where
   pub continuity : h .continuity ≡ k .continuity
   pub panel : h .panel ≡ k .panel
 
--- Demand 3, growth: the second job has every hazard of the first, at whatever index.
+-- Demand 3, growth: the second job has every hazard of the first, at whatever index. Off the road both show 0.
 abbrev pub Demand3-growth : Type 0
 Demand3-growth =
     (s₁ s₂ : List ℕ) (j₁ j₂ : Job) (side : ℕ) (w₁ w₂ : List ℕ)

@@ -8,6 +8,7 @@ use mathlib.Core.List.{List}
 use Rattle.refusal.specs.Answer.{Answer, accepted, refused, _>>=_}
 use Rattle.number.specs.Number.{numberAt}
 use Rattle.job.specs.Job.{Job}
+use Rattle.planning.specs.Envelope.{OnRoad}
 use Rattle.planning.specs.Required.{jobLevel}
 use Rattle.schedule.specs.Plan.{plan}
 use Rattle.schedule.specs.Planned.{Accepted, Planned}
@@ -42,3 +43,7 @@ Level-lookup = (s : List ℕ) (j : Job) (side : ℕ) (right left : List ℕ) →
 -- "Refusals are those of plan without 9": number and value, whatever the room of plan's output is.
 abbrev pub Level-refusals : Type 0
 Level-refusals = (s : List ℕ) (side t room k v : ℕ) → (levelAt s side t ≡ refused k v) ↔ ((plan s side room ≡ refused k v) × (k ≢ 9))
+
+-- Off the road the level is 0 (request 8).
+abbrev pub Level-off-road : Type 0
+Level-off-road = (s : List ℕ) (j : Job) (side t : ℕ) → Accepted s j → side ≤ 1 → (OnRoad (j .header) t → ⊥) → levelAt s side t ≡ accepted 0

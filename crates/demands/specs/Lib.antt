@@ -3,3 +3,4 @@ pub mod Cases
 pub mod Before
 -- Document 02.
 pub mod Level
+pub mod Road

@@ -198,7 +198,6 @@ row-refused s (row.Malformed at) w = unread-refused 2 Malformed (λ i. refl) (λ
 row-refused s (row.HeaderRange number) w = outside-refused (w .1) ∙ ap (refused 3) (sym (w .2))
 row-refused s (row.HazardRange index) w = outside-refused (w .3) ∙ ap (refused 4) (sym (w .4))
 row-refused s (row.NearBarrier index) w = absurd w
-row-refused s (row.OffRoad index) w = absurd w
 row-refused s (row.LeftOver at) w = after-refused w
 row-refused s row.Argument w = absurd w
 row-refused s (row.Room needed) w = absurd w

@@ -6,7 +6,7 @@ use mathlib.Core.Bool.{true, false}
 use mathlib.Core.List.{List, [], _∷_, _++_, List·Memᴰ}
 use lib.ListN.{length, getD}
 use Rattle.refusal.specs.declared.Refusal.{Refusal}
-use Rattle.refusal.specs.declared.Refusal.the-variants.{Ended, Malformed, HeaderRange, HazardRange, NearBarrier, OffRoad, LeftOver, Argument, Room, Schedule, Ranges, Name, State}
+use Rattle.refusal.specs.declared.Refusal.the-variants.{Ended, Malformed, HeaderRange, HazardRange, NearBarrier, LeftOver, Argument, Room, Schedule, Ranges, Name, State}
 use Rattle.number.specs.Number.{writeNumber, greatest}
 use Rattle.number.specs.Form.{EndsInside, IllFormed}
 use Rattle.job.specs.declared.Header.{Header}
@@ -107,7 +107,6 @@ ReadRow (HazardRange index) s = (h : Header) × (before : List Hazard) × (got :
 -- 7: "index of first byte left over"; "bytes after the last hazard".
 ReadRow (LeftOver at) s = BytesAfter s at
 ReadRow (NearBarrier index) s = ⊥
-ReadRow (OffRoad index) s = ⊥
 ReadRow Argument s = ⊥
 ReadRow (Room needed) s = ⊥
 ReadRow Schedule s = ⊥

@@ -17,7 +17,8 @@ use Rattle.job.specs.declared.StoredJob.{StoredJob}
 use Rattle.open_memory.specs.Memory.{isOpenJob}
 use Rattle.open_memory.proofs.RangeLaws.{and-assoc}
 use Rattle.open_job.specs.Open.{openJob, addTo, withdrawFrom, scheduleOf, memoryAfter, replied}
-use Rattle.open_job.proofs.CallLaws.{add-bad, withdraw-bad}
+use Rattle.open_job.proofs.CallLaws.{add-bad, withdraw-bad, schedule-bad}
+use Rattle.schedule.specs.Plan.{PlannedSide}
 use Rattle.kept_states.specs.declared.KeptState.{KeptState}
 use Rattle.kept_states.specs.declared.OpenStates.{OpenStates}
 use Rattle.kept_states.specs.States.{mostKept, greatestStateNumber, nothingKept, keptFrom, stateOf, isUsed, keptSound, keptStates, keptUnder, statesFrom, areOpenStates, openStates, addIn, withdrawIn, scheduleIn, keepIn, returnIn}
@@ -55,15 +56,11 @@ module _ (m : OpenStates) where
   unfolding withdrawPart withdrawIn areOpenStates
   withdraw-whole name = rw (all-sound m) (now-changed (allOf (keptSound (m .now .header)) (keptStates m)) (isOpenJob (m .now)) (withdrawFrom (m .now) name) (λ e. withdraw-bad (m .now) e name))
 
-  schedule-bad : (side room : ℕ) → isOpenJob (m .now) ≡ false → scheduleOf (m .now) side room ≡ refused 3 0
-  unfolding scheduleOf
-  schedule-bad side room e = rw e
-
   pub schedule-whole : (side room : ℕ) → schedulePart (allSound m) (m .now) side room ≡ scheduleIn m side room
   unfolding schedulePart scheduleIn areOpenStates
-  schedule-whole side room = rw (all-sound m) (go (allOf (keptSound (m .now .header)) (keptStates m)) (isOpenJob (m .now)) (scheduleOf (m .now) side room) (schedule-bad side room))
+  schedule-whole side room = rw (all-sound m) (go (allOf (keptSound (m .now .header)) (keptStates m)) (isOpenJob (m .now)) (scheduleOf (m .now) side room) (schedule-bad (m .now) side room))
     where
-      go : (sound good : Bool) (a : Answer (List ℕ)) → (good ≡ false → a ≡ refused 3 0) → (unless-refuse sound 3 0 >>= λ _. a) ≡ (unless-refuse (good && sound) 3 0 >>= λ _. a)
+      go : (sound good : Bool) (a : Answer PlannedSide) → (good ≡ false → a ≡ refused 3 0) → (unless-refuse sound 3 0 >>= λ _. a) ≡ (unless-refuse (good && sound) 3 0 >>= λ _. a)
       go true true a e = refl
       go true false a e = e refl
       go false true a e = refl

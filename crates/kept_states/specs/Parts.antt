@@ -2,7 +2,6 @@
 -- Assumes nothing.
 use Prim.Native.Nat.{ℕ, _+_, _*_}
 use mathlib.Core.Bool.{Bool, _&&_}
-use mathlib.Core.List.{List}
 use lib.Dec.{leb, eqb}
 use Rattle.refusal.specs.Choice.{if_then_else_}
 use Rattle.refusal.specs.Answer.{Answer, accepted, _>>=_, unless-refuse}
@@ -10,6 +9,7 @@ use Rattle.job.specs.declared.Header.{Header}
 use Rattle.job.specs.declared.Hazard.{Hazard}
 use Rattle.job.specs.declared.NamedHazard.{NamedHazard}
 use Rattle.job.specs.declared.StoredJob.{StoredJob}
+use Rattle.schedule.specs.Plan.{PlannedSide}
 use Rattle.open_memory.specs.Memory.{isOpenJob}
 use Rattle.open_job.specs.Open.{addTo, withdrawFrom, scheduleOf}
 use Rattle.kept_states.specs.declared.KeptState.{KeptState}
@@ -46,7 +46,7 @@ addPart sound a name z = unless-refuse sound 3 0 >>= λ _. addTo a name z
 unfoldable pub withdrawPart : (sound : Bool) → StoredJob → (name : ℕ) → Answer StoredJob
 withdrawPart sound a name = unless-refuse sound 3 0 >>= λ _. withdrawFrom a name
 
-unfoldable pub schedulePart : (sound : Bool) → StoredJob → (side room : ℕ) → Answer (List ℕ)
+unfoldable pub schedulePart : (sound : Bool) → StoredJob → (side room : ℕ) → Answer PlannedSide
 schedulePart sound a side room = unless-refuse sound 3 0 >>= λ _. scheduleOf a side room
 
 -- The tests of keep and return.

@@ -11,6 +11,7 @@ use Rattle.job.specs.declared.Header.{Header}
 use Rattle.job.specs.declared.Hazard.{Hazard}
 use Rattle.job.specs.declared.StoredJob.{StoredJob}
 use Rattle.job.specs.Reply.{unused}
+use Rattle.schedule.specs.Plan.{PlannedSide}
 use Rattle.open_memory.specs.Memory.{mostStanding, counted, isUnused, isOpenJob}
 use Rattle.open_job.specs.Open.{openJob, addTo, withdrawFrom, scheduleOf}
 use Rattle.kept_states.specs.declared.KeptState.{KeptState}
@@ -94,7 +95,7 @@ withdrawIn m name =
     withdrawFrom (m .now) name >>= λ a.
     accepted (statesFrom a (keptStates m))
 
-unfoldable pub scheduleIn : OpenStates → (side room : ℕ) → Answer (List ℕ)
+unfoldable pub scheduleIn : OpenStates → (side room : ℕ) → Answer PlannedSide
 scheduleIn m side room =
     unless-refuse (areOpenStates m) 3 0 >>= λ _.
     scheduleOf (m .now) side room

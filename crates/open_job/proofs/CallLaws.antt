@@ -1,54 +1,46 @@
 -- The calls, step by step: the memory, the name, the hazard, and what is then made.
 -- Assumes nothing.
-use Prim.Native.Nat.{ℕ, _+_, _≤_, _<_}
+use Prim.Native.Nat.{ℕ, _≤_, _<_}
 use native.Mathlib.Omega.{arith}
-use native.Mathlib.Decide.{ℕ-discrete}
-use mathlib.Core.Path.{_≡_, refl, sym, ap, ap₂, subst, _∙_}
-use mathlib.Core.Logic.{_⊎_, inl, inr}
+use mathlib.Core.Path.{_≡_, refl, sym, ap, _∙_}
 use mathlib.Core.Bool.{Bool, true, false}
-use mathlib.Core.List.{List, [], _∷_, List·Memᴰ, List·Memᴰ·eq-of-singleton}
-use lib.ListN.{length, getD, set}
-use lib.Seq.{getD-take}
+use mathlib.Core.List.{List, [], _∷_, append-nil}
+use lib.ListN.{length}
 use lib.Dec.{leb, eqb}
-use borrow.Author.Tests.{le-leb, eqb-true, eq-eqb, ne-eqb}
-use Rattle.refusal.specs.Answer.{Answer, accepted, refused, _>>=_, unless-refuse, isAccepted}
-use Rattle.refusal.specs.Refusal.{numberOf, valueOf, refusal, outcome}
-use Rattle.refusal.specs.Stored.{acceptedOr}
+use borrow.Author.Tests.{le-leb, eqb-true}
+use Rattle.refusal.specs.Answer.{Answer, accepted, refused, _>>=_, unless-refuse}
+use Rattle.refusal.specs.Refusal.{refusal, outcome}
 use Rattle.refusal.specs.declared.Refusal.{Refusal}
-use Rattle.refusal.specs.declared.Outcome.{Outcome}
 use Rattle.refusal.specs.declared.Outcome.the-variants.{Done, Refused}
 use Rattle.job.specs.declared.Header.{Header}
 use Rattle.job.specs.declared.Hazard.{Hazard}
 use Rattle.job.specs.declared.NamedHazard.{NamedHazard}
 use Rattle.job.specs.declared.StoredJob.{StoredJob}
-use Rattle.job.specs.Job.{Job, Fields, named, unnamed, jobOf, headerSize, readHeader, headerOf, readJob}
+use Rattle.job.specs.Job.{Job, Fields, named, jobOf, headerSize, readHeader, headerOf, readJob}
 use Rattle.job.specs.Writing.{writeJob}
-use Rattle.job.specs.Reply.{unused, HeaderReading, headerReading, headerAt, jobHeader, readOpening}
-use Rattle.job.proofs.JobLaws.{HeaderFits, HazardFits, JobFits, job-fits}
+use Rattle.job.specs.Reply.{headerReading, headerAt, jobHeader, readOpening}
+use Rattle.job.proofs.JobLaws.{job-fits}
 use Rattle.job.proofs.OpeningLaws.{job-header}
-use Rattle.runs.specs.declared.Stretch.{Stretch}
-use Rattle.runs.specs.declared.Envelopes.{Envelopes}
 use Rattle.runs.specs.RunList.{envelopesOf}
 use Rattle.runs.specs.Required.{requiredRuns}
 use Rattle.runs.specs.Stored.{StoredEnvelopes}
-use Rattle.planning.specs.Envelope.{testHazard, testHazards, sideEnvelopes, acceptJob}
+use Rattle.planning.specs.Envelope.{sideOverhangs, standsNear, testHazard, testHazards, acceptJob}
 use Rattle.planning.specs.Required.{jobRuns}
-use Rattle.planning.specs.Reply.{testedEnvelopes, storedEnvelopes}
+use Rattle.planning.specs.Reply.{Cuts, cutsOf, testedEnvelopes}
 use Rattle.planning.specs.declared.accept.SideEnvelopes.{SideEnvelopes}
 use Rattle.planning.proofs.AcceptLaws.{Replies}
-use Rattle.planning.proofs.EnvelopeLaws.{AcceptedFits, side-proper, side-levelled, side-ends, side-count}
-use Rattle.planning.proofs.AcceptedLaws.{fitting-accepted}
+use Rattle.planning.proofs.EnvelopeLaws.{AcceptedFits}
+use Rattle.planning.proofs.SideLaws.{envelopes-done, outcome-done, stored-envelopes}
+use Rattle.planning.proofs.AcceptedLaws.{hazards-pass, fitting-accepted}
 use Rattle.schedule.specs.Schedule.{writeSchedule}
 use Rattle.schedule.specs.Plan.{fitted, plan}
 use Rattle.schedule.proofs.PlanLaws.{plan-bad-side}
 use Rattle.open_job.specs.declared.Change.{Change}
-use Rattle.open_memory.specs.Memory.{greatestName, standing, counted, laidOut, madeFrom, stands, inserted, without, hazardInRange, admit, isOpenJob}
+use Rattle.open_memory.specs.Memory.{greatestName, standing, laidOut, stands, inserted, hazardInRange, admit, isOpenJob}
 use Rattle.open_job.specs.Open.{openJob, addTo, withdrawFrom, scheduleOf, Changes}
-use Rattle.open_memory.specs.Steps.{openEnvelopes, rank, putAt, takenAt}
-use Rattle.open_memory.proofs.RangeLaws.{counted-fits}
-use Rattle.open_memory.proofs.RuleLaws.{Admitted, admitted, test-counted, stand-few, open-header, open-standing, open-accepted}
-use Rattle.open_memory.proofs.OrderLaws.{envelopes-bad, envelopes-good}
-use Rattle.open_memory.proofs.PlaceLaws.{stands-place, not-at-place, inserted-at, inserted-stand, inserted-length, without-at}
+use Rattle.open_memory.specs.Steps.{rank, putAt, takenAt}
+use Rattle.open_memory.proofs.RuleLaws.{admitted, admit-ranged, stand-few, open-header, open-standing, open-accepted}
+use Rattle.open_memory.proofs.PlaceLaws.{inserted-at, inserted-stand, inserted-length, without-at}
 use Rattle.open_memory.proofs.WalkLaws.{standing-length}
 
 -- A call by value: refused, or done.
@@ -63,7 +55,7 @@ module _ (m : StoredJob) where
 
 module _ (s : List ℕ) where
   -- A job whose header counts no hazard has none.
-  none-read : (f : Fields) (j : Job) → readHeader s ≡ accepted f → eqb (headerOf (f .numbers) .count) 0 ≡ true → readJob s ≡ accepted j → j .hazards ≡ []
+  pub none-read : (f : Fields) (j : Job) → readHeader s ≡ accepted f → eqb (headerOf (f .numbers) .count) 0 ≡ true → readJob s ≡ accepted j → j .hazards ≡ []
   unfolding headerAt
   none-read f j read none e =
       let at : headerAt s ≡ accepted (headerReading f) = rw read in
@@ -101,29 +93,15 @@ module _ (s : List ℕ) where
   pub opening-refused : (x : Refusal) → refusal x ≡ readOpening s → openJob s ≡ refusal x
   opening-refused x e = opening-read ∙ rw (sym e)
 
--- A hazard that is to be added
+-- A hazard that is to be added, in its ranges
+module _ (h : Header) (name : ℕ) (z : Hazard) (ranged : hazardInRange h z ≡ true) where
+  pub given-near : standsNear h z ≡ true → refused 5 name ≡ admit h name z
+  unfolding testHazard
+  given-near e = sym (admit-ranged h name z ranged ∙ rw e)
 
--- Alone in the memory.
-pub alone-job : (m : StoredJob) (p : NamedHazard) → length (m .hazards) ≡ 256 → jobOf (record { header = counted (m .header) 1; hazards = set (m .hazards) 0 p }) ≡ madeFrom (m .header) (unnamed p ∷ [])
-alone-job m p size = go (m .hazards) size
-  where
-    go : (l : List NamedHazard) → length l ≡ 256 → jobOf (record { header = counted (m .header) 1; hazards = set l 0 p }) ≡ madeFrom (m .header) (unnamed p ∷ [])
-    go [] e = absurd (omega arith)
-    go (q ∷ qs) e = refl
-
-pub alone-fits : (h : Header) (z : Hazard) → HeaderFits h → HazardFits h z → JobFits (madeFrom h (z ∷ []))
-alone-fits h z fits f =
-    record { header = counted-fits h 1 fits (omega arith); hazards = record { count = refl; each = λ y m. subst (HazardFits (counted h 1)) (sym (List·Memᴰ·eq-of-singleton m)) (record { side = f .side; begins = f .begins; long = f .long; ends = f .ends; offsets = f .offsets; far-top = f .far-top; level-low = f .level-low; level-top = f .level-top }) } }
-
-pub alone-tested : (h : Header) (name side : ℕ) (z : Hazard) (o : Outcome) (es : List Stretch) → outcome o es ≡ testedEnvelopes (madeFrom h (z ∷ [])) name side → outcome {A = Unit {0}} o tt ≡ testHazard h name z
-unfolding testedEnvelopes testHazards
-alone-tested h name side z o es e = go o (testHazard (counted h 1) name z) e ∙ test-counted h name z 1
-  where
-    go : (q : Outcome) (a : Answer (Unit {0})) → outcome q es ≡ ((a >>= λ _. accepted (tt {0})) >>= λ _. accepted (sideEnvelopes (madeFrom h (z ∷ [])) side)) → outcome {A = Unit {0}} q tt ≡ a
-    go Done (accepted u) p = refl
-    go Done (refused k v) p = absurd (let w : _≡_ {A = ℕ} 0 1 = cc in omega arith)
-    go (Refused x) (accepted u) p = absurd (let w : _≡_ {A = ℕ} 0 1 = cc in omega arith)
-    go (Refused x) (refused k v) p = cc
+  pub given-clear : standsNear h z ≡ false → accepted tt ≡ admit h name z
+  unfolding testHazard
+  given-clear e = sym (admit-ranged h name z ranged ∙ rw e)
 
 module _ (m : StoredJob) where
   -- Memory that breaks the rules.
@@ -175,42 +153,38 @@ module _ (m : StoredJob) where
 -- Schedule
 
 -- Plan, of the writing of a job that is accepted.
-pub plan-written : (j : Job) → AcceptedFits j → (side room : ℕ) → plan (writeJob j) side room ≡ (unless-refuse (leb side 1) 8 0 >>= λ _. fitted (writeSchedule (jobRuns j side)) room)
+pub plan-written : (j : Job) → AcceptedFits j → (side room : ℕ) → plan (writeJob j) side room ≡ (unless-refuse (leb side 1) 8 0 >>= λ _. fitted (writeSchedule (jobRuns j side)) (sideOverhangs j side) room)
 unfolding plan
 plan-written j f side room = rw (fitting-accepted j f)
 
 module _ (m : StoredJob) (side : ℕ) where
-  pub schedule-refused : (room : ℕ) (x : Refusal) → refusal x ≡ openEnvelopes m side → scheduleOf m side room ≡ refusal x
-  unfolding scheduleOf openEnvelopes
-  schedule-refused room x e = go (isOpenJob m) e
-    where
-      go : (b : Bool) → refusal x ≡ (unless-refuse b 3 0 >>= λ _. accepted (sideEnvelopes (jobOf m) side)) → (unless-refuse b 3 0 >>= λ _. plan (writeJob (jobOf m)) side room) ≡ refusal x
-      go true q = absurd (let w : _≡_ {A = ℕ} 0 1 = cc in omega arith)
-      go false q = let number : numberOf x ≡ 3 = cc in let value : valueOf x ≡ 0 = cc in sym (ap₂ refused number value)
+  pub schedule-bad : (room : ℕ) → isOpenJob m ≡ false → scheduleOf m side room ≡ refused 3 0
+  unfolding scheduleOf
+  schedule-bad room bad = rw bad
 
-  -- By what `open_envelopes` answers where the memory is an open job.
-  module _ (r : SideEnvelopes) (reply : Replies r (openEnvelopes m side)) (done : r .outcome ≡ Done) where
-    told : openEnvelopes m side ≡ accepted (envelopesOf (r .envelopes))
-    told = sym (reply .0) ∙ rw done
-
-    good : isOpenJob m ≡ true
-    good = envelopes-good m side (envelopesOf (r .envelopes)) told .0
-
-    own : sideEnvelopes (jobOf m) side ≡ envelopesOf (r .envelopes)
-    own = envelopes-good m side (envelopesOf (r .envelopes)) told .1
-
+  module _ (good : isOpenJob m ≡ true) where
     pub schedule-eight : (room : ℕ) → 1 < side → scheduleOf m side room ≡ refused 8 0
     unfolding scheduleOf
     schedule-eight room l = rw good (plan-bad-side (writeJob (jobOf m)) side room l)
 
-    module _ (size : length (m .hazards) ≡ 256) where
-      pub schedule-stored : StoredEnvelopes (r .envelopes)
-      schedule-stored =
-          let fits = open-accepted m good size in
-          let whole : r .envelopes ≡ storedEnvelopes (envelopesOf (r .envelopes)) = reply .1 ∙ ap (λ (a : Answer (List Stretch)). storedEnvelopes (acceptedOr [] a)) told in
-          let few : length (envelopesOf (r .envelopes)) ≤ 256 = rw own at (side-count (jobOf m) side fits) in
-          record { count = omega (arith, few, ap (λ (es : Envelopes). es .count) whole); long = rw own at (side-proper (jobOf m) side fits); levels = rw own at (side-levelled (jobOf m) side fits); ends = rw own at (side-ends (jobOf m) side fits) }
+    -- By what `side_envelopes` answers: the hazards pass.
+    module _ (size : length (m .hazards) ≡ 256) (r : SideEnvelopes) (reply : Replies r (testedEnvelopes (jobOf m) side)) where
+      passes : testedEnvelopes (jobOf m) side ≡ accepted (cutsOf (m .header) side (jobOf m .hazards))
+      unfolding testedEnvelopes testHazards
+      passes = rw (← append-nil (jobOf m .hazards), hazards-pass (m .header) 0 (jobOf m .hazards) [] (open-accepted m good size .passed))
 
-      pub schedule-done : (room : ℕ) → side ≤ 1 → scheduleOf m side room ≡ fitted (writeSchedule (requiredRuns (envelopesOf (r .envelopes)) (m .header .continuity))) room
+      done : r .outcome ≡ Done
+      done = outcome-done (jobOf m) side r reply passes
+
+      pub schedule-stored : StoredEnvelopes (r .envelopes)
+      schedule-stored = stored-envelopes (jobOf m) side r reply (open-accepted m good size .fits) done
+
+      own : cutsOf (m .header) side (jobOf m .hazards) ≡ record { envelopes = envelopesOf (r .envelopes); overhangs = r .overhangs }
+      own = let e = sym passes ∙ envelopes-done (jobOf m) side r reply done in cc
+
+      pub schedule-done : (room : ℕ) → side ≤ 1 → scheduleOf m side room ≡ fitted (writeSchedule (requiredRuns (envelopesOf (r .envelopes)) (m .header .continuity))) (r .overhangs) room
       unfolding scheduleOf jobRuns
-      schedule-done room l = rw good (plan-written (jobOf m) (open-accepted m good size) side room ∙ rw (le-leb side 1 l, own))
+      schedule-done room l =
+          rw good
+          (plan-written (jobOf m) (open-accepted m good size) side room
+          ∙ rw (le-leb side 1 l) (ap (λ (c : Cuts). fitted (writeSchedule (requiredRuns (c .envelopes) (m .header .continuity))) (c .overhangs) room) own))

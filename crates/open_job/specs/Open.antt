@@ -12,7 +12,7 @@ use Rattle.job.specs.declared.StoredJob.{StoredJob}
 use Rattle.job.specs.Job.{named, jobOf, headerSize, readHeader, headerOf}
 use Rattle.job.specs.Writing.{writeJob}
 use Rattle.planning.specs.Envelope.{acceptJob}
-use Rattle.schedule.specs.Plan.{plan}
+use Rattle.schedule.specs.Plan.{PlannedSide, plan}
 use Rattle.open_memory.specs.Memory.{standing, laidOut, stands, inserted, without, admit, isOpenJob}
 use Rattle.open_job.specs.declared.Change.{Change}
 
@@ -41,7 +41,7 @@ withdrawFrom m name =
     accepted (laidOut (m .header) (without name (standing m)))
 
 -- "Schedule of a side": what plan answers for the job that stands, 8 and 9 with it.
-unfoldable pub scheduleOf : StoredJob → (side room : ℕ) → Answer (List ℕ)
+unfoldable pub scheduleOf : StoredJob → (side room : ℕ) → Answer PlannedSide
 scheduleOf m side room =
     unless-refuse (isOpenJob m) 3 0 >>= λ _.
     plan (writeJob (jobOf m)) side room

@@ -1,21 +1,21 @@
 // The calls on one state of an open job, by value: it goes in and comes back.
 use super::Change;
+use job::Header;
 use job::StoredJob;
 use job::read::Opening;
 use job::read::read_opening;
+use job::unnamed;
 use open_memory::GivenHazard;
-use open_memory::places::alone;
 use open_memory::places::opened;
 use open_memory::places::place_of;
 use open_memory::places::put_in;
 use open_memory::places::stands_at;
 use open_memory::places::taken_out;
 use open_memory::places::under_name;
-use open_memory::rules::NO_SIDE;
 use open_memory::rules::hazard_in_range;
 use open_memory::rules::is_open_job;
-use open_memory::rules::open_envelopes;
 use planning::accept::side_envelopes;
+use planning::near::stands_near;
 use refusal::Outcome;
 use refusal::Refusal;
 use schedule::plan::plan_envelopes;
@@ -27,7 +27,7 @@ ghost use lib.ListN.{length};
 ghost use Rattle.refusal.specs.Refusal.{outcome};
 ghost use Rattle.refusal.specs.declared.Outcome.the-variants.{Refused};
 ghost use Rattle.schedule.specs.Plan.{planReply, bytesWritten, outputAfter};
-ghost use Rattle.open_memory.specs.Memory.{greatestName, hazardGiven, admit, isOpenJob};
+ghost use Rattle.open_memory.specs.Memory.{greatestName, hazardGiven, headerInRange, admit, isOpenJob};
 ghost use Rattle.open_job.specs.Open.{openJob, addTo, withdrawFrom, scheduleOf, Changes};
 
 // A refusal, and the open job as it was.
@@ -53,16 +53,18 @@ pub fn open(job: StoredJob, bytes: &[u8]) -> Change
     }
 }
 
-// Refusals 4, 5 and 6 of a hazard that is to stand under a name.
-fn test_given(job: StoredJob, name: u16, hazard: GivenHazard) -> Outcome
-    requires { ⌜ isOpenJob job ≡ true ⌝ }
-    ensures { λ r. ⌜ outcome r tt ≡ admit (job .header) name (hazardGiven hazard) ⌝ }
+// Refusals 4 and 5 of a hazard that is to stand under a name.
+fn test_given(header: Header, name: u16, hazard: GivenHazard) -> Outcome
+    requires { ⌜ headerInRange header ≡ true ⌝ }
+    ensures { λ r. ⌜ outcome r tt ≡ admit header name (hazardGiven hazard) ⌝ }
 {
-    let header = job.header;
     if hazard_in_range(header, hazard) {
         let new = under_name(header, name, hazard);
-        let tested = side_envelopes(alone(job, new), name as usize, NO_SIDE);
-        tested.outcome
+        if stands_near(header, unnamed(new)) {
+            Outcome::Refused(Refusal::NearBarrier(name as usize))
+        } else {
+            Outcome::Done
+        }
     } else {
         Outcome::Refused(Refusal::HazardRange(name as usize))
     }
@@ -78,10 +80,10 @@ fn add_named(job: StoredJob, name: u16, hazard: GivenHazard) -> Change
     if stands_at(job, at, name) {
         return unchanged(job, Refusal::Name(name as usize));
     }
-    let outcome = test_given(job, name, hazard);
+    let header = job.header;
+    let outcome = test_given(header, name, hazard);
     match outcome {
         Outcome::Done => {
-            let header = job.header;
             let new = under_name(header, name, hazard);
             Change {
                 outcome: Outcome::Done,
@@ -130,22 +132,22 @@ pub fn withdraw(job: StoredJob, name: u8) -> Change
     }
 }
 
-// The schedule of a side, written into the output; or the first refusal, and nothing written.
+// The schedule of a side, written into the output; or the first refusal, and nothing written. Memory that keeps the rules passes the test
+// of its hazards again.
 pub fn schedule(job: StoredJob, side: u64, out: &mut [u8]) -> Plan
     ensures { λ r. ⌜ planReply r ≡ bytesWritten (scheduleOf job side (length (now (out .entry)))) ⌝ }
     ensures { λ _. ⌜ now (out .exit) ≡ outputAfter (scheduleOf job side (length (now (out .entry)))) (now (out .entry)) ⌝ }
 {
-    let tested = open_envelopes(job, side);
-    let outcome = tested.outcome;
-    match outcome {
-        Outcome::Done => {
-            if 1 < side {
-                return Plan::Refused(Refusal::Argument);
-            }
-            let envelopes = tested.envelopes;
-            let header = job.header;
-            plan_envelopes(out, envelopes, header.continuity)
+    if is_open_job(job) {
+        if 1 < side {
+            return Plan::Refused(Refusal::Argument);
         }
-        Outcome::Refused(refusal) => Plan::Refused(refusal),
+        let tested = side_envelopes(job, side);
+        let envelopes = tested.envelopes;
+        let overhangs = tested.overhangs;
+        let header = job.header;
+        plan_envelopes(out, envelopes, overhangs, header.continuity)
+    } else {
+        Plan::Refused(Refusal::HeaderRange(0))
     }
 }

@@ -1,8 +1,8 @@
 -- The rules of an open job's memory as facts: what each test means.
 -- Assumes nothing.
-use Prim.Native.Nat.{ℕ, _+_, _-_, _≤_, _<_}
+use Prim.Native.Nat.{ℕ, _+_, _-_, _≤_}
 use native.Mathlib.Omega.{arith}
-use mathlib.Core.Path.{_≡_, refl, sym, ap, ap₂, subst, _∙_}
+use mathlib.Core.Path.{_≡_, refl, ap, ap₂, subst, _∙_}
 use mathlib.Core.Logic.{_⊎_, inl, inr}
 use mathlib.Core.Bool.{Bool, true, false, _&&_, false≢true}
 use mathlib.Core.List.{List, [], _∷_, map, List·Memᴰ, List·Memᴰ·cases-cons, List·Memᴰ·not-nil, Memᴰ·of-map}
@@ -12,15 +12,15 @@ use lib.Dec.{leb, eqb}
 use borrow.Author.Tests.{le-leb, leb-true, eqb-true}
 use Rattle.refusal.specs.Choice.{allOf}
 use Rattle.refusal.specs.Answer.{Answer, accepted, refused, _>>=_, unless-refuse, isAccepted}
-use Rattle.refusal.proofs.TestLaws.{and-left, and-right, and-intro}
+use Rattle.refusal.proofs.TestLaws.{and-left, and-right}
 use Rattle.job.specs.declared.Header.{Header}
 use Rattle.job.specs.declared.Hazard.{Hazard}
 use Rattle.job.specs.declared.NamedHazard.{NamedHazard}
 use Rattle.job.specs.declared.StoredJob.{StoredJob}
 use Rattle.job.specs.Job.{unnamed, jobOf}
 use Rattle.job.specs.Reply.{unused}
-use Rattle.job.proofs.JobLaws.{HeaderFits, HazardFits, JobFits}
-use Rattle.planning.specs.Envelope.{reached, reaches, farther, lengthening, reachOf, offsetOf, testHazard}
+use Rattle.job.proofs.JobLaws.{HeaderFits, HazardFits}
+use Rattle.planning.specs.Envelope.{reached, reaches, farther, standsNear, testHazard}
 use Rattle.planning.specs.Rows.{Passed}
 use Rattle.planning.proofs.EnvelopeLaws.{AcceptedFits, hazard-passed}
 use Rattle.planning.proofs.AcceptedLaws.{hazard-passes}
@@ -61,20 +61,16 @@ module _ (h : Header) (name : ℕ) (z : Hazard) where
 
   -- The hazard count has no part in it.
   pub admit-counted : (n : ℕ) → admit (counted h n) name z ≡ admit h name z
-  unfolding admit hazardInRange testHazard reached reaches farther lengthening reachOf offsetOf
+  unfolding admit hazardInRange testHazard standsNear reached reaches farther
   admit-counted n = refl
-
-  pub test-counted : (n : ℕ) → testHazard (counted h n) name z ≡ testHazard h name z
-  unfolding testHazard reached reaches farther lengthening reachOf offsetOf
-  test-counted n = refl
 
 module _ (h : Header) (n : ℕ) (z : Hazard) (a : Admitted h z) where
   pub counted-hazard : HazardFits (counted h n) z
   counted-hazard = let f = a .fits in record { side = f .side; begins = f .begins; long = f .long; ends = f .ends; offsets = f .offsets; far-top = f .far-top; level-low = f .level-low; level-top = f .level-top }
 
   pub counted-passed : Passed (counted h n) z
-  unfolding reached reaches farther lengthening reachOf offsetOf
-  counted-passed = let p = a .passed in record { clear = p .clear; begins = p .begins; ends = p .ends }
+  unfolding reached reaches farther
+  counted-passed = record { clear = a .passed .clear }
 
 -- The hazards that stand: names that are bytes and rise, and each could be added.
 abbrev pub Stand : Header → (low : ℕ) → List NamedHazard → Type 0

@@ -88,7 +88,7 @@ headerInRange h = inRanges (headerRanges (h .kind) (h .begin)) (headerNumbers h)
 unfoldable pub hazardInRange : Header → Hazard → Bool
 hazardInRange h z = inRanges (hazardRanges (h .begin) (h .end) (z .start) (z .near)) (hazardNumbers z)
 
--- "Add tests its hazard for 4, 5 and 6, index replaced by name."
+-- "Add tests its hazard for 4, 5 and 6, index replaced by name"; since request 8 "number 6 no longer occurs anywhere".
 unfoldable pub admit : Header → (name : ℕ) → Hazard → Answer (Unit {0})
 admit h name z = unless-refuse (hazardInRange h z) 4 name >>= λ _. testHazard h name z
 

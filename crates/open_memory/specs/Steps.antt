@@ -6,37 +6,26 @@ use mathlib.Core.Bool.{Bool, true, _&&_, _||_}
 use mathlib.Core.List.{List, [], _∷_, _++_}
 use lib.ListN.{take, drop, replicate}
 use lib.Dec.{leb, ltb, eqb}
-use Rattle.refusal.specs.Choice.{if_then_else_, allOf}
-use Rattle.refusal.specs.Answer.{Answer, accepted, _>>=_, unless-refuse}
+use Rattle.refusal.specs.Choice.{if_then_else_}
 use Rattle.job.specs.declared.Header.{Header}
 use Rattle.job.specs.declared.NamedHazard.{NamedHazard}
 use Rattle.job.specs.declared.StoredJob.{StoredJob}
-use Rattle.job.specs.Job.{unnamed, jobOf, lastRanges}
+use Rattle.job.specs.Job.{lastRanges}
 use Rattle.job.specs.Writing.{lastNumbers}
 use Rattle.job.specs.Reply.{unused}
-use Rattle.runs.specs.declared.Stretch.{Stretch}
-use Rattle.planning.specs.Envelope.{sideEnvelopes}
-use Rattle.open_memory.specs.Memory.{mostStanding, greatestName, standing, inRanges, headerInRange, hazardInRange, isUnused, isOpenJob}
+use Rattle.open_memory.specs.Memory.{mostStanding, greatestName, inRanges, admissible}
 
 -- The header's numbers after the thirteen that every kind has.
 unfoldable pub lastInRange : Header → Bool
 lastInRange h = inRanges (lastRanges (h .kind)) (lastNumbers h) && (eqb (h .kind) 2 || eqb (h .panel) 1)
 
--- A name that is a byte from `low` on, and a hazard in its ranges; and all of them, with rising names.
+-- A name that is a byte from `low` on, and a hazard that could be added; and all of them, with rising names.
 unfoldable pub inOrderFrom : Header → (low : ℕ) → NamedHazard → Bool
-inOrderFrom h low p = leb low (p .name) && leb (p .name) greatestName && hazardInRange h (unnamed p)
+inOrderFrom h low p = leb low (p .name) && leb (p .name) greatestName && admissible h p
 
 unfoldable pub allInOrder : Header → (low : ℕ) → List NamedHazard → Bool
 allInOrder h low [] = true
 allInOrder h low (p ∷ ps) = inOrderFrom h low p && allInOrder h (p .name + 1) ps
-
--- The memory's test but for 5 and 6.
-unfoldable pub inOrder : StoredJob → Bool
-inOrder m = headerInRange (m .header) && allInOrder (m .header) 0 (standing m) && allOf isUnused (drop (m .header .count) (m .hazards))
-
--- The memory's test, and then the envelopes of a side.
-unfoldable pub openEnvelopes : StoredJob → (side : ℕ) → Answer (List Stretch)
-openEnvelopes m side = unless-refuse (isOpenJob m) 3 0 >>= λ _. accepted (sideEnvelopes (jobOf m) side)
 
 -- Every place behind the hazards is 0.
 pub record Clear (m : StoredJob) : Type 0 where

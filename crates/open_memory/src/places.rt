@@ -7,7 +7,6 @@ ghost use mathlib.Core.Path.{_≡_};
 ghost use mathlib.Core.Bool.{true};
 ghost use mathlib.Core.List.{[]};
 ghost use Prim.Native.Nat.{_≤_, _<_};
-ghost use lib.ListN.{set};
 ghost use Rattle.job.specs.Job.{named};
 ghost use Rattle.open_memory.specs.Memory.{hazardGiven, standing, counted, laidOut, headerInRange, hazardInRange, isOpenJob, stands};
 ghost use Rattle.open_memory.specs.Steps.{Clear, rank, putAt, takenAt};
@@ -135,19 +134,6 @@ pub fn taken_out(job: StoredJob, at: usize) -> StoredJob
     hazards[last] = UNUSED;
     StoredJob {
         header: with_count(header, header.count - 1),
-        hazards,
-    }
-}
-
-// The header with a hazard alone.
-pub fn alone(job: StoredJob, new: NamedHazard) -> StoredJob
-    ensures { λ r. ⌜ r ≡ record { header = counted (job .header) 1; hazards = set (job .hazards) 0 new } ⌝ }
-{
-    let header = job.header;
-    let mut hazards = job.hazards;
-    hazards[0] = new;
-    StoredJob {
-        header: with_count(header, 1),
         hazards,
     }
 }

@@ -3,26 +3,18 @@ use super::GivenHazard;
 use job::Header;
 use job::NamedHazard;
 use job::StoredJob;
-use planning::accept::SideEnvelopes;
-use planning::accept::refused;
-use planning::accept::side_envelopes;
-use refusal::Outcome;
-use refusal::Refusal;
+use job::unnamed;
+use planning::near::stands_near;
 ghost use mathlib.Core.Path.{_≡_};
 ghost use mathlib.Core.Bool.{true};
-ghost use mathlib.Core.List.{[]};
 ghost use Prim.Native.Nat.{_≤_};
 ghost use lib.ListN.{drop};
 ghost use Rattle.refusal.specs.Choice.{allOf};
-ghost use Rattle.refusal.specs.Stored.{acceptedOr};
-ghost use Rattle.job.specs.Job.{unnamed, sharedRanges};
+ghost use Rattle.job.specs.Job.{sharedRanges};
+ghost use Rattle.job.specs.Job as job;
 ghost use Rattle.job.specs.Writing.{sharedNumbers};
-ghost use Rattle.planning.specs.Reply.{storedEnvelopes, sideAnswer};
 ghost use Rattle.open_memory.specs.Memory.{hazardGiven, standing, inRanges, headerInRange, hazardInRange, isUnused, isOpenJob};
-ghost use Rattle.open_memory.specs.Steps.{lastInRange, inOrderFrom, allInOrder, inOrder, openEnvelopes};
-
-// No hazard stands on this side: they are tested, and no envelope is kept.
-pub const NO_SIDE: u64 = 2;
+ghost use Rattle.open_memory.specs.Steps.{lastInRange, inOrderFrom, allInOrder};
 
 // Each of the thirteen header numbers that every kind has lies in its range, in the table's order.
 fn shared_in_range(h: Header) -> bool
@@ -92,7 +84,7 @@ pub fn hazard_in_range(h: Header, z: GivenHazard) -> bool
 
 // A hazard that stands, as it was given.
 fn given(p: NamedHazard) -> GivenHazard
-    ensures { λ r. ⌜ hazardGiven r ≡ unnamed p ⌝ }
+    ensures { λ r. ⌜ hazardGiven r ≡ job.unnamed p ⌝ }
 {
     GivenHazard {
         side: p.side as u64,
@@ -104,16 +96,20 @@ fn given(p: NamedHazard) -> GivenHazard
     }
 }
 
-// A name that is a byte from low on, and a hazard in its ranges.
+// A name that is a byte from low on, and a hazard that could be added under it.
 fn in_order_from(h: Header, low: u32, p: NamedHazard) -> bool
     requires { ⌜ headerInRange h ≡ true ⌝ }
     ensures { λ r. ⌜ r ≡ inOrderFrom h low p ⌝ }
 {
     let name = p.name as u32;
-    (low <= name) & (name <= 255) & hazard_in_range(h, given(p))
+    if hazard_in_range(h, given(p)) {
+        (low <= name) & (name <= 255) & !stands_near(h, unnamed(p))
+    } else {
+        false
+    }
 }
 
-// The names rise, and the hazards lie in their ranges.
+// The names rise, and the hazards could be added.
 fn all_in_order(job: StoredJob) -> bool
     requires { ⌜ headerInRange (job .header) ≡ true ⌝ }
     ensures { λ r. ⌜ r ≡ allInOrder (job .header) 0 (standing job) ⌝ }
@@ -163,8 +159,9 @@ fn rest_unused(job: StoredJob) -> bool
     true
 }
 
-fn in_order(job: StoredJob) -> bool
-    ensures { λ r. ⌜ r ≡ inOrder job ⌝ }
+// The memory's test: the header, the names and hazards, and zeros behind them.
+pub fn is_open_job(job: StoredJob) -> bool
+    ensures { λ r. ⌜ r ≡ isOpenJob job ⌝ }
 {
     let header = job.header;
     if header_in_range(header) {
@@ -172,38 +169,6 @@ fn in_order(job: StoredJob) -> bool
             rest_unused(job)
         } else {
             false
-        }
-    } else {
-        false
-    }
-}
-
-// The memory's test, and the envelopes of a side from the pass over the hazards that tests them for 5 and 6.
-pub fn open_envelopes(job: StoredJob, side: u64) -> SideEnvelopes
-    ensures { λ r. ⌜ sideAnswer r ≡ openEnvelopes job side ⌝ }
-    ensures { λ r. ⌜ r .envelopes ≡ storedEnvelopes (acceptedOr [] (openEnvelopes job side)) ⌝ }
-{
-    if in_order(job) {
-        let tested = side_envelopes(job, 0, side);
-        let outcome = tested.outcome;
-        match outcome {
-            Outcome::Done => tested,
-            Outcome::Refused(_) => refused(Refusal::HeaderRange(0)),
-        }
-    } else {
-        refused(Refusal::HeaderRange(0))
-    }
-}
-
-pub fn is_open_job(job: StoredJob) -> bool
-    ensures { λ r. ⌜ r ≡ isOpenJob job ⌝ }
-{
-    if in_order(job) {
-        let tested = side_envelopes(job, 0, NO_SIDE);
-        let outcome = tested.outcome;
-        match outcome {
-            Outcome::Done => true,
-            Outcome::Refused(_) => false,
         }
     } else {
         false

@@ -18,14 +18,13 @@ use Rattle.job.specs.declared.Hazard.{Hazard}
 use Rattle.job.specs.declared.NamedHazard.{NamedHazard}
 use Rattle.job.specs.declared.StoredJob.{StoredJob}
 use Rattle.job.specs.Job.{Job, named, unnamed, readJob, readRest}
-use Rattle.job.specs.Writing.{writeJob}
-use Rattle.job.specs.Reply.{HeaderReading, headerAt}
+use Rattle.job.specs.Reply.{headerAt}
 use Rattle.job.proofs.JobLaws.{HeaderFits}
 use Rattle.job.proofs.RestLaws.{job-step}
 use Rattle.job.proofs.OpeningLaws.{job-header, header-done, opening-empty}
 use Rattle.planning.specs.Envelope.{testHazards, acceptJob}
 use Rattle.planning.proofs.EnvelopeLaws.{accepted-fits}
-use Rattle.schedule.specs.Plan.{plan}
+use Rattle.planning.proofs.AcceptedLaws.{fitting-accepted}
 use Rattle.open_memory.specs.Memory.{standing, counted, laidOut, madeFrom, stands, inserted, without, admit, isOpenJob}
 use Rattle.open_memory.proofs.RuleLaws.{Admitted, Stand, stand-each, open-header, open-standing}
 use Rattle.open_memory.proofs.PlaceLaws.{without-stand}
@@ -36,8 +35,8 @@ use Rattle.kept_states.specs.declared.KeptState.{KeptState}
 use Rattle.kept_states.specs.declared.OpenStates.{OpenStates}
 use Rattle.kept_states.specs.States.{mostKept, greatestStateNumber, nothingKept, keptFrom, stateOf, isUsed, keptSound, keptStates, keptUnder, statesFrom, areOpenStates, openStates, addIn, withdrawIn, scheduleIn, keepIn, returnIn}
 use Rattle.kept_states.proofs.StateLaws.{kept-under, none-above, states-sound, now-open, each-sound}
-use Rattle.open_promises.specs.Lists.{add, withdraw, Call, edit, schedule, keepAs, returnTo, Kept, nothing, state, States, isKept, opened, statesAfterAll, hazardsAfter, addedSince, afterCall, afterCalls, CallsFrom, SchedulePromise, Holds, HoldsKept, Standing, StandingPromise, AgainPromise, ReturnPromise, UntouchedPromise, KeepPromise}
-use Rattle.open_promises.proofs.SameLaws.{same-plans}
+use Rattle.open_promises.specs.Lists.{add, withdraw, Call, edit, schedule, keepAs, returnTo, Kept, nothing, state, States, isKept, opened, statesAfterAll, hazardsAfter, addedSince, afterCall, afterCalls, CallsFrom, AnswersAs, SchedulePromise, Holds, HoldsKept, Standing, StandingPromise, AgainPromise, ReturnPromise, UntouchedPromise, KeepPromise}
+use Rattle.open_promises.proofs.SameLaws.{made-fits, same-plans}
 use Rattle.open_promises.proofs.ModelLaws.{returned}
 use Rattle.open_promises.proofs.StandingLaws.{Agree, stands-same, without-stands, placedAfter}
 use Rattle.open_promises.proofs.MemoryLaws.{AgreeKept, laidKept, agree-stand, kept-used, not-used, laid-states, Follows, follows-all, follows-opened}
@@ -176,20 +175,28 @@ module _ (s : List ℕ) (j : Job) (calls : List Call) (m : OpenStates) (from : C
     next-return = λ number. return-replied m good number ∙ ap (λ (b : Bool). unless-refuse b 13 0 >>= λ _. accepted 0) (kept-told number);
   }
 
-  scheduled : (zs : List Hazard) → length zs ≤ 256 → ((z : Hazard) → List·Memᴰ z zs ↔ List·Memᴰ z (map unnamed (addedSince (j .header) calls))) → (side room : ℕ) → scheduleIn m side room ≡ plan (writeJob (madeFrom (j .header) zs)) side room
-  scheduled zs most each side room =
-      let now = done .agree .now in
-      schedule-now m good side room ∙ ap (λ (a : StoredJob). scheduleOf a side room) (done .laid .now) ∙ schedule-laid (j .header) (placed .now) fits (now .rules) side room
-      ∙ same-plans (j .header) fits (map unnamed (placed .now)) zs (rw (length-map (placed .now) unnamed) (laid-few (j .header) (placed .now) fits (now .rules))) most may (λ z k. each z .1 (across z (λ p. now .same p .0) k)) (λ z k. across z (λ p. now .same p .1) (each z .0 k)) side room
+  answers : (zs : List Hazard) → length zs ≤ 256 → ((z : Hazard) → List·Memᴰ z zs ↔ List·Memᴰ z (map unnamed (addedSince (j .header) calls))) → AnswersAs m (madeFrom (j .header) zs)
+  answers zs most each = record {
+    is-accepted = fitting-accepted (madeFrom (j .header) zs) (made-fits (j .header) zs fits most (λ z k. may z (back z k)));
+    schedule = λ side room.
+        schedule-now m good side room ∙ ap (λ (a : StoredJob). scheduleOf a side room) (done .laid .now) ∙ schedule-laid (j .header) (placed .now) fits (standing-now .rules) side room
+        ∙ same-plans (j .header) fits (map unnamed (placed .now)) zs (rw (length-map (placed .now) unnamed) (laid-few (j .header) (placed .now) fits (standing-now .rules))) most may (λ z k. each z .1 (across z (λ p. standing-now .same p .0) k)) back side room;
+  }
     where
+      standing-now : Agree (j .header) (placed .now) (hazardsAfter (j .header) calls .now)
+      standing-now = done .agree .now
+
       across : (z : Hazard) {ps qs : List NamedHazard} → ((p : NamedHazard) → List·Memᴰ p ps → List·Memᴰ p qs) → List·Memᴰ z (map unnamed ps) → List·Memᴰ z (map unnamed qs)
       across z {ps} {qs} f k = let w = Memᴰ·of-map unnamed ps k in subst (λ (y : Hazard). List·Memᴰ y (map unnamed qs)) (w .2) (Memᴰ·map unnamed (f (w .0) (w .1)))
 
       may : (z : Hazard) → List·Memᴰ z (map unnamed (placed .now)) → Admitted (j .header) z
-      may z k = let w = Memᴰ·of-map unnamed (placed .now) k in subst (Admitted (j .header)) (w .2) (stand-each (j .header) 0 (placed .now) (done .agree .now .rules) (w .1))
+      may z k = let w = Memᴰ·of-map unnamed (placed .now) k in subst (Admitted (j .header)) (w .2) (stand-each (j .header) 0 (placed .now) (standing-now .rules) (w .1))
+
+      back : (z : Hazard) → List·Memᴰ z zs → List·Memᴰ z (map unnamed (placed .now))
+      back z k = across z (λ p. standing-now .same p .1) (each z .0 k)
 
 pub schedule-promise : SchedulePromise
-schedule-promise s j calls m from zs most each side room = scheduled s j calls m from zs most each side room
+schedule-promise s j calls m from zs most each = answers s j calls m from zs most each
 
 pub standing-promise : StandingPromise
 standing-promise s j calls m from = stood s j calls m from

@@ -151,13 +151,18 @@ pub record CallsFrom (s : List ℕ) (j : Job) (calls : List Call) (m : OpenState
   pub before : OpenStates
   pub memory : m ≡ afterCalls (memoryAfter (openStates s) before) calls
 
--- "The schedule equals that of a job made from the hazards added and not withdrawn since": the whole reply, whatever the hazards' order.
+-- The memory answers as a job: the job is accepted, and the schedule call's whole reply, the overhangs too, is plan's for it.
+pub record AnswersAs (m : OpenStates) (j : Job) : Type 0 where
+  pub is-accepted : acceptJob (writeJob j) ≡ accepted j
+  pub schedule : (side room : ℕ) → scheduleIn m side room ≡ plan (writeJob j) side room
+
+-- "The schedule equals that of a job made from the hazards added and not withdrawn since", whatever the hazards' order.
 -- "The promise for lists of calls now includes keep and return."
 abbrev pub SchedulePromise : Type 0
 SchedulePromise =
     (s : List ℕ) (j : Job) (calls : List Call) (m : OpenStates) → CallsFrom s j calls m
     → (zs : List Hazard) → length zs ≤ mostStanding → ((z : Hazard) → List·Memᴰ z zs ↔ List·Memᴰ z (map unnamed (addedSince (j .header) calls)))
-    → (side room : ℕ) → scheduleIn m side room ≡ plan (writeJob (madeFrom (j .header) zs)) side room
+    → AnswersAs m (madeFrom (j .header) zs)
 
 -- Those hazards stand in the state a.
 pub record Holds (h : Header) (past : List NamedHazard) (a : StoredJob) : Type 0 where

@@ -1,16 +1,15 @@
--- The hazards of a job tested in order: one turn, and how the envelopes of a side grow.
+-- The hazards of a job tested in order: one turn, and how the envelopes of a side and their overhangs grow.
 -- Assumes nothing.
 use Prim.Native.Nat.{ℕ, zero, suc, _+_, _-_, _≤_, _<_}
 use native.Mathlib.Omega.{arith}
 use native.Mathlib.Numerals.{add-one}
-use native.Mathlib.Nat.{add-zero, le-of-suc-le-suc, not-suc-le-zero}
+use native.Mathlib.Nat.{le-of-suc-le-suc, not-suc-le-zero}
 use mathlib.Core.Path.{_≡_, refl, sym, ap, _∙_}
 use mathlib.Core.Bool.{Bool, true, false, _&&_}
-use mathlib.Core.List.{List, [], _∷_, _++_, append-assoc, append-nil, List·Memᴰ, List·Memᴰ·head, List·Memᴰ·tail}
+use mathlib.Core.List.{List, [], _∷_, _++_, map, append-assoc, append-nil, List·Memᴰ, List·Memᴰ·head, List·Memᴰ·tail}
 use lib.ListN.{length, getD, set, take, drop, replicate, length-append, length-set, drop-of-length-le, List·getD-map}
 use lib.Seq.{drop-cons, getD-take, take-append-seam}
 use lib.Dec.{eqb}
-use borrow.Author.Tests.{eq-eqb, ne-eqb}
 use Rattle.refusal.specs.Choice.{if_then_else_}
 use Rattle.refusal.specs.Answer.{Answer, accepted, refused, _>>=_}
 use Rattle.refusal.specs.Refusal.{refusal}
@@ -26,40 +25,54 @@ use Rattle.job.specs.Job.{unnamed, jobOf}
 use Rattle.job.proofs.JobLaws.{HazardFits, JobFits}
 use Rattle.runs.specs.declared.Stretch.{Stretch}
 use Rattle.runs.specs.declared.Envelopes.{Envelopes}
+use Rattle.planning.specs.declared.Overhangs.{Overhangs}
 use Rattle.planning.specs.declared.accept.SideEnvelopes.{SideEnvelopes}
-use Rattle.planning.specs.Envelope.{reached, envelope, envelopes, testHazard, testHazards}
-use Rattle.planning.specs.Reply.{ownEnvelopes, testedHazard, testedEnvelopes, sideFrom, noStretch, storedEnvelopes, sideAnswer}
+use Rattle.planning.specs.Envelope.{reached, envelope, envelopes, cutToRoad, overhang, noOverhang, greater, overhangs, testHazard, testHazards}
+use Rattle.planning.specs.Reply.{Cuts, noCuts, cutsOf, _followedBy_, testedHazard, testedEnvelopes, sideFrom, noStretch, storedEnvelopes, storedCuts, sideAnswer}
+use Rattle.planning.proofs.OverhangLaws.{greater-assoc, greater-none, none-greater}
 
 -- The turn
 
--- What a hazard adds to the envelopes of a side.
-taken-more : (h : Header) (side : ℕ) (taken : List Stretch) (z : Hazard) (left : List Hazard)
-    → taken ++ envelopes h side (z ∷ left) ≡ (taken ++ (if eqb (z .side) side then ownEnvelopes h z else [])) ++ envelopes h side left
-unfolding envelopes ownEnvelopes
-taken-more h side taken z left = go (eqb (z .side) side) (reached h z)
+then-assoc : (a b c : Cuts) → (a followedBy (b followedBy c)) ≡ ((a followedBy b) followedBy c)
+then-assoc a b c = λ i. record { envelopes = sym (append-assoc (a .envelopes) (b .envelopes) (c .envelopes)) i; overhangs = greater-assoc (a .overhangs) (b .overhangs) (c .overhangs) i }
+
+then-none : (a : Cuts) → (a followedBy noCuts) ≡ a
+then-none a = λ i. record { envelopes = append-nil (a .envelopes) i; overhangs = greater-none (a .overhangs) i }
+
+none-then : (a : Cuts) → (noCuts followedBy a) ≡ a
+none-then a = λ i. record { envelopes = a .envelopes; overhangs = none-greater (a .overhangs) i }
+
+-- What a hazard gives to a side, before what the others give.
+own-first : (h : Header) (side : ℕ) (z : Hazard) (left : List Hazard) → cutsOf h side (z ∷ left) ≡ (cutsOf h side (z ∷ []) followedBy cutsOf h side left)
+unfolding envelopes overhangs
+own-first h side z left = go (eqb (z .side) side && reached h z)
   where
-    go : (on r : Bool) → taken ++ (if on && r then envelope h z ∷ envelopes h side left else envelopes h side left) ≡ (taken ++ (if on then (if r then envelope h z ∷ [] else []) else [])) ++ envelopes h side left
-    go true true = sym (append-assoc taken (envelope h z ∷ []) (envelopes h side left))
-    go true false = ap (λ (l : List Stretch). l ++ envelopes h side left) (sym (append-nil taken))
-    go false r = ap (λ (l : List Stretch). l ++ envelopes h side left) (sym (append-nil taken))
+    of : Bool → List Stretch → Overhangs → Cuts
+    of b es o = record { envelopes = map (cutToRoad h) (if b then envelope h z ∷ es else es); overhangs = if b then greater (overhang h z) o else o }
+
+    go : (b : Bool) → of b (envelopes h side left) (overhangs h side left) ≡ (of b [] noOverhang followedBy cutsOf h side left)
+    go true = λ i. record { envelopes = cutToRoad h (envelope h z) ∷ map (cutToRoad h) (envelopes h side left); overhangs = greater (sym (greater-none (overhang h z)) i) (overhangs h side left) }
+    go false = sym (none-then (cutsOf h side left))
 
 -- A hazard before others.
-turn : (h : Header) (side i : ℕ) (taken : List Stretch) (z : Hazard) (left : List Hazard)
-    → sideFrom h side i taken (z ∷ left) ≡ (testedHazard h i z >>= λ own. sideFrom h side (i + 1) (taken ++ (if eqb (z .side) side then own else [])) left)
+turn : (h : Header) (side i : ℕ) (taken : Cuts) (z : Hazard) (left : List Hazard)
+    → sideFrom h side i taken (z ∷ left) ≡ (testedHazard h side i z >>= λ own. sideFrom h side (i + 1) (taken followedBy own) left)
 unfolding testHazards testedHazard sideFrom
 turn h side i taken z left = go (testHazard h i z)
   where
-    go : (test : Answer (Unit {0})) → ((test >>= λ _. testHazards h (i + 1) left) >>= λ _. accepted (taken ++ envelopes h side (z ∷ left))) ≡ ((test >>= λ _. accepted (ownEnvelopes h z)) >>= λ own. testHazards h (i + 1) left >>= λ _. accepted ((taken ++ (if eqb (z .side) side then own else [])) ++ envelopes h side left))
-    go (accepted u) = rw (taken-more h side taken z left)
+    more : (taken followedBy cutsOf h side (z ∷ left)) ≡ ((taken followedBy cutsOf h side (z ∷ [])) followedBy cutsOf h side left)
+    more = ap (λ (c : Cuts). taken followedBy c) (own-first h side z left) ∙ then-assoc taken (cutsOf h side (z ∷ [])) (cutsOf h side left)
+
+    go : (test : Answer (Unit {0})) → ((test >>= λ _. testHazards h (i + 1) left) >>= λ _. accepted (taken followedBy cutsOf h side (z ∷ left))) ≡ ((test >>= λ _. accepted (cutsOf h side (z ∷ []))) >>= λ own. testHazards h (i + 1) left >>= λ _. accepted ((taken followedBy own) followedBy cutsOf h side left))
+    go (accepted u) = ap (λ (c : Cuts). testHazards h (i + 1) left >>= λ _. accepted c) more
     go (refused k v) = refl
 
--- The hazard with an index in a list whose first has the index `first`.
-side-turn : (h : Header) (side first i : ℕ) (taken : List Stretch) (zs : List Hazard) (d : Hazard) → i < length zs
-    → sideFrom h side (first + i) taken (drop i zs)
-    ≡ (testedHazard h (first + i) (getD zs i d) >>= λ own. sideFrom h side (first + i + 1) (taken ++ (if eqb (getD zs i d .side) side then own else [])) (drop (i + 1) zs))
-side-turn h side first i taken zs d l =
-    ap (sideFrom h side (first + i) taken) (drop-cons zs i d l ∙ ap (λ (n : ℕ). getD zs i d ∷ drop n zs) (sym (add-one i)))
-    ∙ turn h side (first + i) taken (getD zs i d) (drop (i + 1) zs)
+-- The hazard with an index.
+side-turn : (h : Header) (side i : ℕ) (taken : Cuts) (zs : List Hazard) (d : Hazard) → i < length zs
+    → sideFrom h side i taken (drop i zs) ≡ (testedHazard h side i (getD zs i d) >>= λ own. sideFrom h side (i + 1) (taken followedBy own) (drop (i + 1) zs))
+side-turn h side i taken zs d l =
+    ap (sideFrom h side i taken) (drop-cons zs i d l ∙ ap (λ (n : ℕ). getD zs i d ∷ drop n zs) (sym (add-one i)))
+    ∙ turn h side i taken (getD zs i d) (drop (i + 1) zs)
 
 -- The loop
 
@@ -69,22 +82,22 @@ getD-member (x ∷ xs) zero d h = List·Memᴰ·head refl
 getD-member (x ∷ xs) (suc i) d h = List·Memᴰ·tail (getD-member xs i d (le-of-suc-le-suc h))
 
 -- A reply says the answer by its outcome, and by what stands beside it.
-abbrev pub Replies : SideEnvelopes → Answer (List Stretch) → Type 0
-Replies r answer = (sideAnswer r ≡ answer) × (r .envelopes ≡ storedEnvelopes (acceptedOr [] answer))
+abbrev pub Replies : SideEnvelopes → Answer Cuts → Type 0
+Replies r answer = (sideAnswer r ≡ answer) × (r ≡ storedCuts (r .outcome) (acceptedOr noCuts answer))
 
-pub replies-refused : {r : SideEnvelopes} (x : Refusal) {answer : Answer (List Stretch)} → r ≡ record { outcome = Refused x; envelopes = storedEnvelopes [] } → refusal x ≡ answer → Replies r answer
+pub replies-refused : {r : SideEnvelopes} (x : Refusal) {answer : Answer Cuts} → r ≡ storedCuts (Refused x) noCuts → refusal x ≡ answer → Replies r answer
 replies-refused x p e = rw (p, sym e) (refl, refl)
 
--- Behind the hazards before an index: the envelopes taken are stored, and what is left to do gives the answer.
-pub record SoFar (job : StoredJob) (first side : ℕ) (envelopes : Envelopes) (index : ℕ) : Type 0 where
+-- Behind the hazards before an index: the envelopes taken are stored, with their greatest overhangs, and what is left to do gives the answer.
+pub record SoFar (job : StoredJob) (side : ℕ) (envelopes : Envelopes) (overhangs : Overhangs) (index : ℕ) : Type 0 where
   pub within : index ≤ job .header .count
   pub few : envelopes .count ≤ index
   pub room : length (envelopes .stretches) ≡ 256
   pub taken : List Stretch
   pub whole : envelopes ≡ storedEnvelopes taken
-  pub rest : sideFrom (job .header) side (first + index) taken (drop index (jobOf job .hazards)) ≡ testedEnvelopes (jobOf job) first side
+  pub rest : sideFrom (job .header) side index (record { envelopes = taken; overhangs = overhangs }) (drop index (jobOf job .hazards)) ≡ testedEnvelopes (jobOf job) side
 
-module _ (job : StoredJob) (first side : ℕ) (fits : JobFits (jobOf job)) where
+module _ (job : StoredJob) (side : ℕ) (fits : JobFits (jobOf job)) where
   -- The hazard with an index, as it is stored.
   module _ (i : ℕ) (d : NamedHazard) (l : i < job .header .count) where
     inside : i < length (jobOf job .hazards)
@@ -96,21 +109,30 @@ module _ (job : StoredJob) (first side : ℕ) (fits : JobFits (jobOf job)) where
     pub element-fits : HazardFits (job .header) (unnamed (getD (job .hazards) i d))
     element-fits = rw stored at (fits .hazards .each (getD (jobOf job .hazards) i (unnamed d)) (getD-member (jobOf job .hazards) i (unnamed d) inside))
 
-  pub none-yet : {envelopes : Envelopes} → envelopes ≡ storedEnvelopes [] → SoFar job first side envelopes 0
+  pub none-yet : {envelopes : Envelopes} → envelopes ≡ storedEnvelopes [] → SoFar job side envelopes noOverhang 0
   unfolding sideFrom testedEnvelopes
-  none-yet e = record { within = omega arith; few = rw e (omega arith); room = rw e refl; taken = []; whole = e; rest = rw (add-zero first) }
+  none-yet e = record {
+    within = omega arith;
+    few = rw e (omega arith);
+    room = rw e refl;
+    taken = [];
+    whole = e;
+    rest = ap (λ (c : Cuts). testHazards (job .header) 0 (jobOf job .hazards) >>= λ _. accepted c) (none-then (cutsOf (job .header) side (jobOf job .hazards)));
+  }
 
   -- The hazard with an index, which is `z`, was tested.
-  module _ {envelopes : Envelopes} {i : ℕ} (d : NamedHazard) (so : SoFar job first side envelopes i) (l : i < job .header .count) (z : Hazard) (own : z ≡ unnamed (getD (job .hazards) i d)) where
-    next : (testedHazard (job .header) (first + i) z >>= λ es. sideFrom (job .header) side (first + (i + 1)) (so .taken ++ (if eqb (z .side) side then es else [])) (drop (i + 1) (jobOf job .hazards))) ≡ testedEnvelopes (jobOf job) first side
+  module _ {envelopes : Envelopes} {overhangs : Overhangs} {i : ℕ} (d : NamedHazard) (so : SoFar job side envelopes overhangs i) (l : i < job .header .count) (z : Hazard) (own : z ≡ unnamed (getD (job .hazards) i d)) where
+    abbrev soFar : Cuts
+    soFar = record { envelopes = so .taken; overhangs = overhangs }
+
+    next : (testedHazard (job .header) side i z >>= λ c. sideFrom (job .header) side (i + 1) (soFar followedBy c) (drop (i + 1) (jobOf job .hazards))) ≡ testedEnvelopes (jobOf job) side
     next =
         let here : getD (jobOf job .hazards) i (unnamed d) ≡ z = stored i d l ∙ sym own in
-        let index : first + i + 1 ≡ first + (i + 1) = omega arith in
-        rw (here, index) at (sym (side-turn (job .header) side first i (so .taken) (jobOf job .hazards) (unnamed d) (inside i d l)) ∙ so .rest)
+        rw here at (sym (side-turn (job .header) side i soFar (jobOf job .hazards) (unnamed d) (inside i d l)) ∙ so .rest)
 
-    pub hazard-taken : (e : Stretch) → accepted (e ∷ []) ≡ testedHazard (job .header) (first + i) z → z .side ≡ side
-        → SoFar job first side (record { count = envelopes .count + 1; stretches = set (envelopes .stretches) (envelopes .count) e }) (i + 1)
-    hazard-taken e p on =
+    pub hazard-taken : (e : Stretch) (o new : Overhangs) → accepted (record { envelopes = e ∷ []; overhangs = o }) ≡ testedHazard (job .header) side i z → new ≡ greater overhangs o
+        → SoFar job side (record { count = envelopes .count + 1; stretches = set (envelopes .stretches) (envelopes .count) e }) new (i + 1)
+    hazard-taken e o new p q =
         let number : length (so .taken) ≡ envelopes .count = sym (ap (λ (es : Envelopes). es .count) (so .whole)) in
         record {
           within = omega arith;
@@ -118,37 +140,29 @@ module _ (job : StoredJob) (first side : ℕ) (fits : JobFits (jobOf job)) where
           room = rw length-set (so .room);
           taken = so .taken ++ e ∷ [];
           whole = rw (so .whole) (cc (length-append (so .taken) (e ∷ []), padded-more 256 noStretch (so .taken) e (omega (arith, so .few, fits .header .count))));
-          rest = rw (sym p, eq-eqb _ _ on) at next;
+          rest = rw q (rw (sym p) at next);
         }
 
-    left-out : (es : List Stretch) → accepted es ≡ testedHazard (job .header) (first + i) z → (if eqb (z .side) side then es else []) ≡ [] → SoFar job first side envelopes (i + 1)
-    left-out es p none =
+    pub hazard-left-out : accepted noCuts ≡ testedHazard (job .header) side i z → SoFar job side envelopes overhangs (i + 1)
+    hazard-left-out p =
         record {
           within = omega arith;
           few = omega (arith, so .few);
           room = so .room;
           taken = so .taken;
           whole = so .whole;
-          rest = rw (sym p, none, append-nil (so .taken)) at next;
+          rest = rw (sym p, then-none soFar) at next;
         }
 
-    pub hazard-other : (es : List Stretch) → accepted es ≡ testedHazard (job .header) (first + i) z → (z .side ≡ side → ⊥) → SoFar job first side envelopes (i + 1)
-    hazard-other es p off = left-out es p (rw (ne-eqb _ _ off))
-
-    pub hazard-unreached : accepted [] ≡ testedHazard (job .header) (first + i) z → SoFar job first side envelopes (i + 1)
-    hazard-unreached p = left-out [] p (either (eqb (z .side) side))
-      where
-        either : (on : Bool) → _≡_ {A = List Stretch} (if on then [] else []) []
-        either true = refl
-        either false = refl
-
-    pub hazard-refused : (x : Refusal) → refusal x ≡ testedHazard (job .header) (first + i) z → refusal x ≡ testedEnvelopes (jobOf job) first side
+    pub hazard-refused : (x : Refusal) → refusal x ≡ testedHazard (job .header) side i z → refusal x ≡ testedEnvelopes (jobOf job) side
     hazard-refused x p = rw (sym p) at next
 
-  pub all-done : {es : Envelopes} {i : ℕ} → SoFar job first side es i → job .header .count ≤ i → Replies (record { outcome = Done; envelopes = es }) (testedEnvelopes (jobOf job) first side)
-  unfolding sideFrom testHazards envelopes
-  all-done {es} {i} so end =
+  pub all-done : {es : Envelopes} {overhangs : Overhangs} {i : ℕ} → SoFar job side es overhangs i → job .header .count ≤ i
+      → Replies (record { outcome = Done; envelopes = es; overhangs = overhangs }) (testedEnvelopes (jobOf job) side)
+  unfolding sideFrom testHazards envelopes overhangs
+  all-done {es} {overhangs} {i} so end =
+      let c : Cuts = record { envelopes = so .taken; overhangs = overhangs } in
       let none : drop i (jobOf job .hazards) ≡ [] = drop-of-length-le (jobOf job .hazards) {i = i} (omega (arith, fits .hazards .count)) in
-      let answer : accepted (so .taken) ≡ testedEnvelopes (jobOf job) first side = rw (none, append-nil (so .taken)) at (so .rest) in
+      let answer : accepted c ≡ testedEnvelopes (jobOf job) side = rw (none, then-none c) at (so .rest) in
       let own = take-append-seam (so .taken) (replicate (256 - length (so .taken)) noStretch) in
-      rw (sym answer, so .whole) (ap accepted own, refl)
+      rw (sym answer, so .whole) (ap (λ (l : List Stretch). accepted (record { envelopes = l; overhangs = overhangs })) own, refl)

@@ -1,10 +1,10 @@
--- The accepted jobs, exactly: the writings of the jobs that fit and whose hazards pass 5 and 6. Nothing else is accepted, and none of these is refused.
+-- The accepted jobs, exactly: the writings of the jobs that fit and whose hazards pass 5. Nothing else is accepted, and none of these is refused.
 -- Assumes nothing.
 use Prim.Native.Nat.{ℕ, _+_}
 use native.Mathlib.Omega.{arith}
 use mathlib.Core.Path.{_≡_, refl, ap, _∙_}
 use mathlib.Core.Logic.{_↔_}
-use mathlib.Core.Bool.{Bool, true, false, _&&_, _||_, not}
+use mathlib.Core.Bool.{Bool, true, false, _&&_, not}
 use mathlib.Core.List.{List, [], _∷_, _++_, append-nil, List·Memᴰ, List·Memᴰ·head, List·Memᴰ·tail}
 use lib.ListN.{length}
 use lib.Dec.{ltb}
@@ -16,25 +16,20 @@ use Rattle.job.specs.declared.Hazard.{Hazard}
 use Rattle.job.specs.Job.{Job, readJob}
 use Rattle.job.specs.Writing.{writeJob}
 use Rattle.job.proofs.WritingLaws.{Bytes, job-written, job-is-written}
-use Rattle.planning.specs.Envelope.{forward, opposite, reached, lengthening, testHazard, testHazards, acceptJob}
+use Rattle.planning.specs.Envelope.{reached, standsNear, testHazard, testHazards, acceptJob}
 use Rattle.planning.specs.Rows.{Passed}
 use Rattle.planning.proofs.EnvelopeLaws.{AcceptedFits, accepted-fits}
 
--- Where a reached hazard fails no test, neither 5 nor 6 is returned.
+-- Where a reached hazard does not fail the test, 5 is not returned.
 not-failed : (r t : Bool) → (r ≡ true → t ≡ false) → not (r && t) ≡ true
 not-failed true t h = rw (h refl)
 not-failed false t h = refl
 
-neither : {a b : Bool} → a ≡ false → b ≡ false → (a || b) ≡ false
-neither {a} {b} p q = rw (p, q)
-
 pub hazard-passes : (h : Header) (i : ℕ) (z : Hazard) → Passed h z → testHazard h i z ≡ accepted tt
-unfolding testHazard
+unfolding testHazard standsNear
 hazard-passes h i z p =
     let five : not (reached h z && ltb (z .near) (h .offset + h .deflection)) ≡ true = not-failed (reached h z) _ (λ r. le-ltb _ _ (p .clear r)) in
-    let six : not (reached h z && (ltb (z .start) (h .begin + lengthening h z forward) || ltb (h .end) (z .end + lengthening h z opposite))) ≡ true
-    = not-failed (reached h z) _ (λ r. neither (le-ltb _ _ (p .begins r)) (le-ltb _ _ (p .ends r))) in
-    rw (five, six)
+    rw five
 
 -- The tests go on behind hazards that pass.
 pub hazards-pass : (h : Header) (i : ℕ) (zs rest : List Hazard) → ((z : Hazard) → List·Memᴰ z zs → Passed h z) → testHazards h i (zs ++ rest) ≡ testHazards h (i + length zs) rest
@@ -44,7 +39,7 @@ hazards-pass h i (z ∷ zs) rest p =
     rw (hazard-passes h i z (p z (List·Memᴰ·head refl)))
     (hazards-pass h (i + 1) zs rest (λ y m. p y (List·Memᴰ·tail m)) ∙ ap (λ (k : ℕ). testHazards h k rest) (omega arith))
 
--- A job that fits, its hazards passing 5 and 6, is accepted from its writing.
+-- A job that fits, its hazards passing 5, is accepted from its writing.
 pub fitting-accepted : (j : Job) → AcceptedFits j → acceptJob (writeJob j) ≡ accepted j
 unfolding acceptJob testHazards
 fitting-accepted j f = rw (job-written j (f .fits), ← append-nil (j .hazards), hazards-pass (j .header) 0 (j .hazards) [] (f .passed))
@@ -58,7 +53,7 @@ accepted-is-written s j b e =
     let same : b1 .first ≡ j = cc in
     job-is-written s j b (b1 .taken ∙ ap accepted same)
 
--- "An accepted job is one to which none of 1 to 7 applies": it is the writing of a job that fits and whose hazards pass 5 and 6, and each such writing is accepted.
+-- "An accepted job is one to which none of 1 to 7 applies": it is the writing of a job that fits and whose hazards pass 5, and each such writing is accepted.
 pub accepted-exactly : (s : List ℕ) (j : Job) → Bytes s → (acceptJob s ≡ accepted j) ↔ ((s ≡ writeJob j) × AcceptedFits j)
 accepted-exactly s j b =
     ((λ e. (accepted-is-written s j b e, accepted-fits s j e)), (λ p. ap acceptJob (p .0) ∙ fitting-accepted j (p .1)))

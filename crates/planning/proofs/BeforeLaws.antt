@@ -1,29 +1,30 @@
--- Bytes whose first number is not 2 are read and tested as before document 02's request 4, and so are their envelopes. "Kind 1 acts as panel length 1."
+-- Planning before document 02's requests 4 and 8. Bytes whose first number is not 2 were read and tested before request 8 as before request 4,
+-- and so were their envelopes: "Kind 1 acts as panel length 1." And before request 8 the tests said what they say now, or 6.
 -- Assumes nothing.
 use Prim.Native.Nat.{ℕ, zero, suc, _+_, _-_, _≤_, _<_}
 use native.Mathlib.Omega.{arith}
 use native.Mathlib.Decide.{ℕ-discrete}
 use mathlib.Core.Path.{_≡_, refl, sym, ap, _∙_}
 use mathlib.Core.Logic.{_⊎_, inl, inr, ⊎-elim}
-use mathlib.Core.Bool.{Bool, true, false, _&&_, and-false}
-use mathlib.Core.List.{List, [], _∷_, _++_}
+use mathlib.Core.Bool.{Bool, true, false, and-false}
+use mathlib.Core.List.{List, [], _∷_, _++_, List·Memᴰ, List·Memᴰ·not-nil}
 use lib.ListN.{length, getD}
 use lib.Dec.{leb, eqb}
 use borrow.Author.Tests.{lt-leb, ne-eqb}
 use Rattle.refusal.specs.Choice.{if_then_else_}
 use Rattle.refusal.specs.Answer.{Answer, accepted, refused, _>>=_, unless-refuse}
 use Rattle.refusal.proofs.AnswerLaws.{bound}
+use Rattle.refusal.proofs.EachLaws.{cons-each}
 use Rattle.number.specs.Number.{Reading, numberAt}
 use Rattle.approach.specs.Approach.{approachLength}
 use Rattle.approach.specs.Panel.{raisedLength}
 use Rattle.approach.proofs.PanelLaws.{raised-length-one}
 use Rattle.job.specs.declared.Header.{Header}
 use Rattle.job.specs.declared.Hazard.{Hazard}
-use Rattle.job.specs.Job.{Job, Range, within, _to_, sharedRanges, headerRanges, nextInHeader, Fields, readFields, moreNumbers, readHeader, headerWith, headerOf, Hazards, readHazards, readRest, readJob}
+use Rattle.job.specs.Job.{Job, Range, within, _to_, sharedRanges, headerRanges, nextInHeader, Fields, readFields, moreNumbers, readHeader, headerOf, readHazards, readRest, readJob}
 use Rattle.job.proofs.JobLaws.{FieldsIn, fields-in, within-high}
-use Rattle.runs.specs.declared.Stretch.{Stretch}
-use Rattle.planning.specs.Envelope.{Traffic, forward, opposite, runout, reaches, reachOf, offsetOf, lengthening, envelope, envelopes, testHazard, testHazards, acceptJob}
-use Rattle.planning.specs.Before.{NotKindTwo, nextBefore, readHeaderBefore, headerBefore, readJobBefore, lengtheningBefore, envelopesBefore, testHazardBefore, testHazardsBefore, acceptJobBefore}
+use Rattle.planning.specs.Envelope.{Traffic, forward, opposite, runout, reaches, reachOf, offsetOf, lengthening, envelope, envelopes, testHazard, testHazards}
+use Rattle.planning.specs.Before.{leavesRoad, testHazardsBefore, acceptBefore, envelopesBefore, NotKindTwo, nextBefore, readHeaderBefore, headerBefore, readJobBefore, lengtheningBefore}
 
 -- Reading
 
@@ -130,10 +131,10 @@ module _ (s : List ℕ) (plain : NotKindTwo s) where
       go (accepted f) e = rw (first-number f e)
       go (refused k v) e = refl
 
--- Planning, of a header with panel length 1
+-- Planning, of a header with panel length 1: the lengths by which envelopes were lengthened before requests 8 and 4 are the same.
 
 module _ (h : Header) (one : h .panel ≡ 1) where
-  pub lengthening-alike : (z : Hazard) (t : Traffic) → lengthening h z t ≡ lengtheningBefore h z t
+  lengthening-alike : (z : Hazard) (t : Traffic) → lengthening h z t ≡ lengtheningBefore h z t
   unfolding lengthening lengtheningBefore
   lengthening-alike z t = go (reaches h z t)
     where
@@ -142,13 +143,13 @@ module _ (h : Header) (one : h .panel ≡ 1) where
       go true = rw one (raised-length-one _ _ _ _ _ _)
       go false = refl
 
-  pub envelopes-alike : (side : ℕ) (zs : List Hazard) → envelopes h side zs ≡ envelopesBefore h side zs
-  unfolding envelopes envelope envelopesBefore
+  pub envelopes-alike : (side : ℕ) (zs : List Hazard) → envelopesBefore lengthening h side zs ≡ envelopesBefore lengtheningBefore h side zs
+  unfolding envelopesBefore
   envelopes-alike side [] = refl
   envelopes-alike side (z ∷ zs) = rw (lengthening-alike z forward, lengthening-alike z opposite, envelopes-alike side zs)
 
-  pub tests-alike : (i : ℕ) (zs : List Hazard) → testHazards h i zs ≡ testHazardsBefore h i zs
-  unfolding testHazards testHazard testHazardsBefore testHazardBefore
+  tests-alike : (i : ℕ) (zs : List Hazard) → testHazardsBefore lengthening h i zs ≡ testHazardsBefore lengtheningBefore h i zs
+  unfolding testHazardsBefore leavesRoad
   tests-alike i [] = refl
   tests-alike i (z ∷ zs) = rw (lengthening-alike z forward, lengthening-alike z opposite, tests-alike (i + 1) zs)
 
@@ -164,11 +165,36 @@ module _ (s : List ℕ) (plain : NotKindTwo s) where
       let same : record { header = h; hazards = b2 .first .list } ≡ j = let z = b3 .rest in cc in
       sym (ap (λ (i : Job). i .header .panel) same)
 
-  pub accept-alike : acceptJob s ≡ acceptJobBefore s
-  unfolding acceptJob acceptJobBefore
-  accept-alike = go (readJob s) refl ∙ ap (λ (a : Answer Job). a >>= λ j. testHazardsBefore (j .header) 0 (j .hazards) >>= λ _. accepted j) (read-alike s plain)
+  pub accept-alike : acceptBefore lengthening (readJob s) ≡ acceptBefore lengtheningBefore (readJobBefore s)
+  unfolding acceptBefore
+  accept-alike = go (readJob s) refl ∙ ap (λ (a : Answer Job). a >>= λ j. testHazardsBefore lengtheningBefore (j .header) 0 (j .hazards) >>= λ _. accepted j) (read-alike s plain)
     where
       go : (a : Answer Job) → readJob s ≡ a
-          → (a >>= λ j. testHazards (j .header) 0 (j .hazards) >>= λ _. accepted j) ≡ (a >>= λ j. testHazardsBefore (j .header) 0 (j .hazards) >>= λ _. accepted j)
+          → (a >>= λ j. testHazardsBefore lengthening (j .header) 0 (j .hazards) >>= λ _. accepted j) ≡ (a >>= λ j. testHazardsBefore lengtheningBefore (j .header) 0 (j .hazards) >>= λ _. accepted j)
       go (accepted j) e = rw (tests-alike (j .header) (panel-one j e) 0 (j .hazards))
       go (refused k v) e = refl
+
+-- Before request 8
+
+-- What was planned of envelopes that were not cut: document 01's.
+pub envelopes-uncut : (h : Header) (side : ℕ) (zs : List Hazard) → envelopesBefore lengthening h side zs ≡ envelopes h side zs
+unfolding envelopesBefore envelopes envelope
+envelopes-uncut h side [] = refl
+envelopes-uncut h side (z ∷ zs) = rw (envelopes-uncut h side zs)
+
+-- The tests said nothing else than now, and no envelope leaves the road; or some envelope was refused 6.
+pub data Tested (h : Header) (i : ℕ) (zs : List Hazard) : Type 0 where
+  as-now : testHazardsBefore lengthening h i zs ≡ testHazards h i zs → ((u : Unit {0}) → testHazards h i zs ≡ accepted u → (z : Hazard) → List·Memᴰ z zs → leavesRoad lengthening h z ≡ false) → Tested h i zs
+  six : (index : ℕ) → testHazardsBefore lengthening h i zs ≡ refused 6 index → Tested h i zs
+
+pub tests-before : (h : Header) (i : ℕ) (zs : List Hazard) → Tested h i zs
+unfolding testHazardsBefore testHazards
+tests-before h i [] = as-now refl (λ u e z m. absurd (List·Memᴰ·not-nil m))
+tests-before h i (z ∷ zs) = go (testHazard h i z) refl (leavesRoad lengthening h z) refl (tests-before h (i + 1) zs)
+  where
+    go : (t : Answer (Unit {0})) → testHazard h i z ≡ t → (b : Bool) → leavesRoad lengthening h z ≡ b → Tested h (i + 1) zs → Tested h i (z ∷ zs)
+    go (accepted u) p false q (as-now same stays) =
+        as-now (rw (p, q) same) (λ v e. cons-each (λ (x : Hazard). leavesRoad lengthening h x ≡ false) q (stays v (rw p at e)))
+    go (accepted u) p false q (six index e) = six index (rw (p, q) e)
+    go (accepted u) p true q rest = six i (rw (p, q))
+    go (refused k v) p b q rest = as-now (rw p) (λ u e. absurd (let w : _≡_ {A = ℕ} 0 1 = (let x = rw p at e in cc) in omega arith))

@@ -1,16 +1,16 @@
--- What an accepted job is known to satisfy: its hazards passed 5 and 6, and each envelope lies on the road.
+-- What an accepted job is known to satisfy: its hazards passed 5, and each cut envelope lies on the road.
 -- Assumes nothing.
-use Prim.Native.Nat.{ℕ, suc, _+_, _≤_}
+use Prim.Native.Nat.{ℕ, suc, _+_, _≤_, _<_}
 use native.Mathlib.Omega.{arith}
 use mathlib.Core.Path.{_≡_, refl, sym, subst, ap, _∙_}
-use mathlib.Core.Logic.{_⊎_, inl, inr}
+use mathlib.Core.Logic.{_⊎_, inl, inr, _↔_}
 use mathlib.Core.Bool.{Bool, true, false, _&&_, _||_, not, false≢true}
-use mathlib.Core.List.{List, [], _∷_, List·Memᴰ, List·Memᴰ·head, List·Memᴰ·tail, List·Memᴰ·cases-cons, List·Memᴰ·not-nil}
-use lib.ListN.{length}
-use lib.Dec.{ltb, eqb}
+use mathlib.Core.List.{List, [], _∷_, Memᴰ·map, Memᴰ·of-map, List·Memᴰ, List·Memᴰ·head, List·Memᴰ·tail, List·Memᴰ·cases-cons, List·Memᴰ·not-nil}
+use lib.ListN.{length, length-map}
+use lib.Dec.{eqb}
 use borrow.Author.Tests.{ltb-false, eqb-true, eq-eqb, not-true}
 use Rattle.refusal.specs.Choice.{if_then_else_}
-use Rattle.refusal.specs.Answer.{accepted, unless-refuse}
+use Rattle.refusal.specs.Answer.{accepted}
 use Rattle.refusal.proofs.TestLaws.{and-left, and-right, and-intro, or-left, or-right}
 use Rattle.refusal.proofs.AnswerLaws.{bound, tested}
 use Rattle.refusal.proofs.EachLaws.{cons-each}
@@ -18,39 +18,25 @@ use Rattle.approach.specs.Approach.{Domain}
 use Rattle.job.specs.declared.Header.{Header}
 use Rattle.job.specs.declared.Hazard.{Hazard}
 use Rattle.job.specs.Job.{Job, readJob}
-use Rattle.job.proofs.JobLaws.{JobFits, job-fits}
+use Rattle.job.proofs.JobLaws.{HazardFits, JobFits, job-fits}
 use Rattle.runs.specs.declared.Stretch.{Stretch}
+use Rattle.runs.specs.Level.{Has}
 use Rattle.runs.specs.RunList.{lastStation}
 use Rattle.runs.proofs.LevelLaws.{Proper, Levelled, EndsBy}
-use Rattle.planning.specs.Envelope.{Traffic, forward, opposite, runout, reaches, reached, reachOf, offsetOf, lengthening, envelope, envelopes, sideEnvelopes, testHazard, testHazards, acceptJob}
-use Rattle.planning.specs.Reply.{testedEnvelopes}
+use Rattle.planning.specs.Envelope.{Traffic, forward, opposite, runout, reaches, reached, reachOf, offsetOf, envelope, envelopes, cutToRoad, cutEnvelope, sideEnvelopes, OnRoad, standsNear, testHazard, testHazards, acceptJob}
+use Rattle.planning.specs.Reply.{Cuts, cutsOf, testedEnvelopes}
+use Rattle.planning.specs.Overhang.{SideHazard}
 use Rattle.planning.specs.Rows.{Passed}
 use Rattle.planning.proofs.ReachLaws.{reaching-domain}
 
--- A failed conjunction or disjunction.
+-- A failed conjunction.
 not-and : (a b : Bool) → not (a && b) ≡ true → a ≡ true → b ≡ false
 not-and true b h p = not-true b h
 not-and false b h p = absurd (false≢true p)
 
-or-false-left : (a b : Bool) → a || b ≡ false → a ≡ false
-or-false-left true b h = h
-or-false-left false b h = refl
-
-or-false-right : (a b : Bool) → a || b ≡ false → b ≡ false
-or-false-right true b h = absurd (false≢true (sym h))
-or-false-right false b h = h
-
 pub hazard-passed : (h : Header) (i : ℕ) (z : Hazard) (u : Unit {0}) → testHazard h i z ≡ accepted u → Passed h z
-unfolding testHazard
-hazard-passed h i z u e =
-    let b1 = bound (unless-refuse (not (reached h z && ltb (z .near) (h .offset + h .deflection))) 5 i) _ u e in
-    let t5 = tested _ 5 i _ (b1 .taken) in
-    let t6 = tested _ 6 i _ (b1 .rest) in
-    record {
-      clear = λ r. ltb-false _ _ (not-and (reached h z) _ t5 r);
-      begins = λ r. ltb-false _ _ (or-false-left _ (ltb (h .end) (z .end + lengthening h z opposite)) (not-and (reached h z) _ t6 r));
-      ends = λ r. ltb-false _ _ (or-false-right (ltb (z .start) (h .begin + lengthening h z forward)) _ (not-and (reached h z) _ t6 r));
-    }
+unfolding testHazard standsNear
+hazard-passed h i z u e = record { clear = λ r. ltb-false _ _ (not-and (reached h z) _ (tested _ 5 i _ e) r) }
 
 hazards-passed : (h : Header) (i : ℕ) (zs : List Hazard) (u : Unit {0}) → testHazards h i zs ≡ accepted u → (z : Hazard) → List·Memᴰ z zs → Passed h z
 unfolding testHazards
@@ -76,20 +62,30 @@ accepted-fits s j e =
         let w : k ≡ j = cc in
         subst AcceptedFits w (record { fits = job-fits s k p; passed = hazards-passed (k .header) 0 (k .hazards) u q })
 
--- In an accepted job the envelope begins exactly a length before the hazard, on the road, and ends on it.
-pub envelope-exact : (h : Header) (z : Hazard) → reached h z ≡ true → Passed h z → (envelope h z .start + lengthening h z forward ≡ z .start) × (h .begin ≤ envelope h z .start) × (envelope h z .end ≤ h .end)
-unfolding envelope
-envelope-exact h z r p = (omega (arith, p .begins r), omega (arith, p .begins r), p .ends r)
+-- The cut envelope has exactly the envelope's millimetres that are of the road.
+pub cut-has : (h : Header) (z : Hazard) (t : ℕ) → Has (cutEnvelope h z) t ↔ (OnRoad h t × Has (envelope h z) t)
+unfolding cutEnvelope cutToRoad
+cut-has h z t = (λ k. ((omega (arith, k .0), omega (arith, k .1)), (omega (arith, k .0), omega (arith, k .1))), λ k. (omega (arith, k .0 .0, k .1 .0), omega (arith, k .0 .1, k .1 .1)))
 
--- The envelopes of a side, as members.
-pub record FromHazard (h : Header) (side : ℕ) (zs : List Hazard) (e : Stretch) : Type 0 where
+-- It lies on the road and has a millimetre.
+pub record LiesOnRoad (h : Header) (e : Stretch) : Type 0 where
+  pub begins : h .begin ≤ e .start
+  pub long : e .start < e .end
+  pub ends : e .end ≤ h .end
+
+cut-lies : (h : Header) (z : Hazard) → HazardFits h z → LiesOnRoad h (cutEnvelope h z)
+unfolding cutEnvelope cutToRoad envelope
+cut-lies h z f = record { begins = omega arith; long = omega (arith, f .long, f .begins, f .ends); ends = omega arith }
+
+-- The envelopes of a side, not cut, as members.
+record FromHazard (h : Header) (side : ℕ) (zs : List Hazard) (e : Stretch) : Type 0 where
   pub hazard : Hazard
   pub member : List·Memᴰ hazard zs
   pub on-side : hazard .side ≡ side
   pub reach : reached h hazard ≡ true
   pub is : e ≡ envelope h hazard
 
-pub from-hazard : (h : Header) (side : ℕ) (zs : List Hazard) (e : Stretch) → List·Memᴰ e (envelopes h side zs) → FromHazard h side zs e
+from-hazard : (h : Header) (side : ℕ) (zs : List Hazard) (e : Stretch) → List·Memᴰ e (envelopes h side zs) → FromHazard h side zs e
 unfolding envelopes
 from-hazard h side [] e m = absurd (List·Memᴰ·not-nil m)
 from-hazard h side (z ∷ zs) e m = go (eqb (z .side) side && reached h z) refl m (from-hazard h side zs e)
@@ -105,7 +101,7 @@ from-hazard h side (z ∷ zs) e m = go (eqb (z .side) side && reached h z) refl 
     go true t k r = here t (List·Memᴰ·cases-cons k) r
     go false t k r = later (r k)
 
-pub to-envelope : (h : Header) (side : ℕ) {z : Hazard} {zs : List Hazard} → List·Memᴰ z zs → z .side ≡ side → reached h z ≡ true → List·Memᴰ (envelope h z) (envelopes h side zs)
+to-envelope : (h : Header) (side : ℕ) {z : Hazard} {zs : List Hazard} → List·Memᴰ z zs → z .side ≡ side → reached h z ≡ true → List·Memᴰ (envelope h z) (envelopes h side zs)
 unfolding envelopes
 to-envelope h side {z} (List·Memᴰ·head {x = x} {xs = xs} q) on r =
     rw q (rw (let t : (eqb (x .side) side && reached h x) ≡ true = and-intro (eq-eqb _ _ (ap (λ (y : Hazard). y .side) (sym q) ∙ on)) (rw q at r) in t) (List·Memᴰ·head refl))
@@ -115,7 +111,24 @@ to-envelope h side {z} (List·Memᴰ·tail {x = x} {xs = xs} m) on r = go (eqb (
     go true k = List·Memᴰ·tail k
     go false k = k
 
-pub envelopes-length : (h : Header) (side : ℕ) (zs : List Hazard) → length (envelopes h side zs) ≤ length zs
+-- The cut ones.
+pub record FromCut (j : Job) (side : ℕ) (e : Stretch) : Type 0 where
+  pub hazard : Hazard
+  pub own : SideHazard j side hazard
+  pub is : e ≡ cutEnvelope (j .header) hazard
+
+pub from-cut : (j : Job) (side : ℕ) (e : Stretch) → List·Memᴰ e (sideEnvelopes j side) → FromCut j side e
+unfolding cutEnvelope
+from-cut j side e m =
+    let p = Memᴰ·of-map (cutToRoad (j .header)) (envelopes (j .header) side (j .hazards)) m in
+    let w = from-hazard (j .header) side (j .hazards) (p .0) (p .1) in
+    record { hazard = w .hazard; own = record { member = w .member; on-side = w .on-side; reach = w .reach }; is = sym (p .2) ∙ ap (cutToRoad (j .header)) (w .is) }
+
+pub to-cut : (j : Job) (side : ℕ) {z : Hazard} → SideHazard j side z → List·Memᴰ (cutEnvelope (j .header) z) (sideEnvelopes j side)
+unfolding cutEnvelope
+to-cut j side s = Memᴰ·map (cutToRoad (j .header)) (to-envelope (j .header) side (s .member) (s .on-side) (s .reach))
+
+envelopes-length : (h : Header) (side : ℕ) (zs : List Hazard) → length (envelopes h side zs) ≤ length zs
 unfolding envelopes
 envelopes-length h side [] = omega arith
 envelopes-length h side (z ∷ zs) = go (eqb (z .side) side && reached h z) (envelopes-length h side zs)
@@ -126,29 +139,26 @@ envelopes-length h side (z ∷ zs) = go (eqb (z .side) side && reached h z) (env
 
 -- The envelopes of a side of an accepted job.
 module _ (j : Job) (side : ℕ) (fits : AcceptedFits j) where
+  pub side-lies : (e : Stretch) → List·Memᴰ e (sideEnvelopes j side) → LiesOnRoad (j .header) e
+  side-lies e m = let w = from-cut j side e m in rw (w .is) (cut-lies (j .header) (w .hazard) (fits .fits .hazards .each (w .hazard) (w .own .member)))
+
   pub side-proper : Proper (sideEnvelopes j side)
-  unfolding envelope
-  side-proper e m =
-      let w = from-hazard (j .header) side (j .hazards) e m in
-      let f = fits .fits .hazards .each (w .hazard) (w .member) in
-      rw (w .is) (omega (arith, f .long))
+  side-proper e m = side-lies e m .long
 
   pub side-levelled : Levelled (sideEnvelopes j side)
-  unfolding envelope
+  unfolding cutEnvelope cutToRoad envelope
   side-levelled e m =
-      let w = from-hazard (j .header) side (j .hazards) e m in
-      let f = fits .fits .hazards .each (w .hazard) (w .member) in
+      let w = from-cut j side e m in
+      let f = fits .fits .hazards .each (w .hazard) (w .own .member) in
       rw (w .is) (f .level-low, f .level-top)
 
   pub side-ends : EndsBy lastStation (sideEnvelopes j side)
-  unfolding envelope
-  side-ends e m =
-      let w = from-hazard (j .header) side (j .hazards) e m in
-      let p = fits .passed (w .hazard) (w .member) .ends (w .reach) in
-      rw (w .is) (omega (arith, p, fits .fits .header .road-end))
+  side-ends e m = omega (arith, side-lies e m .ends, fits .fits .header .road-end)
 
   pub side-count : length (sideEnvelopes j side) ≤ 256
-  side-count = omega (arith, envelopes-length (j .header) side (j .hazards), fits .fits .hazards .count, fits .fits .header .count)
+  side-count =
+      let same : length (sideEnvelopes j side) ≡ length (envelopes (j .header) side (j .hazards)) = length-map (envelopes (j .header) side (j .hazards)) (cutToRoad (j .header)) in
+      omega (arith, same, envelopes-length (j .header) side (j .hazards), fits .fits .hazards .count, fits .fits .header .count)
 
 -- A traffic that reaches a hazard of an accepted job asks for a length in the formula's domain.
 module _ (j : Job) (fits : AcceptedFits j) (z : Hazard) (m : List·Memᴰ z (j .hazards)) (t : Traffic) (r : reaches (j .header) z t ≡ true) where
@@ -170,10 +180,11 @@ pub record EnvelopesFit (es : List Stretch) : Type 0 where
   pub levelled : Levelled es
   pub ends : EndsBy lastStation es
 
-pub tested-fit : (j : Job) (first side : ℕ) (es : List Stretch) → JobFits j → testedEnvelopes j first side ≡ accepted es → EnvelopesFit es
+pub tested-fit : (j : Job) (side : ℕ) (c : Cuts) → JobFits j → testedEnvelopes j side ≡ accepted c → EnvelopesFit (c .envelopes)
 unfolding testedEnvelopes
-tested-fit j first side es f e =
-    let b = bound (testHazards (j .header) first (j .hazards)) (λ _. accepted (sideEnvelopes j side)) es e in
-    let same : sideEnvelopes j side ≡ es = cc in
-    let fits : AcceptedFits j = record { fits = f; passed = hazards-passed (j .header) first (j .hazards) (b .first) (b .taken) } in
+tested-fit j side c f e =
+    let b = bound (testHazards (j .header) 0 (j .hazards)) (λ _. accepted (cutsOf (j .header) side (j .hazards))) c e in
+    let whole : cutsOf (j .header) side (j .hazards) ≡ c = cc in
+    let same : sideEnvelopes j side ≡ c .envelopes = ap (λ (x : Cuts). x .envelopes) whole in
+    let fits : AcceptedFits j = record { fits = f; passed = hazards-passed (j .header) 0 (j .hazards) (b .first) (b .taken) } in
     subst EnvelopesFit same (record { few = side-count j side fits; proper = side-proper j side fits; levelled = side-levelled j side fits; ends = side-ends j side fits })

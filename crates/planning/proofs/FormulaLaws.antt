@@ -1,7 +1,7 @@
 -- Formula, rule and raising and the envelope: an envelope has exactly the hazard's own millimetres and those upstream of it by less than the
 -- length in whole panels, through approach's promise.
 -- Assumes nothing.
-use Prim.Native.Nat.{ℕ, _+_, _-_, _≤_, _<_}
+use Prim.Native.Nat.{ℕ, _-_, _≤_, _<_}
 use native.Mathlib.Omega.{arith}
 use native.Mathlib.Decide.{decLt}
 use mathlib.Core.Path.{_≡_, refl}
@@ -17,9 +17,10 @@ use Rattle.job.specs.declared.Hazard.{Hazard}
 use Rattle.job.specs.Job.{Job}
 use Rattle.runs.specs.Level.{Has}
 use Rattle.runs.proofs.GapLaws.{required-covers}
-use Rattle.planning.specs.Envelope.{Traffic, forward, opposite, runout, reaches, reached, reachOf, offsetOf, lengthening, envelope, Upstream, BelowApproach, Asked, beside, upstream, sideEnvelopes}
+use Rattle.planning.specs.Envelope.{Traffic, forward, opposite, runout, reaches, reached, reachOf, offsetOf, lengthening, envelope, cutToRoad, cutEnvelope, OnRoad, Upstream, BelowApproach, Asked, beside, upstream, sideEnvelopes}
+use Rattle.planning.specs.Overhang.{SideHazard}
 use Rattle.planning.specs.Required.{jobLevel}
-use Rattle.planning.proofs.EnvelopeLaws.{AcceptedFits, domain-of, to-envelope, side-levelled}
+use Rattle.planning.proofs.EnvelopeLaws.{AcceptedFits, domain-of, cut-has, to-cut, side-levelled}
 
 module _ (j : Job) (fits : AcceptedFits j) (z : Hazard) (m : List·Memᴰ z (j .hazards)) where
   is-reached : (t : Traffic) → reaches (j .header) z t ≡ true → reached (j .header) z ≡ true
@@ -62,9 +63,10 @@ module _ (j : Job) (fits : AcceptedFits j) (z : Hazard) (m : List·Memᴰ z (j .
       from (beside a b) = (omega arith, omega arith)
       from (upstream traffic r d u l) = upstream-has traffic d t u (nearer traffic r d l)
 
-  -- There the hazard's level or a higher one is required.
-  pub formula-level : (traffic : Traffic) → reaches (j .header) z traffic ≡ true → (d t : ℕ) → Upstream traffic z d t → BelowApproach (j .header) z traffic d → z .level ≤ jobLevel j (z .side) t
-  unfolding jobLevel envelope
-  formula-level traffic r d t u l =
-      required-covers (sideEnvelopes j (z .side)) (j .header .continuity) (side-levelled j (z .side) fits) (envelope (j .header) z)
-      (to-envelope (j .header) (z .side) m refl (is-reached traffic r)) t (envelope-exactly t .1 (upstream traffic r d u l))
+  -- There, on the road, the hazard's level or a higher one is required.
+  pub formula-level : (traffic : Traffic) → reaches (j .header) z traffic ≡ true → (d t : ℕ) → Upstream traffic z d t → BelowApproach (j .header) z traffic d → OnRoad (j .header) t → z .level ≤ jobLevel j (z .side) t
+  unfolding jobLevel cutEnvelope cutToRoad envelope
+  formula-level traffic r d t u l on =
+      let own : SideHazard j (z .side) z = record { member = m; on-side = refl; reach = is-reached traffic r } in
+      required-covers (sideEnvelopes j (z .side)) (j .header .continuity) (side-levelled j (z .side) fits) (cutEnvelope (j .header) z)
+      (to-cut j (z .side) own) t (cut-has (j .header) z t .1 (on, envelope-exactly t .1 (upstream traffic r d u l)))

@@ -1,4 +1,5 @@
 pub mod ReachLaws
+pub mod OverhangLaws
 pub mod EnvelopeLaws
 pub mod TestedLaws
 pub mod AcceptLaws
@@ -7,4 +8,5 @@ pub mod FormulaLaws
 pub mod JobRunLaws
 pub mod AcceptedLaws
 pub mod RowLaws
+pub mod RoadLaws
 pub mod BeforeLaws

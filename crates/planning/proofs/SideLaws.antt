@@ -1,34 +1,34 @@
 -- The runs of a side, step by step: reading, then the tests and envelopes, then the runs.
 -- Assumes nothing.
-use Prim.Native.Nat.{ℕ, _≤_}
+use Prim.Native.Nat.{ℕ}
 use native.Mathlib.Omega.{arith}
 use mathlib.Core.Path.{_≡_, refl, sym, ap, _∙_}
-use mathlib.Core.List.{List, []}
+use mathlib.Core.List.{List}
 use Rattle.refusal.specs.Answer.{Answer, accepted, refused, _>>=_}
-use Rattle.refusal.specs.Refusal.{refusal}
+use Rattle.refusal.specs.Refusal.{refusal, outcome}
 use Rattle.refusal.specs.Stored.{acceptedOr}
 use Rattle.refusal.specs.declared.Refusal.{Refusal}
+use Rattle.refusal.specs.declared.Outcome.{Outcome}
 use Rattle.refusal.specs.declared.Outcome.the-variants.{Done, Refused}
 use Rattle.job.specs.Job.{Job, readJob}
 use Rattle.job.proofs.JobLaws.{JobFits}
-use Rattle.runs.specs.declared.Stretch.{Stretch}
 use Rattle.runs.specs.declared.Envelopes.{Envelopes}
 use Rattle.runs.specs.RunList.{envelopesOf}
 use Rattle.runs.specs.Stored.{StoredEnvelopes}
 use Rattle.runs.specs.Required.{requiredRuns}
 use Rattle.planning.specs.Envelope.{sideEnvelopes, testHazards, acceptJob}
 use Rattle.planning.specs.Required.{jobRuns}
-use Rattle.planning.specs.Reply.{testedEnvelopes, testedRuns, acceptedRuns, storedEnvelopes}
+use Rattle.planning.specs.Reply.{Cuts, noCuts, cutsOf, testedEnvelopes, testedRuns, acceptedRuns, storedEnvelopes}
 use Rattle.planning.specs.declared.accept.SideEnvelopes.{SideEnvelopes}
 use Rattle.planning.proofs.EnvelopeLaws.{tested-fit}
 use Rattle.planning.proofs.AcceptLaws.{Replies}
 
 -- The runs of a tested job are those of its envelopes.
-runs-tested : (j : Job) (side : ℕ) → testedRuns j side ≡ (testedEnvelopes j 0 side >>= λ es. accepted (requiredRuns es (j .header .continuity)))
+runs-tested : (j : Job) (side : ℕ) → testedRuns j side ≡ (testedEnvelopes j side >>= λ c. accepted (requiredRuns (c .envelopes) (j .header .continuity)))
 unfolding testedRuns testedEnvelopes jobRuns
 runs-tested j side = go (testHazards (j .header) 0 (j .hazards))
   where
-    go : (t : Answer (Unit {0})) → (t >>= λ _. accepted (requiredRuns (sideEnvelopes j side) (j .header .continuity))) ≡ ((t >>= λ _. accepted (sideEnvelopes j side)) >>= λ es. accepted (requiredRuns es (j .header .continuity)))
+    go : (t : Answer (Unit {0})) → (t >>= λ _. accepted (requiredRuns (sideEnvelopes j side) (j .header .continuity))) ≡ ((t >>= λ _. accepted (cutsOf (j .header) side (j .hazards))) >>= λ c. accepted (requiredRuns (c .envelopes) (j .header .continuity)))
     go (accepted u) = refl
     go (refused k v) = refl
 
@@ -46,25 +46,36 @@ runs-read s side = job (readJob s)
     job (refused k v) = refl
 
 -- What `side_envelopes` answers, by its outcome.
-module _ (j : Job) (first side : ℕ) (r : SideEnvelopes) (reply : Replies r (testedEnvelopes j first side)) where
-  pub envelopes-done : r .outcome ≡ Done → testedEnvelopes j first side ≡ accepted (envelopesOf (r .envelopes))
+module _ (j : Job) (side : ℕ) (r : SideEnvelopes) (reply : Replies r (testedEnvelopes j side)) where
+  -- The envelopes and overhangs beside the outcome.
+  abbrev beside : Cuts
+  beside = record { envelopes = envelopesOf (r .envelopes); overhangs = r .overhangs }
+
+  pub envelopes-done : r .outcome ≡ Done → testedEnvelopes j side ≡ accepted beside
   envelopes-done e = sym (reply .0) ∙ rw e
 
-  pub envelopes-refused : {x : Refusal} → r .outcome ≡ Refused x → testedEnvelopes j first side ≡ refusal x
+  pub envelopes-refused : {x : Refusal} → r .outcome ≡ Refused x → testedEnvelopes j side ≡ refusal x
   envelopes-refused e = sym (reply .0) ∙ rw e
+
+  -- Where every hazard passes the test.
+  pub outcome-done : {c : Cuts} → testedEnvelopes j side ≡ accepted c → r .outcome ≡ Done
+  outcome-done {c} e = go (r .outcome) (reply .0 ∙ e)
+    where
+      go : (o : Outcome) → outcome o beside ≡ accepted c → o ≡ Done
+      go Done p = refl
+      go (Refused x) p = absurd (let w : _≡_ {A = ℕ} 0 1 = cc in omega arith)
 
   pub stored-envelopes : JobFits j → r .outcome ≡ Done → StoredEnvelopes (r .envelopes)
   stored-envelopes fits e =
-      let f = tested-fit j first side (envelopesOf (r .envelopes)) fits (envelopes-done e) in
-      let whole : r .envelopes ≡ storedEnvelopes (envelopesOf (r .envelopes)) = reply .1 ∙ ap (λ (a : Answer (List Stretch)). storedEnvelopes (acceptedOr [] a)) (envelopes-done e) in
+      let f = tested-fit j side beside fits (envelopes-done e) in
+      let whole : r .envelopes ≡ storedEnvelopes (envelopesOf (r .envelopes)) = ap (λ (x : SideEnvelopes). x .envelopes) (reply .1) ∙ ap (λ (a : Answer Cuts). storedEnvelopes (acceptedOr noCuts a .envelopes)) (envelopes-done e) in
       record { count = omega (arith, f .few, ap (λ (es : Envelopes). es .count) whole); long = f .proper; levels = f .levelled; ends = f .ends }
 
-module _ (j : Job) (side : ℕ) (r : SideEnvelopes) (reply : Replies r (testedEnvelopes j 0 side)) where
   pub runs-done : r .outcome ≡ Done → testedRuns j side ≡ accepted (requiredRuns (envelopesOf (r .envelopes)) (j .header .continuity))
-  runs-done e = runs-tested j side ∙ rw (envelopes-done j 0 side r reply e)
+  runs-done e = runs-tested j side ∙ rw (envelopes-done e)
 
   pub runs-refused : {x : Refusal} → r .outcome ≡ Refused x → testedRuns j side ≡ refusal x
-  runs-refused e = runs-tested j side ∙ rw (envelopes-refused j 0 side r reply e)
+  runs-refused e = runs-tested j side ∙ rw (envelopes-refused e)
 
 -- And by how the job was read.
 pub runs-of-job : (s : List ℕ) (side : ℕ) {j : Job} → readJob s ≡ accepted j → acceptedRuns s side ≡ testedRuns j side

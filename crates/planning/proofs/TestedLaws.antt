@@ -1,51 +1,79 @@
--- The test of one hazard, answer by answer.
+-- The test of one hazard, answer by answer, and its envelope cut by sums.
 -- Assumes nothing.
-use Prim.Native.Nat.{ℕ, _+_, _≤_, _<_}
-use mathlib.Core.Path.{_≡_}
-use mathlib.Core.Bool.{true, _||_}
+use Prim.Native.Nat.{ℕ, _+_, _-_, _≤_, _<_, min, max}
+use native.Mathlib.Omega.{arith}
+use mathlib.Core.Path.{_≡_, _∙_}
+use mathlib.Core.Bool.{true, false, _&&_, and-false}
 use mathlib.Core.List.{[], _∷_}
-use lib.Dec.{ltb}
-use borrow.Author.Tests.{lt-ltb, le-ltb}
+use lib.Dec.{ltb, eqb}
+use borrow.Author.Tests.{ltb-false, lt-ltb, le-ltb, eq-eqb, ne-eqb}
 use Rattle.refusal.specs.Answer.{accepted, refused}
-use Rattle.refusal.proofs.TestLaws.{or-left, or-right}
 use Rattle.job.specs.declared.Header.{Header}
 use Rattle.job.specs.declared.Hazard.{Hazard}
-use Rattle.planning.specs.Envelope.{forward, opposite, lengthening, envelope, testHazard}
-use Rattle.planning.specs.Reply.{ownEnvelopes, testedHazard}
+use Rattle.planning.specs.declared.envelope.CutEnvelope.{CutEnvelope}
+use Rattle.planning.specs.Envelope.{forward, opposite, reached, lengthening, envelope, envelopes, cutToRoad, cutEnvelope, overhang, overhangs, standsNear, testHazard}
+use Rattle.planning.specs.Reply.{noCuts, cutsOf, testedHazard}
 use Rattle.planning.proofs.ReachLaws.{reached-near}
+use Rattle.planning.proofs.OverhangLaws.{greater-none}
 
-module _ (h : Header) (i : ℕ) (z : Hazard) (side : z .side ≤ 1) where
-  -- Nobody reaches it: no envelope.
-  pub tested-unreached : h .zone ≤ z .near → accepted [] ≡ testedHazard h i z
-  unfolding testedHazard testHazard ownEnvelopes
-  tested-unreached l = simp (reached-near h z side, le-ltb (z .near) (h .zone) l)
+-- What one hazard gives to a side.
+pub own-cuts : (h : Header) (side : ℕ) (z : Hazard) → z .side ≡ side → reached h z ≡ true → cutsOf h side (z ∷ []) ≡ record { envelopes = cutEnvelope h z ∷ []; overhangs = overhang h z }
+unfolding envelopes overhangs cutEnvelope
+own-cuts h side z on r = rw (eq-eqb (z .side) side on, r) (λ i. record { envelopes = cutToRoad h (envelope h z) ∷ []; overhangs = greater-none (overhang h z) i })
 
-  module _ (near : z .near < h .zone) where
+pub no-cuts : (h : Header) (side : ℕ) (z : Hazard) → (eqb (z .side) side && reached h z) ≡ false → cutsOf h side (z ∷ []) ≡ noCuts
+unfolding envelopes overhangs
+no-cuts h side z e = rw e
+
+module _ (h : Header) (z : Hazard) (side : z .side ≤ 1) where
+  -- The test by numbers.
+  pub near-numbers : ltb (z .near) (h .zone) && ltb (z .near) (h .offset + h .deflection) ≡ standsNear h z
+  unfolding standsNear
+  near-numbers = rw (reached-near h z side)
+
+  -- A reached hazard that passes it stands clear of the barrier.
+  pub stands-clear : standsNear h z ≡ false → z .near < h .zone → h .offset + h .deflection ≤ z .near
+  stands-clear e l = ltb-false _ _ (let w : ltb (z .near) (h .zone) && ltb (z .near) (h .offset + h .deflection) ≡ false = near-numbers ∙ e in rw (lt-ltb (z .near) (h .zone) l) at w)
+
+  module _ (asked i : ℕ) where
     -- 5
-    pub tested-near : z .near < h .offset + h .deflection → refused 5 i ≡ testedHazard h i z
+    pub tested-near : standsNear h z ≡ true → refused 5 i ≡ testedHazard h asked i z
     unfolding testedHazard testHazard
-    tested-near l = simp (reached-near h z side, lt-ltb (z .near) (h .zone) near, lt-ltb (z .near) (h .offset + h .deflection) l)
+    tested-near e = rw e
 
-    module _ (clear : h .offset + h .deflection ≤ z .near) where
-      -- 6
-      tested-off : (ltb (z .start) (h .begin + lengthening h z forward) || ltb (h .end) (z .end + lengthening h z opposite)) ≡ true → refused 6 i ≡ testedHazard h i z
+    module _ (clear : standsNear h z ≡ false) where
+      tested-clear : testedHazard h asked i z ≡ accepted (cutsOf h asked (z ∷ []))
       unfolding testedHazard testHazard
-      tested-off e = simp (reached-near h z side, lt-ltb (z .near) (h .zone) near, le-ltb (z .near) (h .offset + h .deflection) clear, e)
+      tested-clear = rw clear
 
-      pub tested-begin : z .start < h .begin + lengthening h z forward → refused 6 i ≡ testedHazard h i z
-      tested-begin l = tested-off (or-left _ (lt-ltb _ _ l))
+      -- Nobody reaches it, or it stands on the other side.
+      pub tested-unreached : h .zone ≤ z .near → accepted noCuts ≡ testedHazard h asked i z
+      tested-unreached l = let e : reached h z ≡ false = rw (reached-near h z side) (le-ltb (z .near) (h .zone) l) in rw (tested-clear, no-cuts h asked z (rw e (and-false (eqb (z .side) asked))))
 
-      pub tested-end : h .end < z .end + lengthening h z opposite → refused 6 i ≡ testedHazard h i z
-      tested-end l = tested-off (or-right (ltb (z .start) (h .begin + lengthening h z forward)) (lt-ltb _ _ l))
+      pub tested-other : (z .side ≡ asked → ⊥) → accepted noCuts ≡ testedHazard h asked i z
+      tested-other off = rw (tested-clear, no-cuts h asked z (rw (ne-eqb (z .side) asked off)))
 
-      -- Neither: its envelope.
-      pub tested-passed : h .begin + lengthening h z forward ≤ z .start → z .end + lengthening h z opposite ≤ h .end → accepted (envelope h z ∷ []) ≡ testedHazard h i z
-      unfolding testedHazard testHazard ownEnvelopes
-      tested-passed b e =
-          simp (
-            reached-near h z side,
-            lt-ltb (z .near) (h .zone) near,
-            le-ltb (z .near) (h .offset + h .deflection) clear,
-            le-ltb (z .start) (h .begin + lengthening h z forward) b,
-            le-ltb (h .end) (z .end + lengthening h z opposite) e,
-          )
+      -- Its envelope, cut.
+      pub tested-envelope : z .near < h .zone → z .side ≡ asked → accepted (record { envelopes = cutEnvelope h z ∷ []; overhangs = overhang h z }) ≡ testedHazard h asked i z
+      tested-envelope l on = let e : reached h z ≡ true = rw (reached-near h z side) (lt-ltb (z .near) (h .zone) l) in rw (tested-clear, own-cuts h asked z on e)
+
+-- The cut ends by sums: what hangs over is taken off again.
+module _ (h : Header) (z : Hazard) {before behind early late : ℕ} (p : before ≡ lengthening h z forward) (q : behind ≡ lengthening h z opposite)
+    (a : early ≡ h .begin + before - z .start) (b : late ≡ z .end + behind - h .end) where
+  cut-start : z .start + early - before ≡ max (h .begin) (z .start - lengthening h z forward)
+  cut-start = omega (arith, a, p)
+
+  cut-end : z .end + behind - late ≡ min (z .end + lengthening h z opposite) (h .end)
+  cut-end = omega (arith, b, q)
+
+  early-is : early ≡ h .begin + lengthening h z forward - z .start
+  early-is = omega (arith, a, p)
+
+  late-is : late ≡ z .end + lengthening h z opposite - h .end
+  late-is = omega (arith, b, q)
+
+  pub cut-by-sums : _≡_ {A = CutEnvelope}
+      (record { stretch = record { start = z .start + early - before; end = z .end + behind - late; level = z .level }; overhangs = record { before = early; after = late } })
+      (record { stretch = cutEnvelope h z; overhangs = overhang h z })
+  unfolding cutEnvelope cutToRoad envelope overhang
+  cut-by-sums = λ i. record { stretch = record { start = cut-start i; end = cut-end i; level = z .level }; overhangs = record { before = early-is i; after = late-is i } }

@@ -1,10 +1,11 @@
--- Reading and planning before document 02's request 4: a header of fourteen numbers, of kind 1 alone, and approach lengths that are not raised. Theorems
--- compare with it; what is not here did not change.
+-- Reading and planning as they were before two of document 02's requests, for theorems to compare with; what is not here did not change.
+-- Before request 8 an envelope was not cut, and one that left the road was refused 6. Before request 4 there was in addition a header of
+-- fourteen numbers alone, of kind 1, and approach lengths were not raised.
 -- Assumes nothing.
 use Prim.Native.Nat.{ℕ, _+_, _-_}
 use mathlib.Core.Path.{_≡_}
-use mathlib.Core.Bool.{_&&_, _||_, not}
-use mathlib.Core.List.{List, [], _∷_}
+use mathlib.Core.Bool.{Bool, false, _&&_, _||_, not}
+use mathlib.Core.List.{List, [], _∷_, List·Memᴰ}
 use lib.ListN.{length, getD, drop}
 use lib.Dec.{ltb, eqb}
 use Rattle.refusal.specs.Choice.{if_then_else_}
@@ -15,7 +16,40 @@ use Rattle.job.specs.declared.Header.{Header}
 use Rattle.job.specs.declared.Hazard.{Hazard}
 use Rattle.job.specs.Job.{Job, Range, _to_, headerRanges, Fields, readFields, headerWith, readRest}
 use Rattle.runs.specs.declared.Stretch.{Stretch}
-use Rattle.planning.specs.Envelope.{Traffic, forward, opposite, runout, reaches, reached, reachOf, offsetOf}
+use Rattle.planning.specs.Envelope.{Traffic, forward, opposite, runout, reaches, reached, reachOf, offsetOf, lengthening, testHazard}
+
+-- Before request 8
+
+-- By how much a traffic lengthens the envelope of a hazard: as it is now, or as it was before request 4.
+abbrev pub Lengthening : Type 0
+Lengthening = Header → Hazard → Traffic → ℕ
+
+-- 6: "envelope begins before A or ends after B", by sums.
+unfoldable pub leavesRoad : Lengthening → Header → Hazard → Bool
+leavesRoad by h z = reached h z && (ltb (z .start) (h .begin + by h z forward) || ltb (h .end) (z .end + by h z opposite))
+
+-- "Hazards in order, both sides, 5 before 6." Both return the hazard index.
+unfoldable pub testHazardsBefore : Lengthening → Header → (index : ℕ) → List Hazard → Answer (Unit {0})
+testHazardsBefore by h i [] = accepted tt
+testHazardsBefore by h i (z ∷ zs) = testHazard h i z >>= λ _. unless-refuse (not (leavesRoad by h z)) 6 i >>= λ _. testHazardsBefore by h (i + 1) zs
+
+unfoldable pub acceptBefore : Lengthening → Answer Job → Answer Job
+acceptBefore by read = read >>= λ j. testHazardsBefore by (j .header) 0 (j .hazards) >>= λ _. accepted j
+
+-- The envelopes of a side, not cut. (Where none leaves the road, no subtraction stops at 0.)
+unfoldable pub envelopesBefore : Lengthening → Header → (side : ℕ) → List Hazard → List Stretch
+envelopesBefore by h side [] = []
+envelopesBefore by h side (z ∷ zs) =
+    let r = envelopesBefore by h side zs in
+    if eqb (z .side) side && reached h z
+    then record { start = z .start - by h z forward; end = z .end + by h z opposite; level = z .level } ∷ r
+    else r
+
+-- No envelope of the job leaves the road.
+abbrev pub StaysOnRoad : Job → Type 0
+StaysOnRoad j = (z : Hazard) → List·Memᴰ z (j .hazards) → leavesRoad lengthening (j .header) z ≡ false
+
+-- Before request 4
 
 -- The bytes are of no kind 2 job: their first number is not 2.
 abbrev pub NotKindTwo : (s : List ℕ) → Type 0
@@ -38,23 +72,3 @@ readJobBefore s = readHeaderBefore s >>= λ f. let h = headerBefore (f .numbers)
 -- The approach length as it is.
 unfoldable pub lengtheningBefore : Header → Hazard → Traffic → ℕ
 lengtheningBefore h z t = if reaches h z t then approachLength (h .along) (h .across) (h .straight) (runout h t) (reachOf h z t) (offsetOf h z t) else 0
-
-unfoldable pub envelopesBefore : Header → (side : ℕ) → List Hazard → List Stretch
-envelopesBefore h side [] = []
-envelopesBefore h side (z ∷ zs) =
-    let r = envelopesBefore h side zs in
-    if eqb (z .side) side && reached h z
-    then record { start = z .start - lengtheningBefore h z forward; end = z .end + lengtheningBefore h z opposite; level = z .level } ∷ r
-    else r
-
-unfoldable pub testHazardBefore : Header → (index : ℕ) → Hazard → Answer (Unit {0})
-testHazardBefore h i z =
-    unless-refuse (not (reached h z && ltb (z .near) (h .offset + h .deflection))) 5 i >>= λ _.
-    unless-refuse (not (reached h z && (ltb (z .start) (h .begin + lengtheningBefore h z forward) || ltb (h .end) (z .end + lengtheningBefore h z opposite)))) 6 i
-
-unfoldable pub testHazardsBefore : Header → (index : ℕ) → List Hazard → Answer (Unit {0})
-testHazardsBefore h i [] = accepted tt
-testHazardsBefore h i (z ∷ zs) = testHazardBefore h i z >>= λ _. testHazardsBefore h (i + 1) zs
-
-unfoldable pub acceptJobBefore : (s : List ℕ) → Answer Job
-acceptJobBefore s = readJobBefore s >>= λ j. testHazardsBefore (j .header) 0 (j .hazards) >>= λ _. accepted j

@@ -1,9 +1,9 @@
--- Which traffic reaches a hazard, its envelope, and refusals 5 and 6.
+-- Which traffic reaches a hazard, its envelope, what of it lies on the road and what hangs over, and refusal 5.
 -- Assumes nothing.
-use Prim.Native.Nat.{ℕ, _+_, _-_, min, _≤_, _<_}
+use Prim.Native.Nat.{ℕ, _+_, _-_, min, max, _≤_, _<_}
 use mathlib.Core.Path.{_≡_}
 use mathlib.Core.Bool.{Bool, true, _&&_, _||_, not}
-use mathlib.Core.List.{List, [], _∷_}
+use mathlib.Core.List.{List, [], _∷_, map}
 use lib.Dec.{ltb, eqb}
 use Rattle.refusal.specs.Choice.{if_then_else_}
 use Rattle.refusal.specs.Answer.{Answer, accepted, _>>=_, unless-refuse}
@@ -12,6 +12,7 @@ use Rattle.job.specs.declared.Header.{Header}
 use Rattle.job.specs.declared.Hazard.{Hazard}
 use Rattle.job.specs.Job.{Job, readJob}
 use Rattle.runs.specs.declared.Stretch.{Stretch}
+use Rattle.planning.specs.declared.Overhangs.{Overhangs}
 
 -- Traffic
 
@@ -62,7 +63,7 @@ lengthening h z t =
 -- Envelope
 
 -- "A reached hazard's envelope is [s, e), lengthened by each reaching traffic's approach length at the end that it approaches."
--- "Forward traffic approaches from lower stations, opposite from higher." The subtraction is exact where refusal 6 does not hold.
+-- "Forward traffic approaches from lower stations, opposite from higher." Not cut; stations begin at 0, and there the subtraction stops.
 unfoldable pub envelope : Header → Hazard → Stretch
 envelope h z = record { start = z .start - lengthening h z forward; end = z .end + lengthening h z opposite; level = z .level }
 
@@ -88,19 +89,56 @@ envelopes h side (z ∷ zs) =
     let r = envelopes h side zs in
     if eqb (z .side) side && reached h z then envelope h z ∷ r else r
 
+-- The road
+
+-- "Envelopes are cut at A and B."
+unfoldable pub cutToRoad : Header → Stretch → Stretch
+cutToRoad h e = record { start = max (h .begin) (e .start); end = min (e .end) (h .end); level = e .level }
+
+unfoldable pub cutEnvelope : Header → Hazard → Stretch
+cutEnvelope h z = cutToRoad h (envelope h z)
+
+-- The envelopes of a side that the level is required of: cut "before gaps are added".
 abbrev pub sideEnvelopes : Job → (side : ℕ) → List Stretch
-sideEnvelopes j side = envelopes (j .header) side (j .hazards)
+sideEnvelopes j side = map (cutToRoad (j .header)) (envelopes (j .header) side (j .hazards))
 
--- Refusals 5 and 6
+-- "Overhang in millimetres at each end": by how much the envelope, not cut, begins before A and ends behind B; 0 where it does not.
+-- A + length − s and e + length − B: by sums, because the envelope itself may begin below station 0.
+unfoldable pub overhang : Header → Hazard → Overhangs
+overhang h z = record { before = h .begin + lengthening h z forward - z .start; after = z .end + lengthening h z opposite - h .end }
 
--- 5: "reached hazard with n < M + D". 6: "envelope begins before A or ends after B", by sums; "a raised envelope can leave the road and is
--- refused 6". Both return the hazard index.
+abbrev pub noOverhang : Overhangs
+noOverhang = record { before = 0; after = 0 }
+
+-- The greater one, at each end by itself.
+unfoldable pub greater : Overhangs → Overhangs → Overhangs
+greater a b = record { before = max (a .before) (b .before); after = max (a .after) (b .after) }
+
+-- "Among the asked side's hazards, the greatest overhang in millimetres at each end, 0 where none." Only a reached hazard has an envelope.
+unfoldable pub overhangs : Header → (side : ℕ) → List Hazard → Overhangs
+overhangs h side [] = noOverhang
+overhangs h side (z ∷ zs) =
+    let r = overhangs h side zs in
+    if eqb (z .side) side && reached h z then greater (overhang h z) r else r
+
+abbrev pub sideOverhangs : Job → (side : ℕ) → Overhangs
+sideOverhangs j side = overhangs (j .header) side (j .hazards)
+
+-- A millimetre of the road, [A, B).
+abbrev pub OnRoad : Header → (t : ℕ) → Type 0
+OnRoad h t = (h .begin ≤ t) × (t < h .end)
+
+-- Refusal 5
+
+-- 5: "reached hazard with n < M + D".
+unfoldable pub standsNear : Header → Hazard → Bool
+standsNear h z = reached h z && ltb (z .near) (h .offset + h .deflection)
+
+-- It returns the hazard index.
 unfoldable pub testHazard : Header → (index : ℕ) → Hazard → Answer (Unit {0})
-testHazard h i z =
-    unless-refuse (not (reached h z && ltb (z .near) (h .offset + h .deflection))) 5 i >>= λ _.
-    unless-refuse (not (reached h z && (ltb (z .start) (h .begin + lengthening h z forward) || ltb (h .end) (z .end + lengthening h z opposite)))) 6 i
+testHazard h i z = unless-refuse (not (standsNear h z)) 5 i
 
--- "Hazards in order, both sides, 5 before 6."
+-- "Hazards in order, both sides."
 unfoldable pub testHazards : Header → (index : ℕ) → List Hazard → Answer (Unit {0})
 testHazards h i [] = accepted tt
 testHazards h i (z ∷ zs) = testHazard h i z >>= λ _. testHazards h (i + 1) zs

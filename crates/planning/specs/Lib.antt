@@ -1,4 +1,5 @@
 pub mod Envelope
+pub mod Overhang
 pub mod Required
 pub mod Reply
 pub mod Rows

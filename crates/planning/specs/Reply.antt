@@ -1,18 +1,19 @@
 -- What each function of the planning answers, and what it answers for.
 -- Assumes nothing.
 use Prim.Native.Nat.{ℕ}
-use mathlib.Core.List.{List, [], _∷_, _++_}
+use mathlib.Core.List.{List, [], _∷_, _++_, map}
 use lib.ListN.{length}
-use Rattle.refusal.specs.Choice.{if_then_else_}
 use Rattle.refusal.specs.Answer.{Answer, accepted, _>>=_}
 use Rattle.refusal.specs.Refusal.{refusal, outcome}
 use Rattle.refusal.specs.Stored.{padded}
+use Rattle.refusal.specs.declared.Outcome.{Outcome}
 use Rattle.job.specs.declared.Header.{Header}
 use Rattle.job.specs.declared.Hazard.{Hazard}
 use Rattle.job.specs.Job.{Job}
 use Rattle.runs.specs.declared.Stretch.{Stretch}
 use Rattle.runs.specs.declared.Envelopes.{Envelopes}
 use Rattle.runs.specs.RunList.{runsOf, envelopesOf}
+use Rattle.planning.specs.declared.Overhangs.{Overhangs}
 use Rattle.planning.specs.declared.envelope.Traffic.{Traffic}
 use Rattle.planning.specs.declared.envelope.Traffic.the-variants.{Forward, Opposite}
 use Rattle.planning.specs.declared.envelope.Tested.{Tested}
@@ -26,26 +27,39 @@ abbrev pub trafficOf : Traffic → spec.Traffic
 trafficOf Forward = spec.forward
 trafficOf Opposite = spec.opposite
 
--- The envelope of a hazard in a list, or no envelope.
-unfoldable pub ownEnvelopes : Header → Hazard → List Stretch
-ownEnvelopes h z = if spec.reached h z then spec.envelope h z ∷ [] else []
+-- Envelopes of a side, cut, and the greatest overhangs among them.
+pub record Cuts : Type 0 where
+  pub envelopes : List Stretch
+  pub overhangs : Overhangs
 
--- A hazard's test, and then its envelope.
-unfoldable pub testedHazard : Header → (index : ℕ) → Hazard → Answer (List Stretch)
-testedHazard h i z = spec.testHazard h i z >>= λ _. accepted (ownEnvelopes h z)
+abbrev pub noCuts : Cuts
+noCuts = record { envelopes = []; overhangs = spec.noOverhang }
 
-abbrev pub hazardAnswer : Tested → Answer (List Stretch)
-hazardAnswer (Tested.Envelope e) = accepted (e ∷ [])
-hazardAnswer Tested.Unreached = accepted []
+-- Those of a side's hazards.
+abbrev pub cutsOf : Header → (side : ℕ) → List Hazard → Cuts
+cutsOf h side zs = record { envelopes = map (spec.cutToRoad h) (spec.envelopes h side zs); overhangs = spec.overhangs h side zs }
+
+-- And with others behind them.
+infixl 20 _followedBy_
+abbrev pub _followedBy_ : Cuts → Cuts → Cuts
+a followedBy b = record { envelopes = a .envelopes ++ b .envelopes; overhangs = spec.greater (a .overhangs) (b .overhangs) }
+
+-- A hazard's test, and then what it gives to a side.
+unfoldable pub testedHazard : Header → (side index : ℕ) → Hazard → Answer Cuts
+testedHazard h side i z = spec.testHazard h i z >>= λ _. accepted (cutsOf h side (z ∷ []))
+
+abbrev pub hazardAnswer : Tested → Answer Cuts
+hazardAnswer (Tested.Envelope e) = accepted (record { envelopes = e .stretch ∷ []; overhangs = e .overhangs })
+hazardAnswer Tested.Without = accepted noCuts
 hazardAnswer (Tested.Refused r) = refusal r
 
--- A job's hazards tested, the first under an index, and then the envelopes of a side.
-unfoldable pub testedEnvelopes : Job → (first side : ℕ) → Answer (List Stretch)
-testedEnvelopes j first side = spec.testHazards (j .header) first (j .hazards) >>= λ _. accepted (spec.sideEnvelopes j side)
+-- A job's hazards tested, and then the envelopes of a side.
+unfoldable pub testedEnvelopes : Job → (side : ℕ) → Answer Cuts
+testedEnvelopes j side = spec.testHazards (j .header) 0 (j .hazards) >>= λ _. accepted (cutsOf (j .header) side (j .hazards))
 
 -- What is left to do from the hazard with an index on: the tests, and the envelopes of a side behind those taken.
-unfoldable pub sideFrom : Header → (side index : ℕ) (taken : List Stretch) (left : List Hazard) → Answer (List Stretch)
-sideFrom h side i taken left = spec.testHazards h i left >>= λ _. accepted (taken ++ spec.envelopes h side left)
+unfoldable pub sideFrom : Header → (side index : ℕ) (taken : Cuts) (left : List Hazard) → Answer Cuts
+sideFrom h side i taken left = spec.testHazards h i left >>= λ _. accepted (taken followedBy cutsOf h side left)
 
 -- Envelopes as they are stored: in 256 places, every number behind them 0.
 abbrev pub noStretch : Stretch
@@ -54,9 +68,13 @@ noStretch = record { start = 0; end = 0; level = 0 }
 abbrev pub storedEnvelopes : List Stretch → Envelopes
 storedEnvelopes es = record { count = length es; stretches = padded 256 noStretch es }
 
--- The envelopes of a side, or the refusal.
-abbrev pub sideAnswer : SideEnvelopes → Answer (List Stretch)
-sideAnswer r = outcome (r .outcome) (envelopesOf (r .envelopes))
+-- The envelopes of a side and their overhangs as they are stored, beside an outcome.
+abbrev pub storedCuts : Outcome → Cuts → SideEnvelopes
+storedCuts o c = record { outcome = o; envelopes = storedEnvelopes (c .envelopes); overhangs = c .overhangs }
+
+-- The envelopes of a side and their overhangs, or the refusal.
+abbrev pub sideAnswer : SideEnvelopes → Answer Cuts
+sideAnswer r = outcome (r .outcome) (record { envelopes = envelopesOf (r .envelopes); overhangs = r .overhangs })
 
 -- The runs of a side of a job whose hazards are tested, and of a job in bytes.
 unfoldable pub testedRuns : Job → (side : ℕ) → Answer (List Stretch)

@@ -1,4 +1,5 @@
-// The hazards of a job, tested in order, and the envelopes of a side.
+// The hazards of a job, tested in order, and the envelopes of a side with their greatest overhangs.
+use super::Overhangs;
 use super::envelope::Tested;
 use super::envelope::test_hazard;
 use job::StoredJob;
@@ -9,17 +10,35 @@ use runs::Envelopes;
 use runs::Stretch;
 ghost use mathlib.Core.Path.{_≡_};
 ghost use mathlib.Core.List.{[]};
-ghost use Prim.Native.Nat.{_≤_};
+ghost use Prim.Native.Nat.{max};
 ghost use Rattle.refusal.specs.Stored.{acceptedOr};
 ghost use Rattle.refusal.specs.declared.Outcome.the-variants.{Refused};
 ghost use Rattle.job.specs.Job.{jobOf};
 ghost use Rattle.job.proofs.JobLaws.{JobFits};
-ghost use Rattle.planning.specs.Reply.{testedEnvelopes, storedEnvelopes, sideAnswer};
+ghost use Rattle.planning.specs.Envelope.{greater};
+ghost use Rattle.planning.specs.Reply.{noCuts, testedEnvelopes, storedEnvelopes, storedCuts, sideAnswer};
 
-// The outcome, and beside it the envelopes where it is Done, else none.
+// The outcome, and beside it the envelopes and their greatest overhangs where it is Done, else none.
 pub struct SideEnvelopes {
     pub outcome: Outcome,
     pub envelopes: Envelopes,
+    pub overhangs: Overhangs,
+}
+
+fn larger(a: u32, b: u32) -> u32
+    ensures { λ r. ⌜ r ≡ max a b ⌝ }
+{
+    if a < b { b } else { a }
+}
+
+// The greater overhang, at each end by itself.
+fn greater_of(a: Overhangs, b: Overhangs) -> Overhangs
+    ensures { λ r. ⌜ r ≡ greater a b ⌝ }
+{
+    Overhangs {
+        before: larger(a.before, b.before),
+        after: larger(a.after, b.after),
+    }
 }
 
 // No envelope: zeros.
@@ -38,44 +57,53 @@ fn no_envelopes() -> Envelopes
 }
 
 // A refusal, and zeros beside it.
-pub fn refused(refusal: Refusal) -> SideEnvelopes
-    ensures { λ r. ⌜ r ≡ record { outcome = Refused refusal; envelopes = storedEnvelopes [] } ⌝ }
+fn refused(refusal: Refusal) -> SideEnvelopes
+    ensures { λ r. ⌜ r ≡ storedCuts (Refused refusal) noCuts ⌝ }
 {
     SideEnvelopes {
         outcome: Outcome::Refused(refusal),
         envelopes: no_envelopes(),
+        overhangs: Overhangs {
+            before: 0,
+            after: 0,
+        },
     }
 }
 
-// The hazards of both sides are tested, the first of them under the index `first`; the envelopes of the side asked for are kept.
-pub fn side_envelopes(job: StoredJob, first: usize, side: u64) -> SideEnvelopes
+// The hazards of both sides are tested; the envelopes of the side asked for are kept, and the greatest overhangs among them.
+pub fn side_envelopes(job: StoredJob, side: u64) -> SideEnvelopes
     requires { ⌜ JobFits (jobOf job) ⌝ }
-    requires { ⌜ first ≤ 65535 ⌝ }
-    ensures { λ r. ⌜ sideAnswer r ≡ testedEnvelopes (jobOf job) first side ⌝ }
-    ensures { λ r. ⌜ r .envelopes ≡ storedEnvelopes (acceptedOr [] (testedEnvelopes (jobOf job) first side)) ⌝ }
+    ensures { λ r. ⌜ sideAnswer r ≡ testedEnvelopes (jobOf job) side ⌝ }
+    ensures { λ r. ⌜ r ≡ storedCuts (r .outcome) (acceptedOr noCuts (testedEnvelopes (jobOf job) side)) ⌝ }
 {
     let header = job.header;
     let hazard_count = header.count as usize;
     let mut envelopes = no_envelopes();
+    let mut overhangs = Overhangs {
+        before: 0,
+        after: 0,
+    };
     let mut index: usize = 0;
     while index < hazard_count {
         let hazard = unnamed(job.hazards[index]);
-        let tested = test_hazard(header, first + index, hazard);
+        let tested = test_hazard(header, side, index, hazard);
         index += 1;
         match tested {
             Tested::Envelope(envelope) => {
-                if hazard.side as u64 == side {
-                    let count = envelopes.count;
-                    envelopes.stretches[count] = envelope;
-                    envelopes.count = count + 1;
-                }
+                let count = envelopes.count;
+                let stretch = envelope.stretch;
+                let own = envelope.overhangs;
+                envelopes.stretches[count] = stretch;
+                envelopes.count = count + 1;
+                overhangs = greater_of(overhangs, own);
             }
-            Tested::Unreached => {}
+            Tested::Without => {}
             Tested::Refused(refusal) => return refused(refusal),
         }
     }
     SideEnvelopes {
         outcome: Outcome::Done,
         envelopes,
+        overhangs,
     }
 }

@@ -1,12 +1,14 @@
-// Which traffic reaches a hazard, the hazard's envelope, and refusals 5 and 6.
+// Which traffic reaches a hazard, the hazard's envelope, cut at the road's ends, and its test.
+use super::Overhangs;
+use super::near::stands_near;
 use job::Hazard;
 use job::Header;
 use refusal::Refusal;
 use runs::Stretch;
 ghost use mathlib.Core.Path.{_≡_};
-ghost use Prim.Native.Nat.{_+_, _≤_, _<_, min};
+ghost use Prim.Native.Nat.{_+_, _-_, _≤_, _<_, min};
 ghost use Rattle.job.proofs.JobLaws.{HeaderFits, HazardFits};
-ghost use Rattle.planning.specs.Envelope.{adjacent, runout, farther, lengthening};
+ghost use Rattle.planning.specs.Envelope.{adjacent, runout, farther, lengthening, cutEnvelope, overhang};
 ghost use Rattle.planning.specs.Reply.{trafficOf, hazardAnswer, testedHazard};
 
 // Forward traffic drives by rising stations, opposite traffic by falling ones.
@@ -15,12 +17,18 @@ pub enum Traffic {
     Opposite,
 }
 
-// What the tests of a hazard say.
+// An envelope cut at the road's ends, and by how much it hung over them.
+pub struct CutEnvelope {
+    pub stretch: Stretch,
+    pub overhangs: Overhangs,
+}
+
+// What the test of a hazard says, to a side.
 pub enum Tested {
-    // Neither 5 nor 6: the hazard has this envelope.
-    Envelope(Stretch),
-    // Nobody reaches the hazard, so it has none.
-    Unreached,
+    // Not 5: the hazard has this envelope on the side.
+    Envelope(CutEnvelope),
+    // It gives the side none: nobody reaches it, or it stands on the other one.
+    Without,
     Refused(Refusal),
 }
 
@@ -88,40 +96,52 @@ fn lengthened_by(header: Header, hazard: Hazard, traffic: Traffic) -> u32
     )
 }
 
-// A reached hazard that stands clear of the barrier: refusal 6, else its envelope.
-fn test_envelope(header: Header, index: usize, hazard: Hazard) -> Tested
+// By how much a station lies beyond another; 0 where it does not.
+fn beyond(station: u32, other: u32) -> u32
+    ensures { λ r. ⌜ r ≡ station - other ⌝ }
+{
+    if other < station { station - other } else { 0 }
+}
+
+// A reached hazard that stands clear of the barrier: its envelope, cut, and its overhangs. No sum below 0: the overhang is added before the
+// approach is taken off.
+fn cut_envelope(header: Header, hazard: Hazard) -> CutEnvelope
     requires { ⌜ HeaderFits header ⌝ }
     requires { ⌜ HazardFits header hazard ⌝ }
-    requires { ⌜ hazard .near < header .zone ⌝ }
     requires { ⌜ header .offset + header .deflection ≤ hazard .near ⌝ }
-    ensures { λ r. ⌜ hazardAnswer r ≡ testedHazard header index hazard ⌝ }
+    ensures { λ r. ⌜ r ≡ record { stretch = cutEnvelope header hazard; overhangs = overhang header hazard } ⌝ }
 {
     let before = lengthened_by(header, hazard, Traffic::Forward);
     let behind = lengthened_by(header, hazard, Traffic::Opposite);
-    if hazard.start < header.begin + before {
-        return Tested::Refused(Refusal::OffRoad(index));
+    let early = beyond(header.begin + before, hazard.start);
+    let late = beyond(hazard.end + behind, header.end);
+    CutEnvelope {
+        stretch: Stretch {
+            start: hazard.start + early - before,
+            end: hazard.end + behind - late,
+            level: hazard.level as u32,
+        },
+        overhangs: Overhangs {
+            before: early,
+            after: late,
+        },
     }
-    if header.end < hazard.end + behind {
-        return Tested::Refused(Refusal::OffRoad(index));
-    }
-    Tested::Envelope(Stretch {
-        start: hazard.start - before,
-        end: hazard.end + behind,
-        level: hazard.level as u32,
-    })
 }
 
-// The hazard with this index, 5 before 6. It is reached if its near offset lies in the clear zone.
-pub fn test_hazard(header: Header, index: usize, hazard: Hazard) -> Tested
+// The hazard with this index: refusal 5, else what it gives to the side. It is reached if its near offset lies in the clear zone.
+pub fn test_hazard(header: Header, side: u64, index: usize, hazard: Hazard) -> Tested
     requires { ⌜ HeaderFits header ⌝ }
     requires { ⌜ HazardFits header hazard ⌝ }
-    ensures { λ r. ⌜ hazardAnswer r ≡ testedHazard header index hazard ⌝ }
+    ensures { λ r. ⌜ hazardAnswer r ≡ testedHazard header side index hazard ⌝ }
 {
-    if header.zone <= hazard.near {
-        return Tested::Unreached;
-    }
-    if hazard.near < header.offset + header.deflection {
+    if stands_near(header, hazard) {
         return Tested::Refused(Refusal::NearBarrier(index));
     }
-    test_envelope(header, index, hazard)
+    if header.zone <= hazard.near {
+        return Tested::Without;
+    }
+    if hazard.side as u64 == side {
+        return Tested::Envelope(cut_envelope(header, hazard));
+    }
+    Tested::Without
 }

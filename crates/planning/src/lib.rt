@@ -1,4 +1,11 @@
 // Planning: from a job in bytes to the runs of a side.
 pub mod accept; // hazards tested, and the envelopes of a side
-mod envelope; // a hazard's envelope, and its tests
+mod envelope; // a hazard's envelope, cut at the road's ends, and its test
+pub mod near; // a hazard too near to the barrier
 pub mod side; // the runs of a side
+
+// By how many millimetres envelopes hang over before the road's begin A and behind its end B.
+pub struct Overhangs {
+    pub before: u32,
+    pub after: u32,
+}

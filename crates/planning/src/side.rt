@@ -31,7 +31,7 @@ fn job_runs(job: StoredJob, side: u32) -> SideRuns
     ensures { λ r. ⌜ runsAnswer r ≡ testedRuns (jobOf job) side ⌝ }
     ensures { λ r. ⌜ r .runs ≡ storedRuns (acceptedOr [] (testedRuns (jobOf job) side)) ⌝ }
 {
-    let tested = side_envelopes(job, 0, side as u64);
+    let tested = side_envelopes(job, side as u64);
     let outcome = tested.outcome;
     match outcome {
         Outcome::Done => {
@@ -49,7 +49,7 @@ fn job_runs(job: StoredJob, side: u32) -> SideRuns
     }
 }
 
-// The runs of a side of the job that the bytes are, or the first refusal of 1 to 7. No hazard stands on a side above 1, so no run does.
+// The runs of a side of the job that the bytes are, or the first refusal of 1 to 5 and 7. No hazard stands on a side above 1, so no run does.
 pub fn side_runs(s: &[u8], side: u32) -> SideRuns
     ensures { λ r. ⌜ runsAnswer r ≡ acceptedRuns (now (s .entry)) side ⌝ }
     ensures { λ r. ⌜ r .runs ≡ storedRuns (acceptedOr [] (acceptedRuns (now (s .entry)) side)) ⌝ }

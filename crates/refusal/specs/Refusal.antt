@@ -1,8 +1,8 @@
--- Document 01's table of refusals, and document 02's: the number of each row, and what it returns.
+-- Document 01's table of refusals, and document 02's: the number of each row, and what it returns. "Number 6 no longer occurs anywhere."
 -- Assumes nothing.
 use Prim.Native.Nat.{ℕ}
 use Rattle.refusal.specs.declared.Refusal.{Refusal}
-use Rattle.refusal.specs.declared.Refusal.the-variants.{Ended, Malformed, HeaderRange, HazardRange, NearBarrier, OffRoad, LeftOver, Argument, Room, Schedule, Ranges, Name, State}
+use Rattle.refusal.specs.declared.Refusal.the-variants.{Ended, Malformed, HeaderRange, HazardRange, NearBarrier, LeftOver, Argument, Room, Schedule, Ranges, Name, State}
 use Rattle.refusal.specs.declared.Outcome.{Outcome}
 use Rattle.refusal.specs.declared.Outcome.the-variants.{Done, Refused}
 use Rattle.refusal.specs.Answer.{Answer, accepted, refused}
@@ -13,7 +13,6 @@ numberOf (Malformed at) = 2
 numberOf (HeaderRange number) = 3
 numberOf (HazardRange index) = 4
 numberOf (NearBarrier index) = 5
-numberOf (OffRoad index) = 6
 numberOf (LeftOver at) = 7
 numberOf Argument = 8
 numberOf (Room needed) = 9
@@ -28,7 +27,6 @@ valueOf (Malformed at) = at
 valueOf (HeaderRange number) = number
 valueOf (HazardRange index) = index
 valueOf (NearBarrier index) = index
-valueOf (OffRoad index) = index
 valueOf (LeftOver at) = at
 valueOf Argument = 0
 valueOf (Room needed) = needed

@@ -13,8 +13,6 @@ pub enum Refusal {
     HazardRange(usize),
     // The hazard with this index is reached and stands nearer than barrier offset and deflection allow.
     NearBarrier(usize),
-    // The envelope of the hazard with this index leaves the road.
-    OffRoad(usize),
     // Bytes follow the last hazard, from this index on.
     LeftOver(usize),
     // A side above 1, a level outside 1 to 6, or a range whose end lies before its beginning.
@@ -41,7 +39,6 @@ pub fn refusal_number(refusal: Refusal) -> u64
         Refusal::HeaderRange(_) => 3,
         Refusal::HazardRange(_) => 4,
         Refusal::NearBarrier(_) => 5,
-        Refusal::OffRoad(_) => 6,
         Refusal::LeftOver(_) => 7,
         Refusal::Argument => 8,
         Refusal::Room(_) => 9,
@@ -62,7 +59,6 @@ pub fn refusal_value(refusal: Refusal) -> u64
         Refusal::HeaderRange(number) => number as u64,
         Refusal::HazardRange(index) => index as u64,
         Refusal::NearBarrier(index) => index as u64,
-        Refusal::OffRoad(index) => index as u64,
         Refusal::LeftOver(at) => at as u64,
         Refusal::Argument => 0,
         Refusal::Room(needed) => needed as u64,

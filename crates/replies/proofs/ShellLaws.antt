@@ -5,14 +5,14 @@ use mathlib.Core.Path.{_≡_, ap}
 use mathlib.Core.List.{List}
 use lib.ListN.{length}
 use Rattle.refusal.specs.Answer.{Answer}
-use Rattle.schedule.specs.Plan.{bytesWritten, outputAfter}
+use Rattle.schedule.specs.Plan.{PlannedSide, bytesWritten, outputAfter}
 use Rattle.open_memory.specs.declared.GivenHazard.{GivenHazard}
 use Rattle.open_memory.specs.Memory.{hazardGiven}
 use Rattle.open_job.specs.Open.{memoryAfter, replied}
 use Rattle.kept_states.specs.declared.OpenStates.{OpenStates}
 use Rattle.kept_states.specs.States.{keptStates, keptFrom, statesFrom, openStates, addIn, withdrawIn, scheduleIn, keepIn, returnIn}
 use Rattle.kept_states.proofs.WholeLaws.{allSound, lookedFor, eachChosen, eachEmptied, add-whole, withdraw-whole, schedule-whole, keep-whole, return-whole, open-whole}
-use Rattle.replies.specs.Interface.{replyOf}
+use Rattle.replies.specs.Interface.{replyOf, planReplyOf}
 use Rattle.replies.specs.OpenInterface.{afterOpening, afterAdd, afterWithdrawal, afterKeeping, afterReturn, scheduleReply, scheduleOutput}
 
 module _ (m : OpenStates) where
@@ -41,8 +41,8 @@ module _ (m : OpenStates) where
   return-shell number = let w = return-whole m number in (w .0, ap replyOf (w .1))
 
   pub schedule-shell : (side : ℕ) (out : List ℕ)
-      → (scheduleReply (allSound m) (m .now) side out ≡ replyOf (bytesWritten (scheduleIn m side (length out))))
+      → (scheduleReply (allSound m) (m .now) side out ≡ planReplyOf (bytesWritten (scheduleIn m side (length out))))
       × (scheduleOutput (allSound m) (m .now) side out ≡ outputAfter (scheduleIn m side (length out)) out)
   schedule-shell side out =
       let w = schedule-whole m side (length out) in
-      (ap (λ (a : Answer (List ℕ)). replyOf (bytesWritten a)) w, ap (λ (a : Answer (List ℕ)). outputAfter a out) w)
+      (ap (λ (a : Answer PlannedSide). planReplyOf (bytesWritten a)) w, ap (λ (a : Answer PlannedSide). outputAfter a out) w)

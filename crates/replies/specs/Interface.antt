@@ -3,9 +3,11 @@
 use Prim.Native.Nat.{ℕ, _+_}
 use mathlib.Core.List.{[]}
 use Rattle.refusal.specs.Answer.{Answer, accepted, refused}
+use Rattle.schedule.specs.declared.reply.Written.{Written}
 use Rattle.queries.specs.Lookup.{Found, found, nowhere}
 use Rattle.queries.specs.Ranges.{Counted, placesOf}
 use Rattle.replies.specs.declared.Reply.{Reply}
+use Rattle.replies.specs.declared.PlanReply.{PlanReply}
 use Rattle.replies.specs.declared.Record.{Record}
 use Rattle.replies.specs.declared.Quantities.{Quantities}
 
@@ -16,6 +18,14 @@ reply number value = record { number = number; value = value }
 unfoldable pub replyOf : Answer ℕ → Reply
 replyOf (accepted value) = reply 0 value
 replyOf (refused number value) = reply number value
+
+-- Plan's reply: the bytes written and the overhangs; 0 and 0 after a refusal.
+abbrev pub planned : (number value before after : ℕ) → PlanReply
+planned number value before after = record { number = number; value = value; before = before; after = after }
+
+unfoldable pub planReplyOf : Answer Written → PlanReply
+planReplyOf (accepted w) = planned 0 (w .bytes) (w .overhangs .before) (w .overhangs .after)
+planReplyOf (refused number value) = planned number value 0 0
 
 -- The record's first byte, and the index behind its last.
 unfoldable pub recordOf : Answer Found → Record

@@ -13,11 +13,11 @@ use Rattle.open_memory.specs.Memory.{hazardGiven}
 use Rattle.open_job.specs.Open.{openJob, memoryAfter, replied}
 use Rattle.kept_states.specs.declared.KeptState.{KeptState}
 use Rattle.kept_states.specs.Parts.{addPart, withdrawPart, schedulePart, testNumber, returnPart}
-use Rattle.replies.specs.declared.Reply.{Reply}
+use Rattle.replies.specs.declared.PlanReply.{PlanReply}
 use Rattle.replies.specs.declared.open.Changed.{Changed}
 use Rattle.replies.specs.declared.open.Opening.{Opening}
 use Rattle.replies.specs.declared.open.Keeping.{Keeping}
-use Rattle.replies.specs.Interface.{replyOf}
+use Rattle.replies.specs.Interface.{replyOf, planReplyOf}
 
 -- The state now after a call, and the reply: number 0 and value 0 where the call is done.
 abbrev pub changedBy : StoredJob → Answer StoredJob → Changed
@@ -43,8 +43,8 @@ abbrev pub afterReturn : (sound : Bool) → StoredJob → (number : ℕ) → Kep
 afterReturn sound m number kept = changedBy m (returnPart sound m number kept)
 
 -- The schedule call's reply and the output afterwards, as plan's.
-abbrev pub scheduleReply : (sound : Bool) → StoredJob → (side : ℕ) (out : List ℕ) → Reply
-scheduleReply sound m side out = replyOf (bytesWritten (schedulePart sound m side (length out)))
+abbrev pub scheduleReply : (sound : Bool) → StoredJob → (side : ℕ) (out : List ℕ) → PlanReply
+scheduleReply sound m side out = planReplyOf (bytesWritten (schedulePart sound m side (length out)))
 
 abbrev pub scheduleOutput : (sound : Bool) → StoredJob → (side : ℕ) (out : List ℕ) → List ℕ
 scheduleOutput sound m side out = outputAfter (schedulePart sound m side (length out)) out

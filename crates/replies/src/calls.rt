@@ -1,12 +1,13 @@
 // The calls on job and schedule bytes.
+use super::PlanReply;
 use super::Quantities;
 use super::Record;
 use super::Reply;
+use super::ended;
+use super::plan_reply;
 use super::refused;
 use queries::reply::Located;
 use queries::reply::Quantity;
-use refusal::Outcome;
-use schedule::reply::Plan;
 use station_level::reply::Level;
 ghost use mathlib.Core.Path.{_≡_};
 ghost use lib.ListN.{length};
@@ -15,19 +16,13 @@ ghost use Rattle.station_level.specs.Level.{levelAt};
 ghost use Rattle.queries.specs.Quantity.{quantity};
 ghost use Rattle.queries.specs.Lookup.{lookup};
 ghost use Rattle.queries.specs.Ranges.{quantities};
-ghost use Rattle.replies.specs.Interface.{replyOf, recordOf, quantitiesOf};
+ghost use Rattle.replies.specs.Interface.{replyOf, planReplyOf, recordOf, quantitiesOf};
 
-pub fn plan(job: &[u8], side: u64, out: &mut [u8]) -> Reply
-    ensures { λ r. ⌜ r ≡ replyOf (bytesWritten (plan (now (job .entry)) side (length (now (out .entry))))) ⌝ }
+pub fn plan(job: &[u8], side: u64, out: &mut [u8]) -> PlanReply
+    ensures { λ r. ⌜ r ≡ planReplyOf (bytesWritten (plan (now (job .entry)) side (length (now (out .entry))))) ⌝ }
     ensures { λ _. ⌜ now (out .exit) ≡ outputAfter (plan (now (job .entry)) side (length (now (out .entry)))) (now (out .entry)) ⌝ }
 {
-    match schedule::plan::plan(job, side, out) {
-        Plan::Written(bytes) => Reply {
-            number: 0,
-            value: bytes as u64,
-        },
-        Plan::Refused(refusal) => refused(refusal),
-    }
+    plan_reply(schedule::plan::plan(job, side, out))
 }
 
 // The level that a job requires at a station of a side, 0 to 6, as value.
@@ -85,20 +80,13 @@ pub fn quantities(schedule: &[u8], level: u64, ranges: &[u64]) -> Quantities
 {
     let reply = queries::quantities::quantities(schedule, level, ranges);
     let outcome = reply.outcome;
+    let how = ended(outcome);
     let records = reply.records;
     let quantities = reply.quantities;
-    match outcome {
-        Outcome::Done => Quantities {
-            number: 0,
-            value: 0,
-            records,
-            quantities,
-        },
-        Outcome::Refused(refusal) => Quantities {
-            number: refusal::refusal_number(refusal),
-            value: refusal::refusal_value(refusal),
-            records,
-            quantities,
-        },
+    Quantities {
+        number: how.number,
+        value: how.value,
+        records,
+        quantities,
     }
 }

@@ -1,13 +1,25 @@
 // What C is told: each answer as a plain struct.
+use refusal::Outcome;
 use refusal::Refusal;
+use schedule::reply::Plan;
 ghost use mathlib.Core.Path.{_≡_};
-ghost use Rattle.refusal.specs.Refusal.{numberOf, valueOf};
-ghost use Rattle.replies.specs.Interface.{reply};
+ghost use Rattle.refusal.specs.Refusal.{numberOf, valueOf, outcome};
+ghost use Rattle.schedule.specs.Plan.{planReply};
+ghost use Rattle.replies.specs.Interface.{reply, replyOf, planReplyOf};
 
 pub mod calls; // the calls on job and schedule bytes
 pub mod open; // the calls on the parts of an open job
 
-// Number 0: done, with the bytes written or the millimetres; else document 01's refusal number and what it returns.
+// Number 0: done, with the bytes written and the greatest overhangs before A and behind B; else the refusal, and 0 for both.
+#[repr(C)]
+pub struct PlanReply {
+    pub number: u64,
+    pub value: u64,
+    pub before: u64,
+    pub after: u64,
+}
+
+// Number 0: done, with the millimetres, say; else the refusal's number and what it returns.
 #[repr(C)]
 pub struct Reply {
     pub number: u64,
@@ -38,5 +50,40 @@ fn refused(refusal: Refusal) -> Reply
     Reply {
         number: refusal::refusal_number(refusal),
         value: refusal::refusal_value(refusal),
+    }
+}
+
+// A call that is done and whose reply has no value there: number 0 and value 0; else the refusal.
+fn ended(how: Outcome) -> Reply
+    ensures { λ r. ⌜ r ≡ replyOf (outcome how 0) ⌝ }
+{
+    match how {
+        Outcome::Done => Reply {
+            number: 0,
+            value: 0,
+        },
+        Outcome::Refused(refusal) => refused(refusal),
+    }
+}
+
+fn plan_reply(reply: Plan) -> PlanReply
+    ensures { λ r. ⌜ r ≡ planReplyOf (planReply reply) ⌝ }
+{
+    match reply {
+        Plan::Done(written) => {
+            let overhangs = written.overhangs;
+            PlanReply {
+                number: 0,
+                value: written.bytes as u64,
+                before: overhangs.before as u64,
+                after: overhangs.after as u64,
+            }
+        }
+        Plan::Refused(refusal) => PlanReply {
+            number: refusal::refusal_number(refusal),
+            value: refusal::refusal_value(refusal),
+            before: 0,
+            after: 0,
+        },
     }
 }

@@ -1,12 +1,13 @@
 // The calls on the parts of an open job's memory, and what C is told. `sound` says that all that is kept keeps the rules.
+use super::PlanReply;
 use super::Reply;
-use super::refused;
+use super::ended;
+use super::plan_reply;
 use job::StoredJob;
 use kept_states::KeptState;
 use open_job::Change;
 use open_memory::GivenHazard;
 use refusal::Outcome;
-use schedule::reply::Plan;
 ghost use mathlib.Core.Path.{_≡_};
 ghost use Rattle.refusal.specs.Refusal.{outcome};
 ghost use Rattle.replies.specs.Interface.{replyOf};
@@ -31,33 +32,24 @@ pub struct Keeping {
     pub done: bool,
 }
 
-// The reply of a call that gives no value.
-fn ended(how: Outcome) -> Keeping
+// The reply of a call that gives no value, and whether it was done.
+fn ending(how: Outcome) -> Keeping
     ensures { λ r. ⌜ r ≡ endedBy (outcome how 0) ⌝ }
 {
+    let reply = ended(how);
     match how {
-        Outcome::Done => Keeping {
-            reply: Reply {
-                number: 0,
-                value: 0,
-            },
-            done: true,
-        },
-        Outcome::Refused(refusal) => Keeping {
-            reply: refused(refusal),
-            done: false,
-        },
+        Outcome::Done => Keeping { reply, done: true },
+        Outcome::Refused(_) => Keeping { reply, done: false },
     }
 }
 
-// The same beside the state now.
+// The reply beside the state now.
 fn with_reply(change: Change) -> Changed
     ensures { λ r. ⌜ r ≡ record { next = change .next; reply = replyOf (outcome (change .outcome) 0) } ⌝ }
 {
     let outcome = change.outcome;
-    let how = ended(outcome);
+    let reply = ended(outcome);
     let next = change.next;
-    let reply = how.reply;
     Changed { next, reply }
 }
 
@@ -66,7 +58,7 @@ pub fn opened(job: StoredJob, bytes: &[u8]) -> Opening
 {
     let change = open_job::calls::open(job, bytes);
     let outcome = change.outcome;
-    let how = ended(outcome);
+    let how = ending(outcome);
     let next = change.next;
     let reply = how.reply;
     Opening {
@@ -91,7 +83,7 @@ pub fn withdrawn(sound: bool, job: StoredJob, name: u8) -> Changed
 pub fn kept(sound: bool, job: StoredJob, number: u64) -> Keeping
     ensures { λ r. ⌜ r ≡ afterKeeping sound job number ⌝ }
 {
-    ended(kept_states::calls::test_number(sound, job, number))
+    ending(kept_states::calls::test_number(sound, job, number))
 }
 
 pub fn returned(sound: bool, job: StoredJob, number: u64, kept: KeptState) -> Changed
@@ -100,14 +92,8 @@ pub fn returned(sound: bool, job: StoredJob, number: u64, kept: KeptState) -> Ch
     with_reply(kept_states::calls::return_to(sound, job, number, kept))
 }
 
-pub fn scheduled(sound: bool, job: StoredJob, side: u64, out: &mut [u8]) -> Reply
+pub fn scheduled(sound: bool, job: StoredJob, side: u64, out: &mut [u8]) -> PlanReply
     ensures { λ r. ⌜ (r ≡ scheduleReply sound job side (now (out .entry))) × (now (out .exit) ≡ scheduleOutput sound job side (now (out .entry))) ⌝ }
 {
-    match kept_states::calls::schedule(sound, job, side, out) {
-        Plan::Written(bytes) => Reply {
-            number: 0,
-            value: bytes as u64,
-        },
-        Plan::Refused(refusal) => refused(refusal),
-    }
+    plan_reply(kept_states::calls::schedule(sound, job, side, out))
 }

@@ -18,7 +18,7 @@ use Rattle.runs.specs.Level.{filled, highest, requiredLevel}
 use Rattle.runs.specs.Required.{insertStation, endPoints, put, runsBetween, requiredRuns}
 use Rattle.runs.specs.RunList.{isRunList, lastStation}
 use Rattle.runs.proofs.RunLaws.{Next, Rising}
-use Rattle.planning.specs.Envelope.{farther, reachOf, offsetOf, reaches, reached, lengthening, envelope, envelopes, testHazard, testHazards, acceptJob}
+use Rattle.planning.specs.Envelope.{farther, reachOf, offsetOf, reaches, reached, lengthening, envelope, envelopes, cutToRoad, standsNear, testHazard, testHazards, acceptJob}
 use Rattle.planning.specs.Required.{jobRuns}
 use Rattle.planning.proofs.EnvelopeLaws.{accepted-fits}
 use Rattle.planning.proofs.JobRunLaws.{job-run-list}
@@ -106,5 +106,5 @@ report-fits s = go (acceptJob s) refl
 -- The job on paper
 
 pub printed-report : reported (writeNumbers printedJob) ≡ printedText
-unfolding writeNumbers printedJob printedText someOf keep writeIn writeNumber scan readNumber numberAt ceilDiv formulaLength approachLength raised raisedLength sharedRanges headerRanges hazardRanges readFields readHeader readHazards readRest readJob farther reachOf offsetOf reaches reached lengthening envelope envelopes testHazard testHazards acceptJob filled highest requiredLevel insertStation endPoints put runsBetween requiredRuns jobRuns digitsIn decimal fields line runLines covered runsReport reported
+unfolding writeNumbers printedJob printedText someOf keep writeIn writeNumber scan readNumber numberAt ceilDiv formulaLength approachLength raised raisedLength sharedRanges headerRanges hazardRanges readFields readHeader readHazards readRest readJob farther reachOf offsetOf reaches reached lengthening envelope envelopes cutToRoad standsNear testHazard testHazards acceptJob filled highest requiredLevel insertStation endPoints put runsBetween requiredRuns jobRuns digitsIn decimal fields line runLines covered runsReport reported
 printed-report = refl

@@ -11,7 +11,7 @@ use native.Mathlib.Decide.{decLe, decLt}
 use borrow.Author.Tests.{ltb-true, leb-true, lt-ltb, le-leb}
 use Rattle.refusal.specs.Choice.{someOf}
 use Rattle.runs.specs.declared.Stretch.{Stretch}
-use Rattle.runs.specs.Level.{Covers, NoShortGap, InSet, Gap, Filled, Highest, has, atLeast, requiredLevel}
+use Rattle.runs.specs.Level.{Covers, NoShortGap, NoShortGapIn, InSet, Gap, Filled, Highest, has, atLeast, requiredLevel}
 use Rattle.refusal.proofs.TestLaws.{and-left, and-right, and-intro, decided, not-both, any-elim, any-intro, keep-elim, keep-intro}
 use Rattle.runs.proofs.LevelLaws.{Joined, covered, bridged, Proper, Levelled, joined-more, level-top, level→joined, joined→level}
 
@@ -174,9 +174,9 @@ module _ (es : List Stretch) (G : ℕ) where
         none = λ t a b j. g .none t a b (joined→level es G t v p q j);
       })
 
-  -- Every assignment of levels that covers and has no short gap is nowhere lower.
-  pub required-least : Proper es → (f : ℕ → ℕ) → Covers es f → NoShortGap G f → (t : ℕ) → requiredLevel es G t ≤ f t
-  required-least proper f c n t = go (decLe 1 (requiredLevel es G t))
+  -- Of envelopes that lie in [A, B): every assignment of levels that covers them and has no short gap in it is nowhere lower.
+  pub required-least : (A B : ℕ) → Proper es → ((e : Stretch) → List·Memᴰ e es → (A ≤ e .start) × (e .end ≤ B)) → (f : ℕ → ℕ) → Covers es f → NoShortGapIn A B G f → (t : ℕ) → requiredLevel es G t ≤ f t
+  required-least A B proper lies f c n t = go (decLe 1 (requiredLevel es G t))
     where
       v : ℕ
       v = requiredLevel es G t
@@ -193,7 +193,8 @@ module _ (es : List Stretch) (G : ℕ) where
               let ca = c a m (a .end - 1) (omega arith, omega arith) in
               let cb = c b o (b .start) (omega arith, omega arith) in
               let r = around (λ (u : ℕ). v ≤ f u) (λ (u : ℕ). decLe v (f u)) (a .end - 1) t (b .start) (omega arith) (omega arith) l y (omega arith) in
-              absurd (omega (arith, n v p (level-top es G t) (r .from) (r .to) (r .gap), r .low, r .up, r .lower, r .upper))
+              let short = n v p (level-top es G t) (r .from) (r .to) (r .gap) (omega (arith, lies a m .0, r .low)) (omega (arith, lies b o .1, r .up)) in
+              absurd (omega (arith, short, r .low, r .up, r .lower, r .upper))
 
       go : Dec (1 ≤ v) → v ≤ f t
       go (yes p) = at p (level→joined es G t v p (omega arith))

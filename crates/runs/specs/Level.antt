@@ -80,3 +80,7 @@ Covers es f = (e : Stretch) → List·Memᴰ e es → (t : ℕ) → Has e t → 
 -- At no level 1 to 6 has it a gap shorter than G.
 abbrev pub NoShortGap : ℕ → (ℕ → ℕ) → Type 0
 NoShortGap G f = (v : ℕ) → 1 ≤ v → v ≤ 6 → (x y : ℕ) → Gap (λ (t : ℕ). v ≤ f t) x y → G ≤ y - x
+
+-- The same between two of its millimetres of [A, B): a gap that begins behind A and ends before B.
+abbrev pub NoShortGapIn : (A B G : ℕ) → (ℕ → ℕ) → Type 0
+NoShortGapIn A B G f = (v : ℕ) → 1 ≤ v → v ≤ 6 → (x y : ℕ) → Gap (λ (t : ℕ). v ≤ f t) x y → A < x → y < B → G ≤ y - x

@@ -16,14 +16,15 @@ use Rattle.runs.specs.RunList.{isRunList, envelopesOf}
 use Rattle.runs.specs.Required.{requiredRuns}
 use Rattle.runs.specs.Stored.{StoredEnvelopes}
 use Rattle.runs.proofs.RequiredLaws.{required-run-list}
-use Rattle.planning.specs.Envelope.{acceptJob}
+use Rattle.planning.specs.declared.Overhangs.{Overhangs}
+use Rattle.planning.specs.Envelope.{sideOverhangs, testHazards, acceptJob}
 use Rattle.planning.specs.Required.{jobRuns}
-use Rattle.planning.specs.Reply.{acceptedRuns, testedEnvelopes}
+use Rattle.planning.specs.Reply.{cutsOf, testedEnvelopes}
 use Rattle.planning.specs.declared.accept.SideEnvelopes.{SideEnvelopes}
 use Rattle.planning.proofs.AcceptLaws.{Replies}
-use Rattle.planning.proofs.SideLaws.{runs-of-job, runs-unread, runs-done, runs-refused}
+use Rattle.planning.proofs.SideLaws.{envelopes-done, envelopes-refused}
 use Rattle.schedule.specs.Schedule.{writeSchedule}
-use Rattle.schedule.specs.Plan.{fitted, plan, outputAfter}
+use Rattle.schedule.specs.Plan.{PlannedSide, fitted, plan, outputAfter}
 use mathlib.Core.Bool.{true}
 use native.Mathlib.Omega.{arith}
 use native.Mathlib.Nat.{zero-add}
@@ -35,66 +36,64 @@ use Rattle.refusal.proofs.AnswerLaws.{bound, tested}
 use Rattle.schedule.specs.Steps.{testedPlan}
 
 -- What fits is written, and what does not is refused with the bytes needed.
-pub fitted-fits : (w : List ℕ) (room : ℕ) → length w ≤ room → fitted w room ≡ accepted w
+pub fitted-fits : (w : List ℕ) (o : Overhangs) (room : ℕ) → length w ≤ room → fitted w o room ≡ accepted (record { schedule = w; overhangs = o })
 unfolding fitted
-fitted-fits w room h = rw (le-leb (length w) room h)
+fitted-fits w o room h = rw (le-leb (length w) room h)
 
-pub fitted-short : (w : List ℕ) (room : ℕ) → room < length w → fitted w room ≡ refused 9 (length w)
+pub fitted-short : (w : List ℕ) (o : Overhangs) (room : ℕ) → room < length w → fitted w o room ≡ refused 9 (length w)
 unfolding fitted
-fitted-short w room h = rw (lt-leb (length w) room h)
+fitted-short w o room h = rw (lt-leb (length w) room h)
 
 -- Bytes placed from the first on.
 pub placed-first : (out w : List ℕ) → length w ≤ length out → placed out 0 w ≡ w ++ drop (length w) out
 placed-first out w h = placed-fits out 0 w (omega arith) ∙ ap (λ (n : ℕ). w ++ drop n out) (zero-add (length w))
 
 -- The output is as long as before.
-pub plan-fits : (s : List ℕ) (side room : ℕ) (w : List ℕ) → plan s side room ≡ accepted w → length w ≤ room
+plan-fits : (s : List ℕ) (side room : ℕ) (p : PlannedSide) → plan s side room ≡ accepted p → length (p .schedule) ≤ room
 unfolding plan fitted
-plan-fits s side room w e =
-    let b1 = bound (unless-refuse (leb side 1) 8 0) _ w e in
-    let b2 = bound (acceptJob s) _ w (b1 .rest) in
-    let b3 = bound (unless-refuse (leb (length (writeSchedule (jobRuns (b2 .first) side))) room) 9 (length (writeSchedule (jobRuns (b2 .first) side)))) _ w (b2 .rest) in
-    finish (writeSchedule (jobRuns (b2 .first) side)) (tested _ 9 (length (writeSchedule (jobRuns (b2 .first) side))) _ (b3 .taken)) (b3 .rest)
+plan-fits s side room p e =
+    let b1 = bound (unless-refuse (leb side 1) 8 0) _ p e in
+    let b2 = bound (acceptJob s) _ p (b1 .rest) in
+    let b3 = bound (unless-refuse (leb (length (writeSchedule (jobRuns (b2 .first) side))) room) 9 (length (writeSchedule (jobRuns (b2 .first) side)))) _ p (b2 .rest) in
+    finish (record { schedule = writeSchedule (jobRuns (b2 .first) side); overhangs = sideOverhangs (b2 .first) side }) (tested _ 9 (length (writeSchedule (jobRuns (b2 .first) side))) _ (b3 .taken)) (b3 .rest)
   where
-    finish : (x : List ℕ) → leb (length x) room ≡ true → accepted x ≡ accepted w → length w ≤ room
-    finish x h q = let p : x ≡ w = cc in subst (λ (y : List ℕ). length y ≤ room) p (leb-true _ _ h)
+    finish : (x : PlannedSide) → leb (length (x .schedule)) room ≡ true → accepted x ≡ accepted p → length (p .schedule) ≤ room
+    finish x h q = let same : x ≡ p = cc in subst (λ (y : PlannedSide). length (y .schedule) ≤ room) same (leb-true _ _ h)
 
 pub output-length : (s : List ℕ) (side : ℕ) (out : List ℕ) → length (outputAfter (plan s side (length out)) out) ≡ length out
 output-length s side out = go (plan s side (length out)) refl
   where
-    go : (a : Answer (List ℕ)) → plan s side (length out) ≡ a → length (outputAfter a out) ≡ length out
-    go (accepted w) e = let h = plan-fits s side (length out) w e in rw (length-append w (drop (length w) out), length-drop (length w) out) (omega arith)
+    go : (a : Answer PlannedSide) → plan s side (length out) ≡ a → length (outputAfter a out) ≡ length out
+    go (accepted p) e = let h = plan-fits s side (length out) p e in rw (length-append (p .schedule) (drop (length (p .schedule)) out), length-drop (length (p .schedule)) out) (omega arith)
     go (refused k v) e = refl
 
 pub plan-bad-side : (s : List ℕ) (side room : ℕ) → 1 < side → plan s side room ≡ refused 8 0
 unfolding plan
 plan-bad-side s side room h = rw (lt-leb side 1 h)
 
-plan-by-runs : (s : List ℕ) (side room : ℕ) → side ≤ 1 → plan s side room ≡ (acceptedRuns s side >>= λ rs. fitted (writeSchedule rs) room)
-unfolding plan acceptedRuns
-plan-by-runs s side room h = rw (le-leb side 1 h) (go (acceptJob s))
-  where
-    go : (a : Answer Job) → (a >>= λ j. fitted (writeSchedule (jobRuns j side)) room) ≡ ((a >>= λ j. accepted (jobRuns j side)) >>= λ rs. fitted (writeSchedule rs) room)
-    go (accepted j) = refl
-    go (refused k v) = refl
-
 -- By how the job was read.
 pub plan-read : (s : List ℕ) (side room : ℕ) {j : Job} → side ≤ 1 → readJob s ≡ accepted j → plan s side room ≡ testedPlan j side room
-unfolding testedPlan
-plan-read s side room h e = plan-by-runs s side room h ∙ rw (runs-of-job s side e)
+unfolding plan acceptJob testedPlan testedEnvelopes jobRuns
+plan-read s side room {j} h e = rw (le-leb side 1 h, e) (go (testHazards (j .header) 0 (j .hazards)))
+  where
+    go : (a : Answer (Unit {0})) → ((a >>= λ _. accepted j) >>= λ k. fitted (writeSchedule (jobRuns k side)) (sideOverhangs k side) room)
+        ≡ ((a >>= λ _. accepted (cutsOf (j .header) side (j .hazards))) >>= λ c. fitted (writeSchedule (requiredRuns (c .envelopes) (j .header .continuity))) (c .overhangs) room)
+    go (accepted u) = refl
+    go (refused k v) = refl
 
 pub plan-unread : (s : List ℕ) (side room : ℕ) (x : Refusal) → side ≤ 1 → readJob s ≡ refusal x → plan s side room ≡ refusal x
-plan-unread s side room x h e = plan-by-runs s side room h ∙ rw (runs-unread s side x e)
+unfolding plan acceptJob
+plan-unread s side room x h e = rw (le-leb side 1 h, e)
 
 -- By what `side_envelopes` answers.
-module _ (j : Job) (side : ℕ) (r : SideEnvelopes) (reply : Replies r (testedEnvelopes j 0 side)) where
-  pub tested-done : (room : ℕ) → r .outcome ≡ Done → testedPlan j side room ≡ fitted (writeSchedule (requiredRuns (envelopesOf (r .envelopes)) (j .header .continuity))) room
+module _ (j : Job) (side : ℕ) (r : SideEnvelopes) (reply : Replies r (testedEnvelopes j side)) where
+  pub tested-done : (room : ℕ) → r .outcome ≡ Done → testedPlan j side room ≡ fitted (writeSchedule (requiredRuns (envelopesOf (r .envelopes)) (j .header .continuity))) (r .overhangs) room
   unfolding testedPlan
-  tested-done room e = rw (runs-done j side r reply e)
+  tested-done room e = rw (envelopes-done j side r reply e)
 
   pub tested-refused : (room : ℕ) (x : Refusal) → r .outcome ≡ Refused x → testedPlan j side room ≡ refusal x
   unfolding testedPlan
-  tested-refused room x e = rw (runs-refused j side r reply e)
+  tested-refused room x e = rw (envelopes-refused j side r reply e)
 
 -- The runs of stored envelopes are a run list.
 pub runs-listed : (e : Envelopes) (G : ℕ) → StoredEnvelopes e → isRunList (requiredRuns (envelopesOf e) G) ≡ true

@@ -1,9 +1,11 @@
 // Plan: from a job in bytes to the schedule of a side in the lent output.
 use super::reply::Plan;
+use super::reply::Written;
 use super::write::put_schedule;
 use super::write::schedule_length;
 use job::StoredJob;
 use job::read::read_job;
+use planning::Overhangs;
 use planning::accept::side_envelopes;
 use refusal::Outcome;
 use refusal::Refusal;
@@ -36,40 +38,47 @@ fn bytes_needed(list: RunList, room: usize) -> usize
 }
 
 // The schedule of a run list from the output's first byte on; where it does not fit, nothing.
-fn place(out: &mut [u8], list: RunList) -> Plan
+fn place(out: &mut [u8], list: RunList, overhangs: Overhangs) -> Plan
     requires { ⌜ isRunList (runsOf list) ≡ true ⌝ }
-    ensures { λ r. ⌜ planReply r ≡ bytesWritten (fitted (writeSchedule (runsOf list)) (length (now (out .entry)))) ⌝ }
-    ensures { λ _. ⌜ now (out .exit) ≡ outputAfter (fitted (writeSchedule (runsOf list)) (length (now (out .entry)))) (now (out .entry)) ⌝ }
+    ensures { λ r. ⌜ planReply r ≡ bytesWritten (fitted (writeSchedule (runsOf list)) overhangs (length (now (out .entry)))) ⌝ }
+    ensures { λ _. ⌜ now (out .exit) ≡ outputAfter (fitted (writeSchedule (runsOf list)) overhangs (length (now (out .entry)))) (now (out .entry)) ⌝ }
 {
     let needed = bytes_needed(list, out.len());
     if out.len() < needed {
         return Plan::Refused(Refusal::Room(needed));
     }
-    Plan::Written(put_schedule(out, list))
+    let bytes = put_schedule(out, list);
+    Plan::Done(Written { bytes, overhangs })
 }
 
-// The schedule of a side, from its envelopes; plan and an open job's schedule call share it.
-pub fn plan_envelopes(out: &mut [u8], envelopes: Envelopes, continuity: u32) -> Plan
+// The schedule of a side, from its envelopes and their overhangs; plan and an open job's schedule call share it.
+pub fn plan_envelopes(
+    out: &mut [u8],
+    envelopes: Envelopes,
+    overhangs: Overhangs,
+    continuity: u32,
+) -> Plan
     requires { ⌜ StoredEnvelopes envelopes ⌝ }
-    ensures { λ r. ⌜ planReply r ≡ bytesWritten (fitted (writeSchedule (requiredRuns (envelopesOf envelopes) continuity)) (length (now (out .entry)))) ⌝ }
-    ensures { λ _. ⌜ now (out .exit) ≡ outputAfter (fitted (writeSchedule (requiredRuns (envelopesOf envelopes) continuity)) (length (now (out .entry)))) (now (out .entry)) ⌝ }
+    ensures { λ r. ⌜ planReply r ≡ bytesWritten (fitted (writeSchedule (requiredRuns (envelopesOf envelopes) continuity)) overhangs (length (now (out .entry)))) ⌝ }
+    ensures { λ _. ⌜ now (out .exit) ≡ outputAfter (fitted (writeSchedule (requiredRuns (envelopesOf envelopes) continuity)) overhangs (length (now (out .entry)))) (now (out .entry)) ⌝ }
 {
-    place(out, required_runs(envelopes, continuity))
+    place(out, required_runs(envelopes, continuity), overhangs)
 }
 
-// The schedule of a side of a job that could be read, or refusal 5, 6 or 9.
+// The schedule of a side of a job that could be read, or refusal 5 or 9.
 fn plan_stored(out: &mut [u8], job: StoredJob, side: u64) -> Plan
     requires { ⌜ JobFits (jobOf job) ⌝ }
     ensures { λ r. ⌜ planReply r ≡ bytesWritten (testedPlan (jobOf job) side (length (now (out .entry)))) ⌝ }
     ensures { λ _. ⌜ now (out .exit) ≡ outputAfter (testedPlan (jobOf job) side (length (now (out .entry)))) (now (out .entry)) ⌝ }
 {
-    let tested = side_envelopes(job, 0, side);
+    let tested = side_envelopes(job, side);
     let outcome = tested.outcome;
     match outcome {
         Outcome::Done => {
             let envelopes = tested.envelopes;
+            let overhangs = tested.overhangs;
             let header = job.header;
-            plan_envelopes(out, envelopes, header.continuity)
+            plan_envelopes(out, envelopes, overhangs, header.continuity)
         }
         Outcome::Refused(refusal) => Plan::Refused(refusal),
     }

@@ -11,9 +11,9 @@ use Rattle.refusal.specs.declared.Outcome.the-variants.{Done, Refused}
 use Rattle.job.specs.Job.{Job, readJob}
 use Rattle.runs.specs.Level.{requiredLevel}
 use Rattle.runs.specs.RunList.{envelopesOf}
-use Rattle.planning.specs.Envelope.{sideEnvelopes, testHazards, acceptJob}
+use Rattle.planning.specs.Envelope.{testHazards, acceptJob}
 use Rattle.planning.specs.Required.{jobLevel}
-use Rattle.planning.specs.Reply.{testedEnvelopes}
+use Rattle.planning.specs.Reply.{cutsOf, testedEnvelopes}
 use Rattle.planning.specs.declared.accept.SideEnvelopes.{SideEnvelopes}
 use Rattle.planning.proofs.AcceptLaws.{Replies}
 use Rattle.planning.proofs.SideLaws.{envelopes-done, envelopes-refused}
@@ -33,7 +33,7 @@ pub level-read : (s : List ℕ) (side t : ℕ) {j : Job} → side ≤ 1 → read
 unfolding levelAt acceptJob testedLevel testedEnvelopes jobLevel
 level-read s side t {j} h e = rw (le-leb side 1 h, e) (go (testHazards (j .header) 0 (j .hazards)))
   where
-    go : (a : Answer (Unit {0})) → ((a >>= λ _. accepted j) >>= λ k. accepted (jobLevel k side t)) ≡ ((a >>= λ _. accepted (sideEnvelopes j side)) >>= λ es. accepted (requiredLevel es (j .header .continuity) t))
+    go : (a : Answer (Unit {0})) → ((a >>= λ _. accepted j) >>= λ k. accepted (jobLevel k side t)) ≡ ((a >>= λ _. accepted (cutsOf (j .header) side (j .hazards))) >>= λ c. accepted (requiredLevel (c .envelopes) (j .header .continuity) t))
     go (accepted u) = refl
     go (refused k v) = refl
 
@@ -42,11 +42,11 @@ unfolding levelAt acceptJob
 level-unread s side t x h e = rw (le-leb side 1 h, e)
 
 -- By what `side_envelopes` answers.
-module _ (j : Job) (side t : ℕ) (r : SideEnvelopes) (reply : Replies r (testedEnvelopes j 0 side)) where
+module _ (j : Job) (side t : ℕ) (r : SideEnvelopes) (reply : Replies r (testedEnvelopes j side)) where
   pub tested-done : r .outcome ≡ Done → testedLevel j side t ≡ accepted (requiredLevel (envelopesOf (r .envelopes)) (j .header .continuity) t)
   unfolding testedLevel
-  tested-done e = rw (envelopes-done j 0 side r reply e)
+  tested-done e = rw (envelopes-done j side r reply e)
 
   pub tested-refused : (x : Refusal) → r .outcome ≡ Refused x → testedLevel j side t ≡ refusal x
   unfolding testedLevel
-  tested-refused x e = rw (envelopes-refused j 0 side r reply e)
+  tested-refused x e = rw (envelopes-refused j side r reply e)

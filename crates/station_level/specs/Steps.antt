@@ -8,4 +8,4 @@ use Rattle.planning.specs.Reply.{testedEnvelopes}
 
 -- The hazards tested, and then the level that the envelopes of a side require.
 unfoldable pub testedLevel : Job → (side t : ℕ) → Answer ℕ
-testedLevel j side t = testedEnvelopes j 0 side >>= λ es. accepted (requiredLevel es (j .header .continuity) t)
+testedLevel j side t = testedEnvelopes j side >>= λ c. accepted (requiredLevel (c .envelopes) (j .header .continuity) t)

@@ -13,12 +13,12 @@ ghost use Rattle.station_level.specs.Level.{levelReply};
 ghost use Rattle.station_level.specs.Level as spec;
 ghost use Rattle.station_level.specs.Steps.{testedLevel};
 
-// The level of a job that could be read, or refusal 5 or 6.
+// The level of a job that could be read, or refusal 5.
 fn stored_job_level(job: StoredJob, side: u64, station: u64) -> Level
     requires { ⌜ JobFits (jobOf job) ⌝ }
     ensures { λ r. ⌜ levelReply r ≡ testedLevel (jobOf job) side station ⌝ }
 {
-    let tested = side_envelopes(job, 0, side);
+    let tested = side_envelopes(job, side);
     let outcome = tested.outcome;
     match outcome {
         Outcome::Done => {

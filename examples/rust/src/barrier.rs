@@ -19,14 +19,13 @@ pub const NC_4: u64 = 4;
 pub const NC_5: u64 = 5;
 pub const NC_6: u64 = 6;
 
-/// The numbers of the refusal table, and 0.
+/// The numbers of the refusal table, and 0. No refusal has 6.
 pub const DONE: u64 = 0;
 pub const JOB_ENDED: u64 = 1;
 pub const NUMBER_MALFORMED: u64 = 2;
 pub const HEADER_RANGE: u64 = 3;
 pub const HAZARD_RANGE: u64 = 4;
 pub const HAZARD_NEAR: u64 = 5;
-pub const ENVELOPE_OFF_ROAD: u64 = 6;
 pub const JOB_LEFT_OVER: u64 = 7;
 pub const ARGUMENT: u64 = 8;
 pub const OUTPUT_SHORT: u64 = 9;
@@ -41,6 +40,14 @@ pub mod c {
     pub struct Reply {
         pub number: u64,
         pub value: u64,
+    }
+
+    #[repr(C)]
+    pub struct PlanReply {
+        pub number: u64,
+        pub value: u64,
+        pub before: u64,
+        pub after: u64,
     }
 
     #[repr(C)]
@@ -124,7 +131,7 @@ pub mod c {
             side: u64,
             out: *mut u8,
             out_len: usize,
-        ) -> Reply;
+        ) -> PlanReply;
 
         pub fn barrier_level(job: *const u8, job_len: usize, side: u64, station: u64) -> Reply;
 
@@ -164,7 +171,7 @@ pub mod c {
             side: u64,
             out: *mut u8,
             out_len: usize,
-        ) -> Reply;
+        ) -> PlanReply;
 
         pub fn barrier_keep(job: *mut OpenJob, state: u64) -> Reply;
 
@@ -187,16 +194,45 @@ fn answer(reply: c::Reply) -> Result<u64, Refusal> {
     }
 }
 
-/// Writes the schedule of one side to the start of `out`; the bytes written.
-pub fn plan(job: &[u8], side: u64, out: &mut [u8]) -> Result<usize, Refusal> {
+/// A schedule that is written: its bytes, and how far the approaches of its
+/// side run into the neighbouring contracts, in millimetres before the road and
+/// behind it. Nothing of that is in the schedule.
+#[derive(Clone, Copy, Debug, PartialEq, Eq)]
+pub struct Planned {
+    pub written: usize,
+    pub before: u64,
+    pub after: u64,
+}
+
+fn planned(reply: c::PlanReply) -> Result<Planned, Refusal> {
+    let c::PlanReply {
+        number,
+        value,
+        before,
+        after,
+    } = reply;
+    match number {
+        DONE => Ok(Planned {
+            written: value as usize,
+            before,
+            after,
+        }),
+        _ => Err(Refusal { number, value }),
+    }
+}
+
+/// Writes the schedule of one side to the start of `out`; the bytes written,
+/// and the greatest overhang at each end of the road.
+pub fn plan(job: &[u8], side: u64, out: &mut [u8]) -> Result<Planned, Refusal> {
     // SAFETY: both pointers are good for as many bytes as are named with them,
     // and `out` is lent to this call alone.
     let reply =
         unsafe { c::barrier_plan(job.as_ptr(), job.len(), side, out.as_mut_ptr(), out.len()) };
-    answer(reply).map(|written| written as usize)
+    planned(reply)
 }
 
-/// The level that one side of a job requires at a station; 0 where none is.
+/// The level that one side of a job requires at a station; 0 where none is, and
+/// outside the road.
 pub fn level(job: &[u8], side: u64, station: u64) -> Result<u64, Refusal> {
     // SAFETY: the pointer is good for as many bytes as are named with it.
     answer(unsafe { c::barrier_level(job.as_ptr(), job.len(), side, station) })
@@ -313,13 +349,14 @@ impl OpenJob {
         answer(reply).map(|_| ())
     }
 
-    /// Writes the schedule of one side to the start of `out`; the bytes written.
-    pub fn schedule(&self, side: u64, out: &mut [u8]) -> Result<usize, Refusal> {
+    /// Writes the schedule of one side to the start of `out`; the bytes written,
+    /// and the greatest overhang at each end of the road.
+    pub fn schedule(&self, side: u64, out: &mut [u8]) -> Result<Planned, Refusal> {
         // SAFETY: the memory is only read, the other pointer is good for as
         // many bytes as are named with it, and `out` is lent to this call alone.
         let reply =
             unsafe { c::barrier_open_schedule(&self.memory, side, out.as_mut_ptr(), out.len()) };
-        answer(reply).map(|written| written as usize)
+        planned(reply)
     }
 
     /// Keeps what stands, under a state number 0 to 7.

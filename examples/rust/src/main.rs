@@ -1,7 +1,8 @@
 //! The first program: plans document 01's printed example, looks up the
 //! barrier at some stations, asks for the level at two of them without the
-//! schedule, prices it by lots and shows two refusals. It ends with 1 where a
-//! call does not do what it should: a schedule that cannot be read must not be
+//! schedule, prices it by lots, plans a job whose approach runs into the
+//! neighbouring contract and shows two refusals. It ends with 1 where a call
+//! does not do what it should: a schedule that cannot be read must not be
 //! priced as one without barriers.
 //!
 //! It prints the same text as examples/example.c.
@@ -13,7 +14,7 @@ use std::io::{self, Write};
 use std::ops::Range;
 use std::process::ExitCode;
 
-use barrier::{Refusal, LEFT, NC_3, RIGHT, SCHEDULE_MAX};
+use barrier::{Planned, Refusal, LEFT, NC_3, RIGHT, SCHEDULE_MAX};
 use number_form::{get_number, job_bytes};
 
 const ROAD_END: u64 = 1_000_000;
@@ -38,6 +39,9 @@ const PRINTED_JOB: [u64; 20] = [
     NC_3,               // containment level
 ];
 
+/// The places, from 0, of the numbers that are changed below.
+const FLARE_ACROSS: usize = 10;
+const FIRST_STATION: usize = 15;
 const NEAR_OFFSET: usize = 17;
 
 /// Why the program ends before everything is shown.
@@ -81,9 +85,6 @@ fn print_refusal(out: &mut impl Write, what: &str, refusal: Refusal) -> io::Resu
         barrier::HAZARD_NEAR => {
             writeln!(out, "hazard {value} leaves the barrier no room to deflect")
         }
-        barrier::ENVELOPE_OFF_ROAD => {
-            writeln!(out, "the envelope of hazard {value} leaves the road")
-        }
         barrier::JOB_LEFT_OVER => writeln!(out, "bytes are left over from byte {value} on"),
         barrier::ARGUMENT => {
             writeln!(
@@ -111,13 +112,13 @@ fn done<T>(out: &mut impl Write, what: &str, answer: Result<T, Refusal>) -> Resu
     }
 }
 
-/// Plans one side.
-fn plan(out: &mut impl Write, job: &[u8], side: u64) -> Result<Vec<u8>, Stop> {
+/// Plans one side: its schedule, and the reply with its overhangs.
+fn plan(out: &mut impl Write, job: &[u8], side: u64) -> Result<(Vec<u8>, Planned), Stop> {
     let mut schedule = vec![0; SCHEDULE_MAX];
     let answer = barrier::plan(job, side, &mut schedule);
-    let written = done(out, "plan", answer)?;
-    schedule.truncate(written);
-    Ok(schedule)
+    let planned = done(out, "plan", answer)?;
+    schedule.truncate(planned.written);
+    Ok((schedule, planned))
 }
 
 /// What stands on the right side at a station.
@@ -213,6 +214,26 @@ fn print_prices(out: &mut impl Write, right: &[u8]) -> Result<(), Stop> {
     print_road(out, right)
 }
 
+/// Case K8's second job: without flare, and the headwall from 67,333 on, one
+/// millimetre nearer to the road's begin than its approach is long. The
+/// schedule begins with the road. What hangs over stands in the neighbouring
+/// contract and is in no quantity of this one, so that office has to be told.
+fn print_overhang(out: &mut impl Write) -> Result<(), Stop> {
+    let mut numbers = PRINTED_JOB;
+    numbers[FLARE_ACROSS] = 0;
+    numbers[FIRST_STATION] = 67_333;
+    let (right, planned) = plan(out, &job_bytes(&numbers), RIGHT)?;
+    let Planned { before, after, .. } = planned;
+    writeln!(out, "An approach that runs into the neighbouring contract")?;
+    print_bytes(out, "right schedule", &right)?;
+    write!(
+        out,
+        "  overhang on the right: {before} mm before the road, "
+    )?;
+    writeln!(out, "{after} mm behind it")?;
+    Ok(())
+}
+
 /// A call that has to be refused.
 fn print_refused<T>(
     out: &mut impl Write,
@@ -244,8 +265,8 @@ fn print_refusals(out: &mut impl Write, job: &[u8]) -> Result<(), Stop> {
 /// Everything in turn.
 fn show(out: &mut impl Write) -> Result<(), Stop> {
     let job = job_bytes(&PRINTED_JOB);
-    let right = plan(out, &job, RIGHT)?;
-    let left = plan(out, &job, LEFT)?;
+    let (right, _) = plan(out, &job, RIGHT)?;
+    let (left, _) = plan(out, &job, LEFT)?;
 
     writeln!(out, "The printed example")?;
     print_bytes(out, "job", &job)?;
@@ -254,6 +275,7 @@ fn show(out: &mut impl Write) -> Result<(), Stop> {
     print_stations(out, &right)?;
     print_levels(out, &job)?;
     print_prices(out, &right)?;
+    print_overhang(out)?;
     print_refusals(out, &job)
 }
 

@@ -1,7 +1,7 @@
 //! The jobs of the measurement: all hazards on the right side, each reached by
 //! both traffics, the same bytes on every run.
 
-use cases::draft::{Draft, Header};
+use cases::draft::{A, B, Draft, E, Header, S};
 use cases::{Memory, Random};
 use reference::Stretch;
 use reference::job::Hazard;
@@ -61,6 +61,16 @@ pub fn job(kind: Kind, order: Order, hazards: u64) -> Vec<u8> {
 /// The same job in whole panels of this length.
 pub fn job_in_panels(kind: Kind, order: Order, hazards: u64, length: u64) -> Vec<u8> {
     draft(kind, order, hazards).in_panels(length).bytes()
+}
+
+/// The sparse job in no order, on a road that begins with its first hazard and
+/// ends with its last.
+pub fn job_over_road_ends(hazards: u64) -> Vec<u8> {
+    let draft = draft(Kind::Sparse, Order::Shuffled, hazards);
+    let first = draft.hazards.iter().map(|hazard| hazard[S]).min();
+    let last = draft.hazards.iter().map(|hazard| hazard[E]).max();
+    let draft = draft.with(A, first.unwrap_or(0));
+    draft.with(B, last.unwrap_or(ROAD_END)).bytes()
 }
 
 fn draft(kind: Kind, order: Order, hazards: u64) -> Draft {

@@ -3,13 +3,14 @@
 
 use std::hint::black_box;
 
-use cases::calls::{contract, record, reply};
+use cases::calls::{contract, plan_reply, record, reply};
 
 use crate::jobs::{self, Kind, Order, ROAD_END};
 
-pub const NAMES: [&str; 21] = [
+pub const NAMES: [&str; 22] = [
     "sparse-shuffled",
     "sparse-shuffled-panels-4000",
+    "overhang-sparse-shuffled",
     "dense-shuffled",
     "runs511-shuffled",
     "runs511-ordered",
@@ -70,6 +71,7 @@ impl Single {
                 let job = jobs::job_in_panels(Kind::Sparse, Order::Shuffled, 256, 4_000);
                 self.plan(job)
             }
+            "overhang-sparse-shuffled" => self.plan(jobs::job_over_road_ends(256)),
             "dense-shuffled" => self.plan(jobs::job(Kind::Dense, Order::Shuffled, 256)),
             "runs511-shuffled" => self.plan(jobs::job(Kind::Islands, Order::Shuffled, 256)),
             "runs511-ordered" => self.plan(jobs::job(Kind::Islands, Order::Station, 256)),
@@ -98,7 +100,7 @@ impl Single {
         for _ in 0..self.times {
             black_box(match self.who {
                 Who::Engine => engine::plan(black_box(&job), 0, &mut out),
-                Who::Reference => reply(reference::plan(black_box(&job), 0, &mut out)),
+                Who::Reference => plan_reply(reference::plan(black_box(&job), 0, &mut out)),
             });
         }
     }
@@ -232,7 +234,7 @@ impl Single {
             let memory = black_box(&mut memory);
             black_box(match self.who {
                 Who::Engine => engine::open_schedule(memory, 0, &mut out),
-                Who::Reference => reply(reference::open_schedule(&memory.job, 0, &mut out)),
+                Who::Reference => plan_reply(reference::open_schedule(&memory.job, 0, &mut out)),
             });
         }
     }

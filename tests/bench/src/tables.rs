@@ -3,7 +3,7 @@
 use std::hint::black_box;
 use std::process::ExitCode;
 
-use cases::calls::{contract, record, reply};
+use cases::calls::{contract, plan_reply, record, reply};
 use cases::{Memory, Reply};
 
 use crate::jobs::{self, Kind, Order, ROAD_END};
@@ -73,7 +73,7 @@ fn agree() -> bool {
     groups().iter().flat_map(Group::jobs).all(|job| {
         let mut ours = vec![0; 8_192];
         let mut theirs = vec![0; 8_192];
-        let expected = reply(reference::plan(&job, 0, &mut ours));
+        let expected = plan_reply(reference::plan(&job, 0, &mut ours));
         engine::plan(&job, 0, &mut theirs) == expected && ours == theirs
     })
 }
@@ -330,8 +330,11 @@ fn measure_open_job(open: &jobs::Open) -> Vec<(&'static str, Times)> {
     let (mut engine_out, mut reference_out) = (vec![0; 8_192], vec![0; 8_192]);
     let schedule = on_memory(
         memory,
-        move |memory| engine::open_schedule(memory, 0, &mut engine_out),
-        move |memory| reply(reference::open_schedule(&memory.job, 0, &mut reference_out)),
+        move |memory| engine::open_schedule(memory, 0, &mut engine_out).reply(),
+        move |memory| {
+            let planned = reference::open_schedule(&memory.job, 0, &mut reference_out);
+            plan_reply(planned).reply()
+        },
     );
     // Refused 13 next after the test of the memory.
     let test = on_memory(

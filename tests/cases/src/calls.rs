@@ -5,15 +5,45 @@ use std::ops::Range;
 use reference::calls::MOST_RANGES;
 use reference::job::Hazard;
 use reference::memory;
-use reference::{Lookup, Outcome, Quantities, Refusal};
+use reference::{Lookup, Outcome, Planned, Quantities, Refusal};
 
-/// The reply of plan, level, quantity and the calls on an open job: number 0 with
-/// the bytes written, the level, the millimetres or 0, else the paper's refusal
-/// number with its value.
+/// The reply of level, quantity and the calls that change an open job: number 0
+/// with the level, the millimetres or 0, else the paper's refusal number with its
+/// value.
 #[derive(Clone, Copy, Debug, PartialEq, Eq)]
 pub struct Reply {
     pub number: u64,
     pub value: u64,
+}
+
+/// The reply of plan and of an open job's schedule: number 0 with the bytes
+/// written and the overhangs before A and behind B, else the refusal number with
+/// its value, and no overhangs.
+#[derive(Clone, Copy, Debug, PartialEq, Eq)]
+pub struct PlanReply {
+    pub number: u64,
+    pub value: u64,
+    pub before: u64,
+    pub after: u64,
+}
+
+impl PlanReply {
+    /// What every reply has.
+    pub fn reply(self) -> Reply {
+        let PlanReply { number, value, .. } = self;
+        Reply { number, value }
+    }
+}
+
+impl From<Reply> for PlanReply {
+    fn from(Reply { number, value }: Reply) -> PlanReply {
+        PlanReply {
+            number,
+            value,
+            before: 0,
+            after: 0,
+        }
+    }
 }
 
 /// The reply of lookup: number 0, 8 or 10; found 0 or 1; the record's bytes
@@ -61,7 +91,7 @@ impl Memory {
 
 /// Job, side, a room of bytes, and the part of the room that is lent as
 /// output; the rest of the room are guard bytes.
-pub type PlanCall = dyn Fn(&mut [u8], u64, &mut [u8], Range<usize>) -> Reply;
+pub type PlanCall = dyn Fn(&mut [u8], u64, &mut [u8], Range<usize>) -> PlanReply;
 
 /// Job, side, station.
 pub type LevelCall = dyn Fn(&mut [u8], u64, u64) -> Reply;
@@ -88,7 +118,7 @@ pub type WithdrawCall = dyn Fn(&mut Memory, u8) -> Reply;
 pub type StateCall = dyn Fn(&mut Memory, u64) -> Reply;
 
 /// The memory of an open job, side, a room of bytes and its lent part.
-pub type OpenScheduleCall = dyn Fn(&mut Memory, u64, &mut [u8], Range<usize>) -> Reply;
+pub type OpenScheduleCall = dyn Fn(&mut Memory, u64, &mut [u8], Range<usize>) -> PlanReply;
 
 /// The calls of the engine, or of something in its place. The inputs are lent
 /// so that they can be changed, for a call that changes them must be found.
@@ -109,7 +139,9 @@ pub struct Calls {
 /// The reference in the place of the engine.
 pub fn right() -> Calls {
     Calls {
-        plan: Box::new(|job, side, room, lent| reply(reference::plan(job, side, &mut room[lent]))),
+        plan: Box::new(|job, side, room, lent| {
+            plan_reply(reference::plan(job, side, &mut room[lent]))
+        }),
         level: Box::new(|job, side, station| reply(reference::level(job, side, station))),
         quantity: Box::new(|schedule, level, p, q| {
             reply(reference::quantity(schedule, level, p, q))
@@ -126,7 +158,7 @@ pub fn right() -> Calls {
         keep: Box::new(|memory, state| reply(reference::keep(&mut memory.job, state))),
         return_to: Box::new(|memory, state| reply(reference::return_to(&mut memory.job, state))),
         open_schedule: Box::new(|memory, side, room, lent| {
-            reply(reference::open_schedule(&memory.job, side, &mut room[lent]))
+            plan_reply(reference::open_schedule(&memory.job, side, &mut room[lent]))
         }),
     }
 }
@@ -135,6 +167,22 @@ pub fn reply(result: Result<u64, Refusal>) -> Reply {
     match result {
         Ok(value) => Reply { number: 0, value },
         Err(Refusal { number, value }) => Reply { number, value },
+    }
+}
+
+pub fn plan_reply(result: Result<Planned, Refusal>) -> PlanReply {
+    match result {
+        Ok(Planned {
+            written,
+            before,
+            after,
+        }) => PlanReply {
+            number: 0,
+            value: written,
+            before,
+            after,
+        },
+        Err(refusal) => reply(Err(refusal)).into(),
     }
 }
 

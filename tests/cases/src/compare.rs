@@ -8,7 +8,7 @@ use reference::calls::LONG_ENOUGH;
 use reference::job::{self, Hazard};
 use reference::memory::BYTES;
 
-use crate::calls::{self, Calls, Contract, GUARD, Memory, Record, Reply};
+use crate::calls::{self, Calls, Contract, GUARD, Memory, PlanReply, Record, Reply};
 use crate::hex;
 use crate::tally::Tally;
 
@@ -206,7 +206,7 @@ impl Checker {
         job: &[u8],
         side: u64,
         out_length: usize,
-    ) -> Result<Reply, Box<Difference>> {
+    ) -> Result<PlanReply, Box<Difference>> {
         self.fill += 1;
         self.plan_filled(job, side, out_length, self.fill)
     }
@@ -217,7 +217,7 @@ impl Checker {
         side: u64,
         out_length: usize,
         fill: u64,
-    ) -> Result<Reply, Box<Difference>> {
+    ) -> Result<PlanReply, Box<Difference>> {
         let case = || Case::Plan {
             job: job.to_vec(),
             side,
@@ -230,7 +230,7 @@ impl Checker {
         let mut room = filled_room(out_length, fill);
         let mut expected_room = room.clone();
         let output = &mut expected_room[lent.clone()];
-        let expected = calls::reply(reference::plan(job, side, output));
+        let expected = calls::plan_reply(reference::plan(job, side, output));
         let got = (self.calls.plan)(&mut lent_job, side, &mut room, lent.clone());
         self.tally.count(expected.number);
 
@@ -272,7 +272,7 @@ impl Checker {
                 .skip(GUARD)
                 .take(reply.value as usize)
                 .collect()),
-            _ => Err(reply),
+            _ => Err(reply.reply()),
         }
     }
 
@@ -424,33 +424,34 @@ impl Checker {
         let mut lent = Memory::new(memory);
         let mut expected_lent = lent.clone();
         let mut what = Vec::new();
-        let (expected, got, output) = match &step {
+        // The calls that change the open job reply without overhangs.
+        let (expected, got, output): (PlanReply, PlanReply, _) = match &step {
             Step::Open { bytes } => {
                 let mut lent_bytes = bytes.clone();
                 let expected = calls::reply(reference::open(&mut expected_lent.job, bytes));
                 let got = (self.calls.open)(&mut lent, &mut lent_bytes);
                 note_input(&mut what, "job", bytes, &lent_bytes);
-                (expected, got, None)
+                (expected.into(), got.into(), None)
             }
             Step::Add { name, hazard } => {
                 let expected = reference::add(&mut expected_lent.job, *name, *hazard);
                 let got = (self.calls.add)(&mut lent, *name, *hazard);
-                (calls::reply(expected), got, None)
+                (calls::reply(expected).into(), got.into(), None)
             }
             Step::Withdraw { name } => {
                 let expected = reference::withdraw(&mut expected_lent.job, *name);
                 let got = (self.calls.withdraw)(&mut lent, *name);
-                (calls::reply(expected), got, None)
+                (calls::reply(expected).into(), got.into(), None)
             }
             Step::Keep { state } => {
                 let expected = reference::keep(&mut expected_lent.job, *state);
                 let got = (self.calls.keep)(&mut lent, *state);
-                (calls::reply(expected), got, None)
+                (calls::reply(expected).into(), got.into(), None)
             }
             Step::Return { state } => {
                 let expected = reference::return_to(&mut expected_lent.job, *state);
                 let got = (self.calls.return_to)(&mut lent, *state);
-                (calls::reply(expected), got, None)
+                (calls::reply(expected).into(), got.into(), None)
             }
             Step::Schedule {
                 side,
@@ -465,7 +466,7 @@ impl Checker {
                 let got = (self.calls.open_schedule)(&mut lent, *side, &mut room, part.clone());
                 note_room(&mut what, &expected_room, &room, &part);
                 let outputs = (expected_room[part.clone()].to_vec(), room[part].to_vec());
-                (calls::reply(expected), got, Some(outputs))
+                (calls::plan_reply(expected), got, Some(outputs))
             }
         };
         self.tally.count(expected.number);
@@ -474,7 +475,7 @@ impl Checker {
         note_memory(&mut what, &expected_lent, &lent);
         if what.is_empty() {
             *memory = expected_lent.job;
-            return Ok(expected);
+            return Ok(expected.reply());
         }
         let (reference, engine) = output.unzip();
         let reference = reply_and_memory(expected, &expected_lent, reference);
@@ -601,15 +602,17 @@ fn reply_text(reply: Reply) -> String {
     format!("number {} value {}", reply.number, reply.value)
 }
 
-fn reply_and_output(reply: Reply, output: &[u8]) -> String {
-    format!("{}, output {}", reply_text(reply), hex::write(output))
+fn reply_and_output(reply: PlanReply, output: &[u8]) -> String {
+    let PlanReply { before, after, .. } = reply;
+    let (reply, output) = (reply_text(reply.reply()), hex::write(output));
+    format!("{reply} before {before} after {after}, output {output}")
 }
 
-fn reply_and_memory(reply: Reply, memory: &Memory, output: Option<Vec<u8>>) -> String {
+fn reply_and_memory(reply: PlanReply, memory: &Memory, output: Option<Vec<u8>>) -> String {
     let memory = hex::write_memory(&memory.job);
     match output {
         Some(output) => format!("{}, open job {memory}", reply_and_output(reply, &output)),
-        None => format!("{}, open job {memory}", reply_text(reply)),
+        None => format!("{}, open job {memory}", reply_text(reply.reply())),
     }
 }
 

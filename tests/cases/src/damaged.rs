@@ -243,7 +243,7 @@ impl Damage<'_> {
 
     /// A road that just has every envelope, and one a millimetre shorter; then
     /// one that just has every envelope as it is before it is raised to whole
-    /// panels.
+    /// panels; then one that just has every hazard.
     fn narrowed_road(&mut self) -> Outcome {
         let rows = rows(self.open);
         let hazards: Vec<[u64; FIELDS]> = rows
@@ -259,11 +259,12 @@ impl Damage<'_> {
             panel: 1,
             ..job.clone()
         };
+        let mut taken = vec![jobs::taken(&hazards, &[])];
         for job in [job, before_raising] {
             let envelopes = envelope::envelopes(&job).expect("the hazards are accepted");
-            let Some(Stretch { start, end }) = jobs::taken(&hazards, &envelopes) else {
-                continue;
-            };
+            taken.push(jobs::taken(&hazards, &envelopes));
+        }
+        for Stretch { start, end } in taken.into_iter().flatten() {
             for (place, value) in [(A, start), (A, start + 1), (B, end), (B, end - 1)] {
                 self.number(4 * place, value)?;
             }

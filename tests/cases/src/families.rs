@@ -145,6 +145,8 @@ fn paper_jobs() -> Vec<Draft> {
         k2.clone().with_hazard(S, 67_333),
         k4.clone().with(B, 238_056),
         k4.clone().with(B, 238_055),
+        k4.clone().with(A, 200_000).with(B, 210_000),
+        k4.clone().with_hazard(S, 0).with_hazard(E, 1_000_000),
         k9(49_999),
         k9(50_000),
         k10(50),
@@ -289,7 +291,7 @@ fn every_place(checker: &mut Checker, random: &mut Random) -> Outcome {
 
 /// For every number of a job: the bytes end before and inside it, it has a
 /// wrong form (with and without bytes behind it), it is out of range. Then
-/// bytes left over, and each hazard too near and off the road.
+/// bytes left over, and each hazard too near, off the road, and both.
 fn every_place_of(checker: &mut Checker, random: &mut Random, draft: &Draft) -> Outcome {
     let numbers = draft.numbers();
     for place in 0..numbers.len() {
@@ -337,7 +339,8 @@ fn left_over(checker: &mut Checker, random: &mut Random, job: &[u8]) -> Outcome 
     plan_both_sides(checker, random, &long)
 }
 
-/// One hazard of a job at each end of its road and beyond it.
+/// One hazard of a job at each end of its road and beyond it; several hazards,
+/// at both ends; many hazards; levels there.
 fn road_ends(checker: &mut Checker, random: &mut Random) -> Outcome {
     for _ in 0..100 {
         let mut draft = accepted(random, 1, 6);
@@ -345,6 +348,21 @@ fn road_ends(checker: &mut Checker, random: &mut Random) -> Outcome {
         for moved in jobs::at_road_ends(&draft, draft.hazards[hazard]) {
             draft.hazards[hazard] = moved;
             plan_both_sides(checker, random, &draft.bytes())?;
+        }
+        some_levels(checker, random, &draft)?;
+    }
+    for _ in 0..100 {
+        let mut draft = accepted(random, 2, 12);
+        jobs::bring_to_road_ends(&mut draft, random);
+        for side in 0..2 {
+            plan_all_lengths(checker, &draft.bytes(), side)?;
+        }
+    }
+    for count in [100, 256] {
+        for mut draft in [jobs::dense(random, count), jobs::sparse(random, count)] {
+            jobs::bring_to_road_ends(&mut draft, random);
+            plan_both_sides(checker, random, &draft.bytes())?;
+            some_levels(checker, random, &draft)?;
         }
     }
     Ok(())

@@ -16,7 +16,7 @@ pub enum Fault {
     LeftOver,
     /// A reached hazard is too near.
     Near,
-    /// An envelope leaves the road.
+    /// An envelope leaves the road: no fault by itself, and it hides none.
     Off,
     /// A hazard is too near and its envelope leaves the road.
     NearAndOff,

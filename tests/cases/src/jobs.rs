@@ -85,6 +85,9 @@ fn job_in(world: &World, random: &mut Random, count: u64) -> Draft {
     if random.percent(40) {
         tighten(&mut draft, random);
     }
+    if random.percent(25) {
+        bring_to_road_ends(&mut draft, random);
+    }
     draft
 }
 
@@ -319,7 +322,7 @@ fn envelope_of(draft: &Draft, index: usize) -> Option<Envelope> {
 }
 
 /// Sets G to a gap of the job or one more, or the road's ends to the ends of
-/// its envelopes or one inside.
+/// its envelopes, one inside, or anywhere outside its hazards.
 fn tighten(draft: &mut Draft, random: &mut Random) {
     let Some(envelopes) = envelopes(draft) else {
         return;
@@ -354,9 +357,19 @@ fn tighten_continuity(draft: &mut Draft, envelopes: &[Envelope], random: &mut Ra
 }
 
 fn tighten_road(draft: &mut Draft, envelopes: &[Envelope], random: &mut Random) {
-    if let Some(taken) = taken(&draft.hazards, envelopes) {
-        draft.header[A] = taken.start + u64::from(random.percent(20));
-        draft.header[B] = taken.end - u64::from(random.percent(20));
+    if let (Some(hazards), Some(all)) =
+        (taken(&draft.hazards, &[]), taken(&draft.hazards, envelopes))
+    {
+        draft.header[A] = match random.below(10) {
+            0..=1 => all.start + 1,
+            2..=4 => random.edgy(all.start, hazards.start),
+            _ => all.start,
+        };
+        draft.header[B] = match random.below(10) {
+            0..=1 => all.end - 1,
+            2..=4 => random.edgy(hazards.end, all.end),
+            _ => all.end,
+        };
     }
     if draft.header[A] >= draft.header[B] {
         draft.header[B] = draft.header[A] + 1;
@@ -372,8 +385,23 @@ pub fn taken(hazards: &[[u64; FIELDS]], envelopes: &[Envelope]) -> Option<Stretc
     all.reduce(|a, b| Stretch::new(a.start.min(b.start), a.end.max(b.end)))
 }
 
+/// Moves some hazards to the road's ends.
+pub fn bring_to_road_ends(draft: &mut Draft, random: &mut Random) {
+    for _ in 0..random.between(1, 6) {
+        if draft.hazards.is_empty() {
+            return;
+        }
+        let hazard = random.index(draft.hazards.len());
+        let moved = at_road_ends(draft, draft.hazards[hazard]);
+        if !moved.is_empty() {
+            draft.hazards[hazard] = random.pick(&moved);
+        }
+    }
+}
+
 /// The hazard moved to each end of the road: so that its envelope ends there, is
-/// a millimetre beyond, or ends there before it is raised to whole panels.
+/// a millimetre beyond, ends there before it is raised to whole panels, passes
+/// it by half of its approach, or by all of it.
 pub fn at_road_ends(draft: &Draft, fields: [u64; FIELDS]) -> Vec<[u64; FIELDS]> {
     let alone = draft.clone().with_hazards(&[fields]);
     let Ok(job) = job::read(&alone.bytes()) else {
@@ -384,11 +412,19 @@ pub fn at_road_ends(draft: &Draft, fields: [u64; FIELDS]) -> Vec<[u64; FIELDS]> 
     for approach in envelope::approaches(&job, &job.hazards[0]) {
         let in_panels = envelope::length(&job, &approach);
         let before = envelope::before_raising(&job, &approach);
-        for away in [in_panels, in_panels.saturating_sub(1), before] {
+        let room = job.road_end - job.road_begin - length;
+        for away in [
+            in_panels,
+            in_panels.saturating_sub(1),
+            before,
+            in_panels / 2,
+            0,
+        ] {
+            let away = away.min(room);
             let mut moved = fields;
             moved[S] = match approach.direction {
                 Direction::Forward => job.road_begin + away,
-                Direction::Opposite => job.road_end.saturating_sub(away + length),
+                Direction::Opposite => job.road_end - away - length,
             };
             moved[E] = moved[S] + length;
             list.push(moved);

@@ -141,10 +141,11 @@ impl Open {
             checker.open_schedule(&self.memory, side, schedule.len())?;
             // Each agreed with the reference, so this asks the reference alone.
             let mut out = vec![0; schedule.len()];
-            let reply = reference::open_schedule(&self.memory, side, &mut out);
-            assert_eq!(reply, Ok(schedule.len() as u64));
+            let planned = reference::plan(&job, side, &mut schedule.clone());
+            let of_open_job = reference::open_schedule(&self.memory, side, &mut out);
             assert_eq!(
-                out, schedule,
+                (of_open_job, out),
+                (planned, schedule),
                 "the reference's open job differs from its plan"
             );
         }
@@ -253,8 +254,8 @@ fn few_names(random: &mut Random) -> Vec<u8> {
 }
 
 /// At times a field at an end of its range or beyond it, one that 32 bits or
-/// one byte do not hold, a hazard too near or off the road, or one at an end of
-/// the road.
+/// one byte do not hold, a hazard too near, one whose envelope leaves the road,
+/// or one at an end of the road.
 fn faulty(random: &mut Random, draft: &Draft, fields: [u64; FIELDS]) -> [u64; FIELDS] {
     let mut changed = fields;
     match random.below(12) {

@@ -3,6 +3,9 @@
 
 use std::fmt;
 
+/// A number of the table that no call returns.
+pub const NO_REFUSAL: usize = 6;
+
 #[derive(Default)]
 pub struct Tally {
     families: Vec<(&'static str, u64)>,
@@ -61,7 +64,9 @@ impl fmt::Display for Tally {
         writeln!(f, "{:>9}  cases in all", self.cases())?;
         write!(f, "outcomes: {} without a refusal", self.outcomes[0])?;
         for (number, cases) in self.outcomes.iter().enumerate().skip(1) {
-            write!(f, ", {cases} refused {number}")?;
+            if number != NO_REFUSAL {
+                write!(f, ", {cases} refused {number}")?;
+            }
         }
         writeln!(f, "; most runs in a schedule: {}", self.most_runs)
     }

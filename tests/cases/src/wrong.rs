@@ -5,19 +5,19 @@ use std::ops::Range;
 
 use reference::approach::{Flare, formula, fraction, raised, whole};
 use reference::calls::MOST_RANGES;
-use reference::envelope::{self, Approach, Direction, Envelope, Lengthening};
+use reference::envelope::{self, Approach, Direction, Envelope, Lengthening, Overhang};
 use reference::job::{self, Hazard, Job, Reader};
 use reference::level::{self, Required, Run};
 use reference::{
-    Outcome, Quantities, Refusal, Stretch, lookup, number, quantities, quantity, schedule,
+    Outcome, Planned, Quantities, Refusal, Stretch, lookup, number, quantities, quantity, schedule,
 };
 
 use crate::calls::{
-    Calls, Contract, PlanCall, QuantitiesCall, QuantityCall, Record, Reply, contract, record,
-    reply, right,
+    Calls, Contract, PlanCall, PlanReply, QuantitiesCall, QuantityCall, Record, Reply, contract,
+    plan_reply, record, reply, right,
 };
 use crate::draft::{G, KIND, PANEL, number_bytes};
-use crate::{wrong_level, wrong_memory, wrong_open, wrong_states};
+use crate::{wrong_level, wrong_memory, wrong_open, wrong_overhang, wrong_states};
 
 /// Every wrong engine with the name of its slip.
 pub fn all() -> Vec<(&'static str, Calls)> {
@@ -37,10 +37,11 @@ pub fn all() -> Vec<(&'static str, Calls)> {
     list.extend(wrong_open::all());
     list.extend(wrong_memory::all());
     list.extend(wrong_states::all());
+    list.extend(wrong_overhang::all());
     list
 }
 
-fn with_plan(plan: Box<PlanCall>) -> Calls {
+pub fn with_plan(plan: Box<PlanCall>) -> Calls {
     Calls { plan, ..right() }
 }
 
@@ -75,9 +76,9 @@ pub struct Rules {
     pub raise: fn(&Job, &Approach, u64) -> u64,
     /// A raising of what both traffics' lengths make together.
     pub raise_both: fn(&Job, &Hazard, Lengthening) -> Lengthening,
-    /// Whether the envelope is looked at for refusal 6 before it is raised.
-    pub refused_before_raising: bool,
     pub refuse: fn(&Job, usize, &Hazard, &Lengthening) -> Result<(), Refusal>,
+    /// What is made of an envelope that is cut at the road's ends.
+    pub after_cut: fn(&Hazard, &mut Envelope),
     pub runs: fn(&[Envelope], &Job) -> Vec<Run>,
     /// Whether the hazards are looked at before the bytes left over.
     pub hazards_before_left_over: bool,
@@ -92,8 +93,8 @@ pub const RIGHT: Rules = Rules {
     length: envelope::before_raising,
     raise: |job, _, length| raised(length, job.panel),
     raise_both: |_, _, longer| longer,
-    refused_before_raising: false,
-    refuse: five_before_six,
+    refuse: |job, index, hazard, _| too_near(job, index, hazard),
+    after_cut: |_, _| (),
     runs: |envelopes, job| Required::new(envelopes, job.continuity).runs(),
     hazards_before_left_over: false,
     both_sides: true,
@@ -101,14 +102,30 @@ pub const RIGHT: Rules = Rules {
 };
 
 /// Planning by these rules.
-fn by(rules: Rules) -> Calls {
+pub fn by(rules: Rules) -> Calls {
     with_plan(Box::new(move |job, side, room, lent| {
-        let runs = runs_by(&rules, job, side);
-        reply(runs.and_then(|runs| put(&schedule::writing(&runs), &mut room[lent])))
+        let planned = runs_and_overhang_by(&rules, job, side);
+        plan_reply(planned.and_then(|(runs, Overhang { before, after })| {
+            let written = put(&schedule::writing(&runs), &mut room[lent])?;
+            Ok(Planned {
+                written,
+                before,
+                after,
+            })
+        }))
     }))
 }
 
 pub fn runs_by(rules: &Rules, bytes: &[u8], side: u64) -> Result<Vec<Run>, Refusal> {
+    let (runs, _) = runs_and_overhang_by(rules, bytes, side)?;
+    Ok(runs)
+}
+
+fn runs_and_overhang_by(
+    rules: &Rules,
+    bytes: &[u8],
+    side: u64,
+) -> Result<(Vec<Run>, Overhang), Refusal> {
     if side > 1 {
         return Err(Refusal::argument());
     }
@@ -127,7 +144,8 @@ pub fn runs_by(rules: &Rules, bytes: &[u8], side: u64) -> Result<Vec<Run>, Refus
         rest?;
         envelopes?
     };
-    Ok((rules.runs)(&envelopes, &job))
+    let runs = (rules.runs)(&envelopes, &job);
+    Ok((runs, envelope::greatest_overhang(&envelopes)))
 }
 
 fn put(bytes: &[u8], out: &mut [u8]) -> Result<u64, Refusal> {
@@ -159,23 +177,17 @@ fn envelope_by(
     if approaches.is_empty() && !rules.unreached {
         return Ok(None);
     }
-    let before = lengthening_by(&approaches, |approach| (rules.length)(job, approach));
     let each = lengthening_by(&approaches, |approach| {
         (rules.raise)(job, approach, (rules.length)(job, approach))
     });
-    let mut longer = (rules.raise_both)(job, hazard, each);
-    let refused = if rules.refused_before_raising {
-        &before
-    } else {
-        &longer
-    };
-    (rules.refuse)(job, index, hazard, refused)?;
+    let longer = (rules.raise_both)(job, hazard, each);
+    (rules.refuse)(job, index, hazard, &longer)?;
     if approaches.is_empty() {
         return Ok(None);
     }
-    // A slip may let an envelope begin before station 0.
-    longer.lower = longer.lower.min(hazard.start);
-    Ok(Some(envelope::lengthened(hazard, &longer)))
+    let mut envelope = envelope::cut(job, hazard, &longer);
+    (rules.after_cut)(hazard, &mut envelope);
+    Ok(Some(envelope))
 }
 
 fn lengthening_by(approaches: &[Approach], length: impl Fn(&Approach) -> u64) -> Lengthening {
@@ -189,31 +201,12 @@ fn lengthening_by(approaches: &[Approach], length: impl Fn(&Approach) -> u64) ->
     longer
 }
 
-fn five_before_six(
-    job: &Job,
-    index: usize,
-    hazard: &Hazard,
-    longer: &Lengthening,
-) -> Result<(), Refusal> {
-    if envelope::too_near(job, hazard) {
-        return Err(Refusal::too_near(index));
+/// Refusal 5.
+pub fn too_near(job: &Job, index: usize, hazard: &Hazard) -> Result<(), Refusal> {
+    match envelope::too_near(job, hazard) {
+        true => Err(Refusal::too_near(index)),
+        false => Ok(()),
     }
-    if envelope::off_road(job, hazard, longer) {
-        return Err(Refusal::off_road(index));
-    }
-    Ok(())
-}
-
-fn six_before_five(
-    job: &Job,
-    index: usize,
-    hazard: &Hazard,
-    longer: &Lengthening,
-) -> Result<(), Refusal> {
-    if envelope::off_road(job, hazard, longer) {
-        return Err(Refusal::off_road(index));
-    }
-    five_before_six(job, index, hazard, longer)
 }
 
 // The six slips from drawing practice.
@@ -634,13 +627,6 @@ fn wrong_panels() -> Vec<(&'static str, Calls)> {
                 at_an_end(longer, raised(whole, job.panel) - whole)
             }),
         ),
-        (
-            "refusal 6 by the envelope before it is raised",
-            by(Rules {
-                refused_before_raising: true,
-                ..RIGHT
-            }),
-        ),
     ]
 }
 
@@ -812,6 +798,7 @@ pub fn each_level_alone(envelopes: &[Envelope], job: &Job) -> Vec<Run> {
             side: 0,
             stretch,
             level: v,
+            overhang: Overhang::default(),
         }));
     }
     Required::new(&filled, 0).runs()
@@ -857,16 +844,9 @@ fn without_level_6(envelopes: &[Envelope], job: &Job) -> Vec<Run> {
 fn wrong_refusals() -> Vec<(&'static str, Calls)> {
     vec![
         (
-            "refusals 5 and 6 before 7",
+            "refusal 5 before 7",
             by(Rules {
                 hazards_before_left_over: true,
-                ..RIGHT
-            }),
-        ),
-        (
-            "refusal 6 before 5",
-            by(Rules {
-                refuse: six_before_five,
                 ..RIGHT
             }),
         ),
@@ -892,24 +872,10 @@ fn wrong_refusals() -> Vec<(&'static str, Calls)> {
             }),
         ),
         (
-            "an envelope from A itself refused 6",
-            by(Rules {
-                refuse: refuse_at_road_begin,
-                ..RIGHT
-            }),
-        ),
-        (
-            "an envelope past B not refused",
-            by(Rules {
-                refuse: refuse_before_road_only,
-                ..RIGHT
-            }),
-        ),
-        (
             "every number's form before any range",
             with_plan(plan_after(form_first)),
         ),
-        ("refusal 9 before 5 and 6", with_plan(output_first())),
+        ("refusal 9 before 5", with_plan(output_first())),
         ("the job before the side", with_plan(side_last())),
         (
             "non-shortest numbers accepted in a job",
@@ -955,7 +921,7 @@ fn wrong_refusals() -> Vec<(&'static str, Calls)> {
         (
             "hazards counted from 1",
             changed_reply(|reply, _, _| {
-                if (4..=6).contains(&reply.number) {
+                if (4..=5).contains(&reply.number) {
                     reply.value += 1;
                 }
             }),
@@ -983,38 +949,12 @@ fn refuse_at_equal(
     job: &Job,
     index: usize,
     hazard: &Hazard,
-    longer: &Lengthening,
+    _: &Lengthening,
 ) -> Result<(), Refusal> {
     if hazard.near == job.barrier_offset + job.deflection {
         return Err(Refusal::too_near(index));
     }
-    five_before_six(job, index, hazard, longer)
-}
-
-fn refuse_at_road_begin(
-    job: &Job,
-    index: usize,
-    hazard: &Hazard,
-    longer: &Lengthening,
-) -> Result<(), Refusal> {
-    five_before_six(job, index, hazard, longer)?;
-    if hazard.start - longer.lower == job.road_begin {
-        return Err(Refusal::off_road(index));
-    }
-    Ok(())
-}
-
-fn refuse_before_road_only(
-    job: &Job,
-    index: usize,
-    hazard: &Hazard,
-    longer: &Lengthening,
-) -> Result<(), Refusal> {
-    let lower_only = Lengthening {
-        higher: 0,
-        ..*longer
-    };
-    five_before_six(job, index, hazard, &lower_only)
+    too_near(job, index, hazard)
 }
 
 /// The right plan, unless another refusal is seen first.
@@ -1023,7 +963,7 @@ fn plan_after(first: fn(&[u8]) -> Result<(), Refusal>) -> Box<PlanCall> {
         if side <= 1
             && let Err(refusal) = first(job)
         {
-            return reply(Err(refusal));
+            return plan_reply(Err(refusal));
         }
         (right().plan)(job, side, room, lent)
     })
@@ -1046,11 +986,8 @@ fn form_first(job: &[u8]) -> Result<(), Refusal> {
 fn output_first() -> Box<PlanCall> {
     Box::new(|job, side, room, lent| {
         let mut reply = (right().plan)(job, side, room, lent.clone());
-        if lent.is_empty() && (reply.number == 5 || reply.number == 6) {
-            reply = Reply {
-                number: 9,
-                value: 1,
-            };
+        if lent.is_empty() && reply.number == 5 {
+            (reply.number, reply.value) = (9, 1);
         }
         reply
     })
@@ -1061,7 +998,7 @@ fn side_last() -> Box<PlanCall> {
         if side > 1
             && let Err(refusal) = reference::calls::runs(job, 0)
         {
-            return reply(Err(refusal));
+            return plan_reply(Err(refusal));
         }
         (right().plan)(job, side, room, lent)
     })
@@ -1097,7 +1034,7 @@ fn shortest(bytes: &[u8]) -> Option<Vec<u8>> {
 }
 
 /// The right plan with its reply changed.
-fn changed_reply(change: fn(&mut Reply, &[u8], Range<usize>)) -> Calls {
+fn changed_reply(change: fn(&mut PlanReply, &[u8], Range<usize>)) -> Calls {
     with_plan(Box::new(move |job, side, room, lent| {
         let mut reply = (right().plan)(job, side, room, lent.clone());
         change(&mut reply, job, lent);
@@ -1185,7 +1122,7 @@ fn wrong_memory() -> Vec<(&'static str, Calls)> {
 fn changed_room(change: fn(Reply, &mut [u8], Range<usize>)) -> Calls {
     with_plan(Box::new(move |job, side, room, lent| {
         let reply = (right().plan)(job, side, room, lent.clone());
-        change(reply, room, lent);
+        change(reply.reply(), room, lent);
         reply
     }))
 }

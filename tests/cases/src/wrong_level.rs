@@ -97,7 +97,7 @@ fn wrong_rules() -> Vec<(&'static str, Calls)> {
             }),
         ),
         (
-            "level: refusals 5 and 6 before 7",
+            "level: refusal 5 before 7",
             by(Rules {
                 hazards_before_left_over: true,
                 ..RIGHT
@@ -212,7 +212,7 @@ fn wrong_refusals() -> Vec<(&'static str, Calls)> {
         (
             "level: 0 after a refusal that is not of the number form",
             after(|reply, _, _| {
-                if (3..=6).contains(&reply.number) {
+                if (3..=5).contains(&reply.number) {
                     (reply.number, reply.value) = (0, 0);
                 }
             }),

@@ -7,13 +7,11 @@ use reference::memory::{
     BYTES, HEADER, HEADER_BYTES, NOW_BYTES, PLACE_BYTES, PLACES, ROW_BYTES, STATE_BYTES, all_0,
 };
 use reference::open::STATES;
-use reference::{Refusal, add, keep, open_schedule, return_to, withdraw};
+use reference::{add, keep, open_schedule, return_to, withdraw};
 
-use crate::calls::{Calls, Memory, Reply, reply, right};
+use crate::calls::{Calls, Memory, Reply, plan_reply, reply, right};
 use crate::draft::{KIND, PANEL, header_range};
-use crate::wrong_open::{
-    BROKEN, DONE, four_at, number_at, set_number, with_add, with_schedule, with_withdraw,
-};
+use crate::wrong_open::{BROKEN, DONE, four_at, number_at, with_add, with_schedule, with_withdraw};
 use crate::wrong_states::{with_keep, with_return};
 
 /// Every wrong test with the name of its slip.
@@ -44,10 +42,9 @@ enum Rule {
     Twice,
     /// Names rise.
     Order,
-    /// Refusals 4, 5 and 6 of a hazard that stands.
+    /// Refusals 4 and 5 of a hazard that stands.
     Field,
     Near,
-    OffRoad,
     /// A place that is not used is all 0, and so is a state that is not kept.
     Unused,
 }
@@ -180,11 +177,8 @@ fn broken_by(header: &Job, hazard: &Hazard) -> Option<Rule> {
     if !job::in_range(header, hazard) {
         return Some(Rule::Field);
     }
-    match envelope::envelope(header, 0, hazard) {
-        Err(Refusal { number: 5, .. }) => Some(Rule::Near),
-        Err(_) => Some(Rule::OffRoad),
-        Ok(_) => None,
-    }
+    let refused = envelope::envelope(header, 0, hazard).is_err();
+    refused.then_some(Rule::Near)
 }
 
 fn untested_by_a_call() -> Vec<(&'static str, Calls)> {
@@ -196,7 +190,7 @@ fn untested_by_a_call() -> Vec<(&'static str, Calls)> {
             "the memory not tested by keep",
             "the memory not tested by a return",
         ],
-        |memory| !broken(&memory.job).is_empty(),
+        || untested(|memory| !broken(&memory.job).is_empty()),
     );
     list.extend(one_call_each(
         [
@@ -206,7 +200,7 @@ fn untested_by_a_call() -> Vec<(&'static str, Calls)> {
             "the kept states not tested by keep",
             "the kept states not tested by a return",
         ],
-        |memory| breaks(memory, |breach| breach.kept),
+        || untested(|memory| breaks(memory, |breach| breach.kept)),
     ));
     list.push((
         "broken memory refused with the header number",
@@ -221,19 +215,19 @@ fn untested_by_a_call() -> Vec<(&'static str, Calls)> {
     list
 }
 
-/// This memory is taken by add, withdraw, schedule, keep or return alone.
-fn one_call_each(
+/// These calls in the place of add, withdraw, schedule, keep or return alone.
+pub fn one_call_each(
     names: [&'static str; 5],
-    passed_over: impl Fn(&Memory) -> bool + Copy + 'static,
+    calls: impl Fn() -> Calls,
 ) -> Vec<(&'static str, Calls)> {
-    let calls = [
-        with_add(untested(passed_over).add),
-        with_withdraw(untested(passed_over).withdraw),
-        with_schedule(untested(passed_over).open_schedule),
-        with_keep(untested(passed_over).keep),
-        with_return(untested(passed_over).return_to),
+    let alone = [
+        with_add(calls().add),
+        with_withdraw(calls().withdraw),
+        with_schedule(calls().open_schedule),
+        with_keep(calls().keep),
+        with_return(calls().return_to),
     ];
-    names.into_iter().zip(calls).collect()
+    names.into_iter().zip(alone).collect()
 }
 
 fn untested_rules() -> Vec<(&'static str, Calls)> {
@@ -251,15 +245,9 @@ fn untested_rules() -> Vec<(&'static str, Calls)> {
         ("names out of order in the memory taken", Rule::Order),
         ("fields of hazards in the memory not tested", Rule::Field),
         ("a hazard too near in the memory taken", Rule::Near),
-        ("a hazard off the road in the memory taken", Rule::OffRoad),
         ("places that are not used not tested", Rule::Unused),
     ];
-    let mut list = one_rule_each(&names, false);
-    list.push((
-        "the panel length passed over in the test of the memory",
-        untested(|memory| off_road_when_raised(memory, false)),
-    ));
-    list
+    one_rule_each(&names, false)
 }
 
 fn untested_kept_rules() -> Vec<(&'static str, Calls)> {
@@ -271,15 +259,9 @@ fn untested_kept_rules() -> Vec<(&'static str, Calls)> {
         ("kept names out of order taken", Rule::Order),
         ("fields of kept hazards not tested", Rule::Field),
         ("a kept hazard too near taken", Rule::Near),
-        ("a kept hazard off the road taken", Rule::OffRoad),
         ("what is not used in states not tested", Rule::Unused),
     ];
-    let mut list = one_rule_each(&names, true);
-    list.push((
-        "the panel length passed over in the test of kept hazards",
-        untested(|memory| off_road_when_raised(memory, true)),
-    ));
-    list
+    one_rule_each(&names, true)
 }
 
 /// Memory that breaks one of these rules alone is taken.
@@ -297,16 +279,6 @@ fn one_rule_each(names: &[(&'static str, Rule)], kept: bool) -> Vec<(&'static st
 fn breaks(memory: &Memory, way: impl Fn(&Breach) -> bool) -> bool {
     let broken = broken(&memory.job);
     !broken.is_empty() && broken.iter().all(way)
-}
-
-/// Whether all is well but for hazards that leave the road when they are raised
-/// to whole panels.
-fn off_road_when_raised(memory: &Memory, kept: bool) -> bool {
-    let mut before_raising = memory.clone();
-    set_number(&mut before_raising, PANEL, 1);
-    let rule = Rule::OffRoad;
-    breaks(memory, |breach| *breach == Breach { rule, kept })
-        && broken(&before_raising.job).is_empty()
 }
 
 /// This memory is taken by every call: nothing is done with it, and the reply
@@ -334,8 +306,11 @@ fn untested(passed_over: impl Fn(&Memory) -> bool + Copy + 'static) -> Calls {
             taken(memory, reply)
         }),
         open_schedule: Box::new(move |memory, side, room, lent| {
-            let reply = reply(open_schedule(&memory.job, side, &mut room[lent]));
-            taken(memory, reply)
+            let reply = plan_reply(open_schedule(&memory.job, side, &mut room[lent]));
+            match taken(memory, reply.reply()) {
+                DONE => DONE.into(),
+                _ => reply,
+            }
         }),
         ..right()
     }

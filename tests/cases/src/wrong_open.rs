@@ -1,13 +1,15 @@
 //! Open jobs with one slip each. The test has to find every one of them.
 
+use std::ops::Range;
+
+use reference::calls::plan_job;
 use reference::envelope;
 use reference::job::{self, Hazard, Job};
-use reference::level::Required;
 use reference::memory::{self, BYTES, HEADER, HEADER_BYTES, NOW_BYTES, PLACE_BYTES, PLACES};
-use reference::{OpenJob, Refusal, add, open, open_schedule, planned, schedule, withdraw};
+use reference::{OpenJob, Refusal, add, open, open_schedule, planned, withdraw};
 
-use crate::calls::{AddCall, Calls, Memory, OpenCall, OpenScheduleCall, Reply, WithdrawCall};
-use crate::calls::{reply, right};
+use crate::calls::{AddCall, Calls, Memory, OpenCall, OpenScheduleCall, WithdrawCall};
+use crate::calls::{PlanReply, Reply, plan_reply, reply, right};
 use crate::draft::{Draft, KIND, PANEL};
 
 /// Every wrong open job with the name of its slip.
@@ -98,7 +100,7 @@ fn wrong_adds() -> Vec<(&'static str, Calls)> {
             "a refused add leaves its hazard behind the others",
             after(|reply, memory, name, hazard| {
                 let last = count(memory);
-                if (4..=6).contains(&reply.number) && last < PLACES {
+                if (4..=5).contains(&reply.number) && last < PLACES {
                     place(memory, last).copy_from_slice(&place_bytes(name, &hazard));
                 }
             }),
@@ -106,7 +108,7 @@ fn wrong_adds() -> Vec<(&'static str, Calls)> {
         (
             "a refused add leaves the count raised",
             after(|reply, memory, _, _| {
-                if reply.number == 6 {
+                if reply.number == 5 {
                     memory.job[HEADER_BYTES - 4] += 1;
                 }
             }),
@@ -121,7 +123,7 @@ fn wrong_adds() -> Vec<(&'static str, Calls)> {
             }),
         ),
         (
-            "refusals 5 and 6 before 12",
+            "refusal 5 before 12",
             after(|reply, memory, name, hazard| {
                 let Some(open) = memory::read(&memory.job) else {
                     return;
@@ -135,9 +137,9 @@ fn wrong_adds() -> Vec<(&'static str, Calls)> {
             }),
         ),
         (
-            "refusals 4 to 6 with the index in place of the name",
+            "refusals 4 and 5 with the index in place of the name",
             after(|reply, memory, _, _| {
-                if (4..=6).contains(&reply.number) {
+                if (4..=5).contains(&reply.number) {
                     reply.value = count(memory) as u64;
                 }
             }),
@@ -253,32 +255,6 @@ fn wrong_adds() -> Vec<(&'static str, Calls)> {
             }),
         ),
         (
-            "refusal 6 before 5 in an open job",
-            after(|reply, memory, name, hazard| {
-                if let (5, Some(open)) = (reply.number, memory::read(&memory.job)) {
-                    let approaches = envelope::approaches(&open.header, &hazard);
-                    let longer = envelope::lengthening(&open.header, &approaches);
-                    if envelope::off_road(&open.header, &hazard, &longer) {
-                        (reply.number, reply.value) = (6, name.into());
-                    }
-                }
-            }),
-        ),
-        (
-            "the panel length passed over in add",
-            other(|memory, name, hazard| {
-                let reply = reply(add(&mut memory.job, name, hazard));
-                if let (6, Some(mut open)) = (reply.number, memory::read(&memory.job))
-                    && envelope::envelope(&in_no_panels(&open.header), 0, &hazard).is_ok()
-                {
-                    open.standing.insert(name, hazard);
-                    memory::write(&open, &mut memory.job);
-                    return DONE;
-                }
-                reply
-            }),
-        ),
-        (
             "the name before the memory in add",
             after(|reply, memory, name, _| {
                 if *reply == BROKEN && name_stands(&memory.job, name) {
@@ -298,7 +274,7 @@ fn wrong_adds() -> Vec<(&'static str, Calls)> {
 }
 
 /// The same job with approaches as they are before they are raised.
-fn in_no_panels(job: &Job) -> Job {
+pub fn in_no_panels(job: &Job) -> Job {
     Job {
         panel: 1,
         ..job.clone()
@@ -466,26 +442,37 @@ fn gone_for_good() -> Calls {
 // Schedule.
 
 fn wrong_schedules() -> Vec<(&'static str, Calls)> {
-    // Another job planned in place of the open one.
-    let planning = |bytes: fn(&OpenJob, u64) -> Vec<u8>| {
+    // Another job or side planned in place of the open one's.
+    let planning = |other: fn(&OpenJob, u64) -> (Job, u64)| {
         with_schedule(Box::new(
             move |memory, side, room, lent| match memory::read(&memory.job) {
-                Some(open) if side <= 1 => reply(put(&bytes(&open, side), &mut room[lent])),
-                _ => reply(open_schedule(&memory.job, side, &mut room[lent])),
+                Some(open) if side <= 1 => {
+                    let (job, side) = other(&open, side);
+                    plan_reply(plan_job(&job, side, &mut room[lent]))
+                }
+                _ => asked(memory, side, room, lent),
             },
         ))
+    };
+    // The right schedule, with the memory or the room changed afterwards.
+    let after = |change: fn(Reply, &mut Memory, &mut [u8], Range<usize>)| {
+        with_schedule(Box::new(move |memory, side, room, lent| {
+            let reply = asked(memory, side, room, lent.clone());
+            change(reply.reply(), memory, room, lent);
+            reply
+        }))
     };
     vec![
         (
             "the schedule of the other side",
-            planning(|open, side| writing(&open.job(), 1 - side)),
+            planning(|open, side| (open.job(), 1 - side)),
         ),
         (
             "the hazard of the highest name left out",
             planning(|open, side| {
                 let mut job = open.job();
                 job.hazards.pop();
-                writing(&job, side)
+                (job, side)
             }),
         ),
         (
@@ -495,88 +482,69 @@ fn wrong_schedules() -> Vec<(&'static str, Calls)> {
                     continuity: 0,
                     ..open.job()
                 };
-                writing(&job, side)
+                (job, side)
             }),
         ),
         (
             "the panel length passed over in an open job's schedule",
-            planning(|open, side| writing(&in_no_panels(&open.job()), side)),
+            planning(|open, side| (in_no_panels(&open.job()), side)),
         ),
         (
             "the side before the memory",
             with_schedule(Box::new(|memory, side, room, lent| match side {
-                0..=1 => reply(open_schedule(&memory.job, side, &mut room[lent])),
-                _ => reply(Err(Refusal::argument())),
+                0..=1 => asked(memory, side, room, lent),
+                _ => plan_reply(Err(Refusal::argument())),
             })),
         ),
         (
             "an output without a byte refused before the side",
             with_schedule(Box::new(|memory, side, room, lent| {
-                let reply = reply(open_schedule(&memory.job, side, &mut room[lent.clone()]));
-                match reply.number {
-                    8 if lent.is_empty() => Reply {
-                        number: 9,
-                        value: 1,
-                    },
-                    _ => reply,
+                let mut reply = asked(memory, side, room, lent.clone());
+                if reply.number == 8 && lent.is_empty() {
+                    (reply.number, reply.value) = (9, 1);
                 }
+                reply
             })),
         ),
         (
             "the memory changed by a schedule",
-            with_schedule(Box::new(|memory, side, room, lent| {
-                let reply = reply(open_schedule(&memory.job, side, &mut room[lent]));
+            after(|reply, memory, _, _| {
                 if reply.number == 0 {
                     memory.job[BYTES - 1] = 1;
                 }
-                reply
-            })),
+            }),
         ),
         (
             "a byte behind the open job written",
-            with_schedule(Box::new(|memory, side, room, lent| {
-                let reply = reply(open_schedule(&memory.job, side, &mut room[lent]));
+            after(|reply, memory, _, _| {
                 if reply.number == 0 {
                     memory.after[0] = 0;
                 }
-                reply
-            })),
+            }),
         ),
         (
             "an open job's schedule begun in a short output",
-            with_schedule(Box::new(|memory, side, room, lent| {
-                let reply = reply(open_schedule(&memory.job, side, &mut room[lent.clone()]));
+            after(|reply, _, room, lent| {
                 if reply.number == 9 && !lent.is_empty() {
                     room[lent.start] = reply.value as u8;
                 }
-                reply
-            })),
+            }),
         ),
         (
             "a byte too many written behind an open job's schedule",
-            with_schedule(Box::new(|memory, side, room, lent| {
-                let reply = reply(open_schedule(&memory.job, side, &mut room[lent.clone()]));
+            after(|reply, _, room, lent| {
                 let behind = lent.start + reply.value as usize;
                 if reply.number == 0 && lent.contains(&behind) {
                     room[behind] = 0;
                 }
-                reply
-            })),
+            }),
         ),
     ]
 }
 
-fn writing(job: &Job, side: u64) -> Vec<u8> {
-    let mut envelopes = envelope::envelopes(job).unwrap_or_default();
-    envelopes.retain(|envelope| envelope.side == side);
-    schedule::writing(&Required::new(&envelopes, job.continuity).runs())
-}
-
-fn put(bytes: &[u8], out: &mut [u8]) -> Result<u64, Refusal> {
-    let room = out.get_mut(..bytes.len());
-    let room = room.ok_or(Refusal::output_short(bytes.len()))?;
-    room.copy_from_slice(bytes);
-    Ok(bytes.len() as u64)
+/// The right schedule.
+fn asked(memory: &Memory, side: u64, room: &mut [u8], lent: Range<usize>) -> PlanReply {
+    plan_reply(open_schedule(&memory.job, side, &mut room[lent]))
 }
 
 // Open.

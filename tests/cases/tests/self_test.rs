@@ -2,7 +2,9 @@
 //! finds every wrong engine, and finds nothing where nothing is wrong.
 
 use cases::draft::{Draft, KIND};
+use cases::tally::NO_REFUSAL;
 use cases::{Checker, Random, SEED, calls, families, jobs, round, round_from, wrong};
+use reference::envelope::Envelope;
 use reference::job::Job;
 use reference::{envelope, job, planned};
 
@@ -14,7 +16,8 @@ fn the_reference_passes_and_every_row_is_seen() {
         panic!("{difference}");
     }
     for number in 0..=13 {
-        assert!(checker.tally.outcome(number) > 0, "no refusal {number}");
+        let seen = checker.tally.outcome(number) > 0;
+        assert_eq!(seen, number != NO_REFUSAL, "refusal {number}");
     }
     assert_eq!(checker.tally.most_runs(), 511);
     assert!(checker.tally.cases() > 30_000);
@@ -24,7 +27,7 @@ fn the_reference_passes_and_every_row_is_seen() {
 #[test]
 fn every_wrong_engine_is_found() {
     // As many as README.md says.
-    assert_eq!(wrong::all().len(), 303);
+    assert_eq!(wrong::all().len(), 358);
     // A slip is often found where the one before it was: that saves time.
     let mut first = 0;
     for (name, calls) in wrong::all() {
@@ -148,5 +151,49 @@ fn random_jobs_meet_whole_panels() {
         println!("{straight} in the straight part, {both} of both traffics");
         assert!([exact, below, above].iter().all(|count| *count > 100));
         assert!([between, straight, both].iter().all(|count| *count > 500));
+    }
+}
+
+/// Envelopes that end at A and B, pass them by a millimetre and by more, begin
+/// below station 0, and pass both ends; sides whose greatest overhang is not that
+/// of the first or the last hazard.
+#[test]
+fn random_jobs_meet_the_road_s_ends() {
+    for make in [jobs::small, jobs::wide] {
+        let mut random = Random::new(SEED, "road's ends");
+        let [mut at, mut by_1, mut before, mut after] = [0; 4];
+        let [mut below_0, mut both, mut in_the_middle] = [0; 3];
+        for job in accepted_jobs(make, &mut random) {
+            let envelopes = envelope::envelopes(&job).expect("the job is accepted");
+            for Envelope {
+                overhang, stretch, ..
+            } in &envelopes
+            {
+                let ends = [overhang.before, overhang.after];
+                at += u64::from(overhang.before == 0 && stretch.start == job.road_begin);
+                at += u64::from(overhang.after == 0 && stretch.end == job.road_end);
+                by_1 += u64::from(ends.contains(&1));
+                before += u64::from(overhang.before > 1);
+                after += u64::from(overhang.after > 1);
+                below_0 += u64::from(overhang.before > job.road_begin);
+                both += u64::from(ends.iter().all(|overhang| *overhang > 0));
+            }
+            for side in 0..2 {
+                let of_side = envelopes.iter().filter(|envelope| envelope.side == side);
+                let list: Vec<u64> = of_side.map(|envelope| envelope.overhang.before).collect();
+                if let [first, .., last] = list[..] {
+                    let most = list.iter().max();
+                    in_the_middle += u64::from(most > Some(&first.max(last)));
+                }
+            }
+        }
+        println!("{at} at an end, {by_1} past it by 1, {before} before A, {after} behind B");
+        println!("{below_0} below 0, {both} past both ends, {in_the_middle} in the middle");
+        assert!([at, by_1, before, after].iter().all(|count| *count > 200));
+        assert!(
+            [below_0, both, in_the_middle]
+                .iter()
+                .all(|count| *count > 20)
+        );
     }
 }

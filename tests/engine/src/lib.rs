@@ -4,7 +4,7 @@
 use std::mem::{offset_of, size_of};
 use std::ops::Range;
 
-use cases::{Calls, Contract, Memory, Record, Reply};
+use cases::{Calls, Contract, Memory, PlanReply, Record, Reply};
 use reference::job::Hazard;
 use reference::memory::BYTES;
 
@@ -15,7 +15,29 @@ pub mod barrier;
 use barrier::{Refusal, c};
 
 // Declared as the header has them, beside the shipped file.
+
+#[repr(C)]
+struct CPlanReply {
+    number: u64,
+    value: u64,
+    before: u64,
+    after: u64,
+}
+
 unsafe extern "C" {
+    fn barrier_plan(
+        job: *const u8,
+        job_len: usize,
+        side: u64,
+        out: *mut u8,
+        out_len: usize,
+    ) -> CPlanReply;
+    fn barrier_open_schedule(
+        job: *const c::OpenJob,
+        side: u64,
+        out: *mut u8,
+        out_len: usize,
+    ) -> CPlanReply;
     fn barrier_level(job: *const u8, job_len: usize, side: u64, station: u64) -> c::Reply;
     fn barrier_keep(job: *mut c::OpenJob, state: u64) -> c::Reply;
     fn barrier_return(job: *mut c::OpenJob, state: u64) -> c::Reply;
@@ -25,6 +47,17 @@ impl From<c::Reply> for Reply {
     fn from(reply: c::Reply) -> Reply {
         let c::Reply { number, value } = reply;
         Reply { number, value }
+    }
+}
+
+impl From<CPlanReply> for PlanReply {
+    fn from(reply: CPlanReply) -> PlanReply {
+        PlanReply {
+            number: reply.number,
+            value: reply.value,
+            before: reply.before,
+            after: reply.after,
+        }
     }
 }
 
@@ -101,16 +134,16 @@ pub fn return_to(memory: &mut Memory, state: u64) -> Reply {
     unsafe { barrier_return(open_job(memory), state).into() }
 }
 
-pub fn open_schedule(memory: &mut Memory, side: u64, out: &mut [u8]) -> Reply {
+pub fn open_schedule(memory: &mut Memory, side: u64, out: &mut [u8]) -> PlanReply {
     let job = open_job(memory);
     // SAFETY: as in `open`, and `out` is lent to this call alone.
-    unsafe { c::barrier_open_schedule(job, side, out.as_mut_ptr(), out.len()).into() }
+    unsafe { barrier_open_schedule(job, side, out.as_mut_ptr(), out.len()).into() }
 }
 
-pub fn plan(job: &[u8], side: u64, out: &mut [u8]) -> Reply {
+pub fn plan(job: &[u8], side: u64, out: &mut [u8]) -> PlanReply {
     // SAFETY: both pointers are good for as many bytes as are named with them,
     // and `out` is lent to this call alone.
-    unsafe { c::barrier_plan(job.as_ptr(), job.len(), side, out.as_mut_ptr(), out.len()).into() }
+    unsafe { barrier_plan(job.as_ptr(), job.len(), side, out.as_mut_ptr(), out.len()).into() }
 }
 
 pub fn level(job: &[u8], side: u64, station: u64) -> Reply {
@@ -193,35 +226,43 @@ pub fn calls() -> Calls {
             // call alone holds.
             unsafe {
                 let out = room.as_mut_ptr().add(lent.start);
-                c::barrier_open_schedule(job, side, out, lent.len()).into()
+                barrier_open_schedule(job, side, out, lent.len()).into()
             }
         }),
     }
 }
 
-fn plan_in_room(job: &mut [u8], side: u64, room: &mut [u8], lent: Range<usize>) -> Reply {
+fn plan_in_room(job: &mut [u8], side: u64, room: &mut [u8], lent: Range<usize>) -> PlanReply {
     assert!(lent.start <= lent.end && lent.end <= room.len());
     let job_len = job.len();
     // SAFETY: the lent part lies in the room, which this call alone holds.
     unsafe {
         let out = room.as_mut_ptr().add(lent.start);
-        c::barrier_plan(job.as_mut_ptr(), job_len, side, out, lent.len()).into()
+        barrier_plan(job.as_mut_ptr(), job_len, side, out, lent.len()).into()
     }
 }
 
 /// The shipped calls for Rust, to be compared.
 pub fn shipped_calls() -> Calls {
     Calls {
-        plan: Box::new(|job, side, room, lent| {
-            let written = barrier::plan(job, side, &mut room[lent]);
-            reply(written.map(|written| written as u64))
-        }),
+        plan: Box::new(
+            |job, side, room, lent| match barrier::plan(job, side, &mut room[lent]) {
+                Ok(planned) => PlanReply {
+                    number: 0,
+                    value: planned.written as u64,
+                    before: planned.before,
+                    after: planned.after,
+                },
+                Err(refusal) => reply(Err(refusal)).into(),
+            },
+        ),
         quantity: Box::new(|schedule, level, p, q| reply(barrier::quantity(schedule, level, p, q))),
         quantities: Box::new(|schedule, level, ranges| shipped_quantities(schedule, level, ranges)),
         lookup: Box::new(|right, left, side, station| {
             record(barrier::lookup(right, left, side, station))
         }),
-        // Levels and open jobs go through the pointers here too.
+        level: Box::new(|job, side, station| reply(barrier::level(job, side, station))),
+        // Open jobs go through the pointers here too.
         ..calls()
     }
 }

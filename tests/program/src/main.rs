@@ -7,7 +7,7 @@ use std::process::{Child, Command, ExitCode, Output, Stdio};
 use std::thread::sleep;
 use std::time::{Duration, Instant};
 
-use cases::draft::{A, LEVEL, LO, M, PRINTED, PRINTED_HAZARD, S, SIDE, number_bytes, printed};
+use cases::draft::{A, B, LEVEL, LO, M, PRINTED, PRINTED_HAZARD, S, SIDE, number_bytes, printed};
 use cases::{Random, jobs};
 
 /// No input takes the program longer than this.
@@ -162,6 +162,7 @@ fn inputs() -> Vec<Input> {
     let two_sided = printed()
         .with(LO, 90_000)
         .with_hazards(&[PRINTED_HAZARD, left]);
+    let past_both_ends = two_sided.clone().with(A, 200_000).with(B, 210_000);
     let in_panels = printed().in_panels(4_000);
     let mut numbers = in_panels.numbers();
     numbers[14] = 257;
@@ -184,7 +185,8 @@ fn inputs() -> Vec<Input> {
         ),
         input("a level of 7 (4)", hazard_with(LEVEL, 7)),
         input("an offset too great (5)", printed().with(M, 4_001).bytes()),
-        input("an approach before the road (6)", hazard_with(S, 44_226)),
+        input("an approach before the road", hazard_with(S, 44_226)),
+        input("approaches past both ends", past_both_ends.bytes()),
         input("a newline behind the job (7)", newline),
         input("one byte (1)", of_length(1)),
         input("8,192 bytes (7)", of_length(8_192)),
@@ -205,7 +207,7 @@ fn inputs() -> Vec<Input> {
         ),
         input("too many hazards in whole panels (3)", too_many),
         input(
-            "a raised approach before the road (6)",
+            "a raised approach before the road",
             in_panels.with_hazard(S, 47_999).bytes(),
         ),
     ];

@@ -1,21 +1,41 @@
 //! The calls: plan, level, quantity, quantities and lookup.
 
-use crate::envelope::{self, Envelope};
+use crate::envelope::{self, Envelope, Overhang};
 use crate::job::{self, Job};
 use crate::level::{self, HIGHEST, Required, Run};
 use crate::refusal::Refusal;
 use crate::schedule;
 use crate::stretch::Stretch;
 
-/// Writes the schedule of one side to the start of `out` and gives the bytes
-/// written. A refusal writes nothing.
-pub fn plan(job: &[u8], side: u64, out: &mut [u8]) -> Result<u64, Refusal> {
-    put(&runs(job, side)?, out)
+/// What plan gives: the bytes written, and among the asked side's hazards the
+/// greatest overhang before A and behind B, 0 where none.
+#[derive(Clone, Copy, Debug, PartialEq, Eq)]
+pub struct Planned {
+    pub written: u64,
+    pub before: u64,
+    pub after: u64,
+}
+
+/// Writes the schedule of one side to the start of `out`. A refusal writes
+/// nothing.
+pub fn plan(job: &[u8], side: u64, out: &mut [u8]) -> Result<Planned, Refusal> {
+    if side > 1 {
+        return Err(Refusal::argument());
+    }
+    plan_job(&job::read(job)?, side, out)
 }
 
 /// The same of a job that is read.
-pub fn plan_job(job: &Job, side: u64, out: &mut [u8]) -> Result<u64, Refusal> {
-    put(&required_of(job, side)?.runs(), out)
+pub fn plan_job(job: &Job, side: u64, out: &mut [u8]) -> Result<Planned, Refusal> {
+    let envelopes = envelopes_of(job, side)?;
+    let runs = Required::new(&envelopes, job.continuity).runs();
+    let written = put(&runs, out)?;
+    let Overhang { before, after } = envelope::greatest_overhang(&envelopes);
+    Ok(Planned {
+        written,
+        before,
+        after,
+    })
 }
 
 fn put(runs: &[Run], out: &mut [u8]) -> Result<u64, Refusal> {
@@ -34,8 +54,8 @@ pub const LONG_ENOUGH: usize = 8_192;
 /// The planned schedule: the bytes that plan writes into an output long enough.
 pub fn planned(job: &[u8], side: u64) -> Result<Vec<u8>, Refusal> {
     let mut out = vec![0; LONG_ENOUGH];
-    let written = plan(job, side, &mut out)?;
-    out.truncate(written as usize);
+    let planned = plan(job, side, &mut out)?;
+    out.truncate(planned.written as usize);
     Ok(out)
 }
 
@@ -49,12 +69,8 @@ pub fn required(job: &[u8], side: u64) -> Result<Required, Refusal> {
     if side > 1 {
         return Err(Refusal::argument());
     }
-    required_of(&job::read(job)?, side)
-}
-
-/// The same of a job that is read.
-fn required_of(job: &Job, side: u64) -> Result<Required, Refusal> {
-    Ok(Required::new(&envelopes_of(job, side)?, job.continuity))
+    let job = job::read(job)?;
+    Ok(Required::new(&envelopes_of(&job, side)?, job.continuity))
 }
 
 /// The envelopes of one side.

@@ -1,16 +1,24 @@
 //! Envelopes: the stretch of a reached hazard with its approach lengths.
 
-use crate::approach::{self, Flare};
+use crate::approach::{self, Flare, whole};
 use crate::job::{Hazard, Job};
 use crate::refusal::Refusal;
 use crate::stretch::Stretch;
 
-/// A reached hazard's envelope.
+/// A reached hazard's envelope, cut at A and B.
 #[derive(Clone, Copy, Debug, PartialEq, Eq)]
 pub struct Envelope {
     pub side: u64,
     pub stretch: Stretch,
     pub level: u64,
+    pub overhang: Overhang,
+}
+
+/// How many millimetres are cut off before A and behind B.
+#[derive(Clone, Copy, Debug, Default, PartialEq, Eq)]
+pub struct Overhang {
+    pub before: u64,
+    pub after: u64,
 }
 
 #[derive(Clone, Copy, Debug, PartialEq, Eq)]
@@ -129,13 +137,7 @@ pub fn too_near(job: &Job, hazard: &Hazard) -> bool {
     hazard.near < job.barrier_offset + job.deflection
 }
 
-/// Refusal 6: the envelope begins before A or ends after B. A job's hazard
-/// lies on the road, so neither difference goes below 0.
-pub fn off_road(job: &Job, hazard: &Hazard, longer: &Lengthening) -> bool {
-    longer.lower > hazard.start - job.road_begin || longer.higher > job.road_end - hazard.end
-}
-
-/// The envelope of one hazard, if somebody reaches it; 5 before 6.
+/// The envelope of one hazard, if somebody reaches it.
 pub fn envelope(job: &Job, index: usize, hazard: &Hazard) -> Result<Option<Envelope>, Refusal> {
     let approaches = approaches(job, hazard);
     if approaches.is_empty() {
@@ -145,19 +147,40 @@ pub fn envelope(job: &Job, index: usize, hazard: &Hazard) -> Result<Option<Envel
         return Err(Refusal::too_near(index));
     }
     let longer = lengthening(job, &approaches);
-    if off_road(job, hazard, &longer) {
-        return Err(Refusal::off_road(index));
-    }
-    Ok(Some(lengthened(hazard, &longer)))
+    Ok(Some(cut(job, hazard, &longer)))
 }
 
-/// The hazard's stretch with both lengths added.
-pub fn lengthened(hazard: &Hazard, longer: &Lengthening) -> Envelope {
+/// The hazard's stretch with both lengths added, cut at A and B. Before it is
+/// cut it may begin below station 0. A job's hazard lies on the road, so
+/// something of it is left.
+pub fn cut(job: &Job, hazard: &Hazard, longer: &Lengthening) -> Envelope {
+    let begin = i128::from(hazard.start) - i128::from(longer.lower);
+    let end = i128::from(hazard.end) + i128::from(longer.higher);
+    let (a, b) = (i128::from(job.road_begin), i128::from(job.road_end));
     Envelope {
         side: hazard.side,
-        stretch: Stretch::new(hazard.start - longer.lower, hazard.end + longer.higher),
+        stretch: Stretch::new(from_0(begin.max(a)), from_0(end.min(b))),
         level: hazard.level,
+        overhang: Overhang {
+            before: from_0(a - begin),
+            after: from_0(end - b),
+        },
     }
+}
+
+/// The number itself, or 0 for one below it.
+fn from_0(number: i128) -> u64 {
+    whole(number.max(0).unsigned_abs())
+}
+
+/// The greatest overhang at each end, 0 where there is none.
+pub fn greatest_overhang(envelopes: &[Envelope]) -> Overhang {
+    let mut greatest = Overhang::default();
+    for Envelope { overhang, .. } in envelopes {
+        greatest.before = greatest.before.max(overhang.before);
+        greatest.after = greatest.after.max(overhang.after);
+    }
+    greatest
 }
 
 /// The envelopes of a job, of both sides: hazards in order, so the refusal is

@@ -157,6 +157,7 @@ pub fn has(set: &[Stretch], station: u64) -> bool {
 #[cfg(test)]
 mod tests {
     use super::*;
+    use crate::envelope::Overhang;
     use crate::random::Random;
 
     const ROAD: usize = 70;
@@ -227,6 +228,7 @@ mod tests {
                 side: 0,
                 stretch: Stretch::new(start, end),
                 level: random.between(1, HIGHEST),
+                overhang: Overhang::default(),
             });
         }
         list

@@ -22,7 +22,7 @@ pub mod schedule;
 pub mod stretch;
 
 pub use calls::{
-    Lookup, Outcome, Quantities, level, lookup, plan, plan_job, planned, quantities, quantity,
+    Lookup, Outcome, Planned, Quantities, level, lookup, plan, planned, quantities, quantity,
 };
 pub use open::{OpenJob, add, keep, open, open_schedule, return_to, withdraw};
 pub use refusal::Refusal;

@@ -3,10 +3,10 @@
 
 use std::collections::BTreeMap;
 
+use crate::calls::{Planned, plan_job};
 use crate::envelope;
 use crate::job::{self, Hazard, Job, Reader};
 use crate::memory;
-use crate::plan_job;
 use crate::refusal::Refusal;
 
 /// Hazards, each under its name.
@@ -39,8 +39,8 @@ impl OpenJob {
         })
     }
 
-    /// Adds a hazard under a name: 12, then 4, 5 and 6, the index replaced by
-    /// the name.
+    /// Adds a hazard under a name: 12, then 4 and 5, the index replaced by the
+    /// name.
     pub fn add(&mut self, name: u8, hazard: Hazard) -> Result<(), Refusal> {
         if self.standing.contains_key(&name) {
             return Err(Refusal::name(name));
@@ -74,7 +74,7 @@ impl OpenJob {
     }
 
     /// Writes the schedule of one side, as plan does: 8, then 9.
-    pub fn schedule(&self, side: u64, out: &mut [u8]) -> Result<u64, Refusal> {
+    pub fn schedule(&self, side: u64, out: &mut [u8]) -> Result<Planned, Refusal> {
         plan_job(&self.job(), side, out)
     }
 
@@ -130,8 +130,8 @@ fn change(
     Ok(0)
 }
 
-/// The bytes written.
-pub fn open_schedule(memory: &[u8], side: u64, out: &mut [u8]) -> Result<u64, Refusal> {
+/// As plan answers.
+pub fn open_schedule(memory: &[u8], side: u64, out: &mut [u8]) -> Result<Planned, Refusal> {
     tested(memory)?.schedule(side, out)
 }
 

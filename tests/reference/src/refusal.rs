@@ -1,4 +1,5 @@
-//! The refusal table of document 01, and the numbers that document 02 adds.
+//! The refusal table of document 01, and the numbers that document 02 adds; it
+//! takes 6 away.
 
 /// What a refused call returns: the number of the refusal and its value.
 #[derive(Clone, Copy, Debug, PartialEq, Eq)]
@@ -25,7 +26,7 @@ impl Refusal {
     }
 
     /// 4: a field of this hazard is outside its range. In an open job the index
-    /// is replaced by the name, also for 5 and 6.
+    /// is replaced by the name, also for 5.
     pub fn hazard_range(hazard_index: usize) -> Refusal {
         refusal(4, hazard_index as u64)
     }
@@ -33,11 +34,6 @@ impl Refusal {
     /// 5: this hazard is reached and stands too near to the barrier.
     pub fn too_near(hazard_index: usize) -> Refusal {
         refusal(5, hazard_index as u64)
-    }
-
-    /// 6: this hazard's envelope leaves the road.
-    pub fn off_road(hazard_index: usize) -> Refusal {
-        refusal(6, hazard_index as u64)
     }
 
     /// 7: bytes are left over, from here on.

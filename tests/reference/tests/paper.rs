@@ -14,11 +14,18 @@ fn the_printed_program_output() {
 #[test]
 fn the_printed_schedule() {
     let mut out = [0xAA; 12];
-    assert_eq!(plan(&printed().bytes(), 0, &mut out), Ok(8));
+    let planned = |written| {
+        Ok(reference::Planned {
+            written,
+            before: 0,
+            after: 0,
+        })
+    };
+    assert_eq!(plan(&printed().bytes(), 0, &mut out), planned(8));
     assert_eq!(out[..8], [0x01, 0xFD, 0xC0, 0x09, 0xD3, 0xA7, 0x03, 0x03]);
     assert_eq!(out[8..], [0xAA; 4]);
     let mut out = [0xAA; 2];
-    assert_eq!(plan(&printed().bytes(), 1, &mut out), Ok(1));
+    assert_eq!(plan(&printed().bytes(), 1, &mut out), planned(1));
     assert_eq!(out, [0x00, 0xAA]);
 }
 
@@ -91,14 +98,20 @@ fn k7_deflection() {
 fn k8_the_road_begin() {
     let begins_at_0 = k2().with_hazard(S, 67_334);
     assert_eq!(begins_at_0.right(), [(0, 210_000, 3)]);
-    assert_eq!(k2().with_hazard(S, 67_333).refused(), (6, 0));
+    assert_eq!(begins_at_0.overhangs(0), (0, 0));
+    let a_millimetre_before = k2().with_hazard(S, 67_333);
+    assert_eq!(a_millimetre_before.right(), [(0, 210_000, 3)]);
+    assert_eq!(a_millimetre_before.overhangs(0), (1, 0));
 }
 
 #[test]
 fn the_road_end() {
     let ends_at_b = k4().with(B, 238_056);
     assert_eq!(ends_at_b.right(), [(132_666, 238_056, 3)]);
-    assert_eq!(k4().with(B, 238_055).refused(), (6, 0));
+    assert_eq!(ends_at_b.overhangs(0), (0, 0));
+    let a_millimetre_behind = k4().with(B, 238_055);
+    assert_eq!(a_millimetre_behind.right(), [(132_666, 238_055, 3)]);
+    assert_eq!(a_millimetre_behind.overhangs(0), (0, 1));
 }
 
 /// Two envelopes of level 2, `apart` from each other, at G = 50,000.

@@ -161,11 +161,11 @@ fn each_traffic_by_itself() {
 }
 
 #[test]
-fn a_straight_approach_keeps_the_job_on_the_road() {
+fn a_straight_approach_keeps_the_envelope_on_the_road() {
     // With flare the approach would be 72,755 long and leave the road.
-    let begins_at_0 = k1_with(80_000).with_hazard(S, 67_334);
-    assert_eq!(begins_at_0.right(), [(0, 210_000, 3)]);
-    assert_eq!(k1_with(80_000).with_hazard(S, 67_333).refused(), (6, 0));
+    let before = |start| k1_with(80_000).with_hazard(S, start).overhangs(0);
+    assert_eq!(before(67_334), (0, 0));
+    assert_eq!(before(67_333), (1, 0));
 }
 
 #[test]
@@ -210,8 +210,8 @@ fn refused(memory: &mut [u8], call: impl Fn(&mut [u8]) -> Result<u64, Refusal>) 
 
 fn schedule(memory: &[u8], side: u64) -> Vec<u8> {
     let mut out = vec![0; 6_000];
-    let written = open_schedule(memory, side, &mut out).unwrap();
-    out.truncate(written as usize);
+    let planned = open_schedule(memory, side, &mut out).unwrap();
+    out.truncate(planned.written as usize);
     out
 }
 
@@ -347,7 +347,6 @@ fn refusals_by_name() {
     assert_eq!(adding(255, LEVEL, 7), (4, 255));
     assert_eq!(adding(255, LEVEL, 256 + 3), (4, 255));
     assert_eq!(adding(8, N, 3_999), (5, 8));
-    assert_eq!(adding(8, S, 44_226), (6, 8));
     // A name that stands comes before 4.
     assert_eq!(adding(9, SIDE, 2), (12, 9));
     assert_eq!(adding(9, N, 3_999), (12, 9));
@@ -357,9 +356,9 @@ fn refusals_by_name() {
     assert_eq!(refused(&mut memory, |memory| withdraw(memory, 9)), (12, 9));
 }
 
-/// 5 comes before 6, and neither is for a hazard that nobody reaches.
+/// 5 is for a hazard that somebody reaches, whether it leaves the road or not.
 #[test]
-fn five_before_six_by_name() {
+fn too_near_by_name() {
     let mut memory = opened();
     let off_and_near = hazard([0, 1_000, 210_000, 3_999, 9_000, 3]);
     assert_eq!(
@@ -414,8 +413,8 @@ fn broken(memory: &[u8]) -> bool {
         add(&mut memory, 2, bad),
         withdraw(&mut memory, 200),
         withdraw(&mut memory, 7),
-        open_schedule(&memory, 0, &mut [0; 100]),
-        open_schedule(&memory, 2, &mut []),
+        open_schedule(&memory, 0, &mut [0; 100]).map(|planned| planned.written),
+        open_schedule(&memory, 2, &mut []).map(|planned| planned.written),
         keep(&mut memory, 0),
         keep(&mut memory, 8),
         return_to(&mut memory, 0),
@@ -475,9 +474,9 @@ fn memory_that_breaks_the_rules() {
     // The count: a hazard too few or too many.
     assert!(number(15, 0) && number(15, 1) && number(15, 3));
     assert!(number(15, 257) && number(15, u32::MAX));
-    // A header under which a hazard is refused 5, 6 or 4.
+    // A header under which a hazard is refused 5 or 4; an envelope is cut.
     assert!(number(8, 4_001) && !number(8, 4_000));
-    assert!(number(2, 155_774) && !number(2, 155_773));
+    assert!(number(2, 200_001) && !number(2, 200_000) && !number(2, 155_774));
     assert!(number(3, 309_999) && !number(3, 310_000));
     // Names.
     assert!(with(76, &[9]) && with(76, &[10]) && !with(76, &[8]));
@@ -486,8 +485,8 @@ fn memory_that_breaks_the_rules() {
     assert!(with(78, &[2]) && !with(78, &[1]));
     assert!(with(79, &[0]) && with(79, &[7]) && !with(79, &[6]));
     assert!(with(68, &3_999u32.to_le_bytes()) && !with(68, &4_000u32.to_le_bytes()));
-    assert!(with(60, &310_000u32.to_le_bytes()) && with(60, &44_226u32.to_le_bytes()));
-    assert!(!with(60, &44_227u32.to_le_bytes()));
+    assert!(with(60, &310_000u32.to_le_bytes()) && !with(60, &309_999u32.to_le_bytes()));
+    assert!(!with(60, &0u32.to_le_bytes()));
     // Places that are not used.
     for at in [100, 119, 120, 3_000, 5_179, 5_184, 5_188, 46_203] {
         assert!(with(at, &[1]) && !with(at, &[0]));
@@ -599,11 +598,15 @@ fn each_traffic_raised_by_itself() {
 #[test]
 fn a_raised_envelope_can_leave_the_road() {
     let before = |start| k4_in_panels(4_000).with_hazard(S, start);
-    assert_eq!(before(68_000).right(), [(0, 242_000, 3)]);
-    assert_eq!(before(67_999).refused(), (6, 0));
+    for (start, overhang) in [(68_000, 0), (67_999, 1), (67_334, 666)] {
+        assert_eq!(before(start).right(), [(0, 242_000, 3)]);
+        assert_eq!(before(start).overhangs(0), (overhang, 0));
+    }
     let behind = |end| k4_in_panels(4_000).with(B, end);
-    assert_eq!(behind(242_000).right(), [(132_000, 242_000, 3)]);
-    assert_eq!(behind(241_999).refused(), (6, 0));
+    for (end, overhang) in [(242_000, 0), (241_999, 1), (238_056, 3_944)] {
+        assert_eq!(behind(end).right(), [(132_000, end, 3)]);
+        assert_eq!(behind(end).overhangs(0), (0, overhang));
+    }
 }
 
 #[test]
@@ -642,14 +645,11 @@ fn an_open_job_in_whole_panels() {
     assert_eq!(add(&mut memory, 3, hazard(PRINTED_HAZARD)), Ok(0));
     let job = printed().in_panels(4_000).bytes();
     assert_eq!(schedule(&memory, 0), planned(&job, 0).unwrap());
-    let mut adding = |start| {
-        let fields = [0, start, 210_000, 5_000, 9_000, 3];
-        refused(&mut memory, |memory| add(memory, 4, hazard(fields)))
-    };
-    assert_eq!(adding(44_227), (6, 4), "on the road before raising");
-    assert_eq!(adding(47_999), (6, 4));
-    let at_the_begin = hazard([0, 48_000, 210_000, 5_000, 9_000, 3]);
-    assert_eq!(add(&mut memory, 4, at_the_begin), Ok(0));
+    // On the road before raising.
+    let cut = [0, 44_227, 210_000, 5_000, 9_000, 3];
+    assert_eq!(add(&mut memory, 4, hazard(cut)), Ok(0));
+    let planned = open_schedule(&memory, 0, &mut [0; 100]).unwrap();
+    assert_eq!((planned.before, planned.after), (48_000 - 44_227, 0));
 }
 
 #[test]
@@ -678,8 +678,8 @@ fn memory_in_whole_panels() {
     assert!(number(14, 0) && number(14, 10_001) && number(14, u32::MAX));
     assert!(!number(14, 1) && !number(14, 10_000));
     assert!(number(1, 0) && number(1, 1) && number(1, 3), "kind");
-    // The hazard at 200,000 has a raised approach of 48,000.
-    assert!(number(2, 152_001) && !number(2, 152_000));
+    // The hazard at 200,000 has a raised approach of 48,000, which is cut.
+    assert!(!number(2, 152_001) && !number(2, 200_000) && number(2, 200_001));
 }
 
 // 5: the level under the inspector's feet.
@@ -732,10 +732,6 @@ fn the_level_refused_as_plan_without_9() {
         assert_eq!(
             refused(&printed().with_hazard(N, 3_999).bytes(), side),
             (5, 0)
-        );
-        assert_eq!(
-            refused(&printed().with_hazard(S, 44_226).bytes(), side),
-            (6, 0)
         );
     }
     let left_over = [&whole[..], &[0x00]].concat();
@@ -868,12 +864,12 @@ fn kept_states_that_break_the_rules() {
     // Names.
     assert!(with(24, &[9]) && with(24, &[10]) && !with(24, &[8]));
     assert!(with(44, &[9, 1]) && !with(44, &[255, 0]));
-    // Hazards under the one header: 4, 5 and 6, in whole panels.
+    // Hazards under the one header: 4 and 5; an envelope is cut.
     assert!(with(26, &[2]) && with(27, &[0]) && with(27, &[7]) && !with(27, &[6]));
     assert!(four(16, 3_999) && !four(16, 4_000));
-    assert!(four(8, 47_999) && !four(8, 48_000));
-    assert!(broken_with_number(&right, 2, 152_001));
-    assert!(!broken_with_number(&right, 2, 152_000));
+    assert!(four(8, 310_000) && !four(8, 309_999) && !four(8, 0));
+    assert!(broken_with_number(&right, 2, 200_001));
+    assert!(!broken_with_number(&right, 2, 200_000));
     // Places that are not used, and a state that is not kept.
     for at in [48, 5_127] {
         assert!(with(at, &[1]) && !with(at, &[0]));
@@ -881,4 +877,182 @@ fn kept_states_that_break_the_rules() {
     let next = 5_128;
     assert!(!four(next, 1), "an empty job kept");
     assert!(four(next, 2) && four(next + 4, 1) && with(next + 8, &[1]));
+}
+
+// 8: approaches that run into the neighbouring contract.
+
+/// K4 with K4's hazard moved; 67,334 of adjacent traffic, 28,056 of far traffic.
+fn k4_at(side: u64, start: u64, end: u64) -> Draft {
+    let job = two_way(0).with(FLARE_B, 0);
+    job.with_hazards(&[[side, start, end, 5_000, 9_000, 3]])
+}
+
+#[test]
+fn envelopes_are_cut_at_both_ends() {
+    let last = 1_000_000;
+    let right = |start, end| {
+        let job = k4_at(0, start, end);
+        (job.right(), job.overhangs(0))
+    };
+    assert_eq!(
+        right(67_334, last - 28_056),
+        (vec![(0, last, 3)], (0, 0)),
+        "from A to B"
+    );
+    assert_eq!(
+        right(67_333, last - 28_055),
+        (vec![(0, last, 3)], (1, 1)),
+        "a millimetre beyond"
+    );
+    assert_eq!(
+        right(0, last),
+        (vec![(0, last, 3)], (67_334, 28_056)),
+        "both approaches whole"
+    );
+    assert_eq!(right(0, 1), (vec![(0, 28_057, 3)], (67_334, 0)));
+    let run = (last - 1 - 67_334, last, 3);
+    assert_eq!(right(last - 1, last), (vec![run], (0, 28_056)));
+    // On the left the lengths are exchanged.
+    let left = k4_at(1, 0, last);
+    assert_eq!(left.runs(1).unwrap(), [(0, last, 3)]);
+    assert_eq!(left.overhangs(1), (28_056, 67_334));
+}
+
+/// Stations far from 0: the overhang is counted from A, not from station 0.
+#[test]
+fn overhangs_are_counted_from_the_road_s_ends() {
+    let road = |begin, end| printed().with(FLARE_B, 0).with(A, begin).with(B, end);
+    let cut = road(200_000, 210_000);
+    assert_eq!(cut.right(), [(200_000, 210_000, 3)]);
+    assert_eq!(cut.overhangs(0), (67_334, 0));
+    assert_eq!(road(132_666, 210_000).overhangs(0), (0, 0));
+    assert_eq!(road(132_667, 210_000).overhangs(0), (1, 0));
+    // Below station 0, too.
+    let near_0 = road(5, 210_000).with_hazard(S, 10);
+    assert_eq!(near_0.right(), [(5, 210_000, 3)]);
+    assert_eq!(near_0.overhangs(0), (67_334 - 5, 0));
+}
+
+#[test]
+fn the_greatest_overhang_of_the_asked_side() {
+    let at = |side, start, end, near| [side, start, end, near, 9_000, 3];
+    let job = two_way(0).with(FLARE_B, 0).with_hazards(&[
+        at(0, 60_000, 60_010, 5_000),
+        at(0, 50_000, 50_010, 5_000),
+        at(0, 70_000, 70_010, 5_000),
+        at(0, 990_000, 995_000, 5_000),
+        at(0, 990_000, 994_000, 5_000),
+        at(1, 20_000, 20_010, 5_000),
+        at(1, 999_000, 1_000_000, 5_000),
+        // Nobody reaches it.
+        at(0, 0, 1_000_000, 9_000),
+    ]);
+    assert_eq!(job.overhangs(0), (67_334 - 50_000, 28_056 - 5_000));
+    assert_eq!(job.overhangs(1), (28_056 - 20_000, 67_334));
+}
+
+#[test]
+fn refusals_of_a_job_that_hangs_over() {
+    let job = k4_at(0, 0, 1_000_000).bytes();
+    let needed = planned(&job, 0).unwrap().len() as u64;
+    let refusal = |number, value| Err(Refusal { number, value });
+    // The refusals have no overhangs; the C interface fills in 0.
+    assert_eq!(reference::plan(&job, 0, &mut [0; 3]), refusal(9, needed));
+    assert_eq!(reference::plan(&job, 2, &mut [0; 9]), refusal(8, 0));
+}
+
+#[test]
+fn gaps_between_cut_envelopes() {
+    // The approach of each is 1 long: [10, 20) and [30, 40) on the road [10, 40).
+    let job = |continuity| {
+        let road = PRINTED.with(FLARE_B, 0).with(LF, 1).with(A, 10).with(B, 40);
+        let hazards = [[0, 10, 20, 5_000, 9_000, 2], [0, 31, 40, 5_000, 9_000, 2]];
+        road.with(G, continuity).with_hazards(&hazards)
+    };
+    assert_eq!(job(10).right(), [(10, 20, 2), (30, 40, 2)]);
+    assert_eq!(job(11).right(), [(10, 40, 2)]);
+    assert_eq!(job(11).overhangs(0), (1, 0));
+    // No gap goes from an envelope to the road's end.
+    let inside = job(200_000).with(A, 5).with(B, 45);
+    assert_eq!(inside.right(), [(9, 40, 2)]);
+}
+
+/// Every envelope has its hazard, which lies on the road; so every gap lies on
+/// the road, and it makes no difference whether gaps are added to the envelopes
+/// before or behind the cut.
+#[test]
+fn gaps_added_before_cutting_are_the_same() {
+    let mut random = Random::new(8, "cut and filled");
+    for _ in 0..2_000 {
+        let (begin, end) = (300, 300 + random.between(20, 300));
+        let mut hazards = Vec::new();
+        for _ in 0..random.between(1, 6) {
+            let start = random.between(begin, end - 1);
+            let last = random.between(start + 1, end);
+            hazards.push([0, start, last, 40, 60, random.between(1, 3)]);
+        }
+        let header = PRINTED.with(LF, random.between(1, 200)).with(M, 10);
+        let header = header.with(LO, random.between(1, 200)).with(D, 30);
+        let header = header.with(G, random.below(100)).with(C, 100);
+        let cut = header.clone().with(A, begin).with(B, end);
+        let cut = cut.with_hazards(&hazards).bytes();
+        // The same hazards on a road that has every envelope whole.
+        let whole = header.with(A, 0).with(B, 1_000).with_hazards(&hazards);
+        let whole = whole.bytes();
+        for station in begin..end {
+            assert_eq!(
+                level(&cut, 0, station).unwrap(),
+                level(&whole, 0, station).unwrap()
+            );
+        }
+    }
+}
+
+#[test]
+fn the_level_of_a_cut_envelope() {
+    let job = printed().with(A, 160_000).with(B, 210_000);
+    let stations = [0, 155_773, 159_999, 160_000, 209_999, 210_000];
+    assert_eq!(levels(&job, &stations), [0, 0, 0, 3, 3, 0]);
+    let behind = two_way(0).with(FLARE_B, 0).with(B, 220_000);
+    assert_eq!(levels(&behind, &[219_999, 220_000, 238_055]), [3, 0, 0]);
+}
+
+/// The program says nothing of overhangs.
+#[test]
+fn the_program_s_text_of_cut_envelopes() {
+    let job = k4_at(0, 67_333, 210_000).with(B, 220_000);
+    let text = reference::program::text(&job.bytes());
+    assert_eq!(text, "R 0 220000 3\ntotal 220000 0\n");
+}
+
+#[test]
+fn an_open_job_with_overhangs() {
+    let header = two_way(0).with(FLARE_B, 0).with_hazards(&[]);
+    let mut memory = opened_in(header);
+    let overhangs = |memory: &[u8], side| {
+        let planned = open_schedule(memory, side, &mut [0; 100]).unwrap();
+        (planned.before, planned.after)
+    };
+    let at = |side, start, end| hazard([side, start, end, 5_000, 9_000, 3]);
+    assert_eq!(add(&mut memory, 1, at(0, 67_333, 210_000)), Ok(0));
+    assert_eq!(schedule(&memory, 0), planned_of(0, 67_333, 210_000));
+    assert_eq!(overhangs(&memory, 0), (1, 0));
+    assert_eq!(add(&mut memory, 2, at(0, 0, 1_000_000)), Ok(0));
+    assert_eq!(overhangs(&memory, 0), (67_334, 28_056));
+    assert_eq!(overhangs(&memory, 1), (0, 0));
+    assert_eq!(keep(&mut memory, 4), Ok(0));
+    assert_eq!(withdraw(&mut memory, 2), Ok(0));
+    assert_eq!(overhangs(&memory, 0), (1, 0));
+    assert_eq!(return_to(&mut memory, 4), Ok(0));
+    assert_eq!(overhangs(&memory, 0), (67_334, 28_056));
+    assert!(
+        !broken(&memory),
+        "envelopes that leave the road break nothing"
+    );
+    let short = open_schedule(&memory, 0, &mut []);
+    assert_eq!(short.unwrap_err().number, 9);
+}
+
+fn planned_of(side: u64, start: u64, end: u64) -> Vec<u8> {
+    planned(&k4_at(side, start, end).bytes(), side).unwrap()
 }

@@ -1,6 +1,7 @@
 //! An open job: the header of document 01's printed example, to which hazards
-//! come as a controller meets them; then a variant, tried and taken back. It
-//! ends with 1 where a call does not do what it should.
+//! come as a controller meets them; then a variant, tried and taken back; then
+//! hazards by the road's begin. It ends with 1 where a call does not do what it
+//! should.
 //!
 //! It prints the same text as examples/open_job.c.
 
@@ -12,7 +13,7 @@ mod number_form;
 use std::io::{self, Write};
 use std::process::ExitCode;
 
-use barrier::{Hazard, OpenJob, Refusal, NC_2, NC_3, RIGHT, SCHEDULE_MAX};
+use barrier::{Hazard, OpenJob, Planned, Refusal, NC_2, NC_3, NC_4, RIGHT, SCHEDULE_MAX};
 use number_form::{get_number, job_bytes};
 
 /// The header, 14 numbers, the last of them the hazard count.
@@ -34,6 +35,8 @@ const HEADER: [u64; 14] = [
 /// The names under which the hazards stand.
 const HEADWALL: u8 = 7;
 const POLE: u8 = 20;
+const CULVERT: u8 = 30;
+const PIER: u8 = 31;
 
 /// The state number under which a state is kept, and one of which none is.
 const BEFORE: u64 = 0;
@@ -90,11 +93,13 @@ fn ends_with<T>(
     }
 }
 
-/// The runs of the right side, as they are now.
+/// The runs of the right side, as they are now, and its overhang.
 fn print_runs(out: &mut impl Write, job: &OpenJob) -> Result<(), Stop> {
     let mut schedule = [0; SCHEDULE_MAX];
     let answer = job.schedule(RIGHT, &mut schedule);
-    ends_with(out, "schedule", answer, barrier::DONE)?;
+    let Some(planned) = ends_with(out, "schedule", answer, barrier::DONE)? else {
+        return Err(Stop::Call);
+    };
     let mut at = 0;
     let mut end = 0;
     for _ in 0..get_number(&schedule, &mut at) {
@@ -103,6 +108,12 @@ fn print_runs(out: &mut impl Write, job: &OpenJob) -> Result<(), Stop> {
         end = start + get_number(&schedule, &mut at);
         let level = get_number(&schedule, &mut at);
         writeln!(out, "    [{start}, {end}) at NC-{level}")?;
+    }
+    // Not in the runs: it stands in the neighbouring contract.
+    let Planned { before, after, .. } = planned;
+    if before > 0 || after > 0 {
+        write!(out, "    overhang: {before} mm before the road, ")?;
+        writeln!(out, "{after} mm behind it")?;
     }
     Ok(())
 }
@@ -143,10 +154,25 @@ fn show_variant(out: &mut impl Write, job: &mut OpenJob) -> Result<(), Stop> {
     Ok(())
 }
 
+/// Two hazards by the road's begin, whose approaches of 44,227 do not fit
+/// before them.
+fn show_overhang(out: &mut impl Write, job: &mut OpenJob) -> Result<(), Stop> {
+    let culvert = hazard(30_000, 31_000, NC_3);
+    let pier = hazard(40_000, 42_000, NC_4);
+
+    writeln!(out, "By the neighbouring contract")?;
+    ends_with(out, "add 30", job.add(CULVERT, culvert), barrier::DONE)?;
+    ends_with(out, "add 31", job.add(PIER, pier), barrier::DONE)?;
+    print_runs(out, job)?;
+    ends_with(out, "withdraw 30", job.withdraw(CULVERT), barrier::DONE)?;
+    print_runs(out, job)
+}
+
 /// Everything in turn.
 fn show(out: &mut impl Write) -> Result<(), Stop> {
     let mut job = show_hazards(out)?;
-    show_variant(out, &mut job)
+    show_variant(out, &mut job)?;
+    show_overhang(out, &mut job)
 }
 
 /// println! would panic where standard output is full or closed.

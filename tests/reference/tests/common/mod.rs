@@ -1,8 +1,9 @@
 //! What a job's draft gives, for the tests of the paper's cases.
 #![allow(dead_code)]
 
+use reference::calls::LONG_ENOUGH;
 pub use reference::draft::*;
-use reference::{Refusal, planned, schedule};
+use reference::{Refusal, plan, planned, schedule};
 
 pub trait Planned {
     /// Plans and reads back: start, end and level of each run.
@@ -12,6 +13,9 @@ pub trait Planned {
     fn right(&self) -> Vec<(u64, u64, u64)> {
         self.runs(0).unwrap()
     }
+
+    /// The overhangs of one side of an accepted job, before A and behind B.
+    fn overhangs(&self, side: u64) -> (u64, u64);
 
     fn refused(&self) -> (u64, u64) {
         let right = self.runs(0).unwrap_err();
@@ -28,6 +32,11 @@ impl Planned for Draft {
             .iter()
             .map(|r| (r.run.stretch.start, r.run.stretch.end, r.run.level))
             .collect())
+    }
+
+    fn overhangs(&self, side: u64) -> (u64, u64) {
+        let planned = plan(&self.bytes(), side, &mut [0; LONG_ENOUGH]).unwrap();
+        (planned.before, planned.after)
     }
 }
 

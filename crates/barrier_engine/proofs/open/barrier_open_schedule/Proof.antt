@@ -46,7 +46,7 @@ use denote.Struct.Laws as LL
 use Rattle.kept_states.specs.Parts.{alsoSound}
 use Rattle.replies.specs.OpenInterface.{scheduleReply, scheduleOutput}
 use Rattle.replies.proofs.ShellLaws.{schedule-shell}
-use Rattle.replies.specs.Interface.{replyOf}
+use Rattle.replies.specs.Interface.{planReplyOf}
 use Rattle.kept_states.specs.States.{scheduleIn}
 use Rattle.schedule.specs.Plan.{bytesWritten, outputAfter}
 use Rattle.kept_states.specs.declared.OpenStates.{OpenStates}
@@ -59,9 +59,9 @@ use Rattle.job.proofs.Header as Header·t
 use Rattle.job.proofs.Header.Laws as Header·t′
 use Rattle.kept_states.proofs.KeptState as KeptState·t
 use Rattle.kept_states.proofs.KeptState.Laws as KeptState·t′
-use Rattle.replies.specs.declared.Reply.{Reply}
-use Rattle.replies.proofs.Reply as Reply·t
-use Rattle.replies.proofs.Reply.Laws as Reply·t′
+use Rattle.replies.specs.declared.PlanReply.{PlanReply}
+use Rattle.replies.proofs.PlanReply as PlanReply·t
+use Rattle.replies.proofs.PlanReply.Laws as PlanReply·t′
 use Rattle.kept_states.proofs.states.also_sound.Symbol as also-sound·f·def
 use Rattle.kept_states.proofs.states.also_sound.Symbol.{name as #also-sound}
 use Rattle.kept_states.proofs.states.also_sound.Met as also-sound·f·thm
@@ -129,9 +129,9 @@ module _ {M : Type 1} (𝓤 : URA M) (H : Heap 𝓤) (A : Atoms 𝓤) (W : Given
   abbrev Post : Val → SProp 𝓤
   Post = walkOf 𝓤 H A f.ended stayed (f.clauses 𝓤 H A at-mem run) .post (((κ, (κ′, tt)), (q, (q′, tt)), tt, x, at), tt)
 
-  exits : (r : Reply) (w : Val) (zs : List ℕ) → (r ≡ replyOf (bytesWritten (scheduleIn h p1 (length (now y))))) × (zs ≡ outputAfter (scheduleIn h p1 (length (now y))) (now y)) → length zs ≡ length (now y) → ent 𝓤 (⋆ 𝓤 H A (‵ (flft κ q) ∷ ‵ (fres γ (OpenStates·t.the-row .coded .code h)) ∷ ‵ (fshr-bor κ (λ s. partAt OpenStates·t.the-row s h b o)) ∷ (‵ (flft κ′ q′) ⊛ ‵ ftrue) ∷ ‵ (finally u8 (y .name) zs) ∷ ‵ (Reply·t.the-row .own r (w ∷ [])) ∷ [])) (Post w)
+  exits : (r : PlanReply) (w : Val) (zs : List ℕ) → (r ≡ planReplyOf (bytesWritten (scheduleIn h p1 (length (now y))))) × (zs ≡ outputAfter (scheduleIn h p1 (length (now y))) (now y)) → length zs ≡ length (now y) → ent 𝓤 (⋆ 𝓤 H A (‵ (flft κ q) ∷ ‵ (fres γ (OpenStates·t.the-row .coded .code h)) ∷ ‵ (fshr-bor κ (λ s. partAt OpenStates·t.the-row s h b o)) ∷ (‵ (flft κ′ q′) ⊛ ‵ ftrue) ∷ ‵ (finally u8 (y .name) zs) ∷ ‵ (PlanReply·t.the-row .own r (w ∷ [])) ∷ [])) (Post w)
   exits r w zs e l =
-      qed W (‵ (flft κ q) ∷ ‵ (fres γ (OpenStates·t.the-row .coded .code h)) ∷ ‵ (fshr-bor κ (λ s. partAt OpenStates·t.the-row s h b o)) ∷ (‵ (flft κ′ q′) ⊛ ‵ ftrue) ∷ ‵ (finally u8 (y .name) zs) ∷ ‵ (Reply·t.the-row .own r (w ∷ [])) ∷ []) ∵
+      qed W (‵ (flft κ q) ∷ ‵ (fres γ (OpenStates·t.the-row .coded .code h)) ∷ ‵ (fshr-bor κ (λ s. partAt OpenStates·t.the-row s h b o)) ∷ (‵ (flft κ′ q′) ⊛ ‵ ftrue) ∷ ‵ (finally u8 (y .name) zs) ∷ ‵ (PlanReply·t.the-row .own r (w ∷ [])) ∷ []) ∵
       suffices ! _ (ends-at 𝓤 H A f.ended stayed (f.clauses 𝓤 H A at-mem run) W (((κ, (κ′, tt)), (q, (q′, tt)), tt, x, at), tt) w r (tt, (tt, (zs, tt))) (tt, (tt, (l, tt)))) $
       says ! e $ move ! (0 ∷ 3 ∷ []) $ join ! $
       frame ! $ feqI ! (List Val) (vptr b o ∷ []) (vptr b o ∷ []) refl $ fjoin3 ! $ nothing ! $ move ! (2 ∷ 0 ∷ []) $ fjoin ! $ owned ! u64 (Is u64) (uint-makes 𝓤 H A W w64) p1 _ (refl, p1-fits) $ fjoin ! $ move ! (1 ∷ 0 ∷ []) $ fjoin ! $ done !
@@ -186,13 +186,13 @@ module _ {M : Type 1} (𝓤 : URA M) (H : Heap 𝓤) (A : Atoms 𝓤) (W : Given
         -- replies::open::scheduled, with the output
         move ! (25 ∷ []) $ fsplit ! $ drop ! $ fsplit ! $ move ! (0 ∷ 27 ∷ []) $ use2 W (raw (Step-scheduled 𝓤 H A at-mem run .pre (to-scheduled 𝓤 H A W at-mem run κ′ q′ (r8) (h .now) (p1) y))) (goes-scheduled 𝓤 H A W at-mem run κ′ q′ (r8) (h .now) (p1) y refl (LL.owed OpenStates·t.the-type OpenStates·t′.the-laws (h) _ was .0) (refl, p1-fits)) $
         calls-at ! fm (Step-scheduled 𝓤 H A at-mem run) known-scheduled (to-scheduled 𝓤 H A W at-mem run κ′ q′ (r8) (h .now) (p1) y) (and-then ! (load ! (from ! (stop !)) (look ! 14 refl)) (and-then ! (load ! (from ! (stop !)) (look ! 10 refl)) (and-then ! (load ! (from ! (stop !)) (look ! 20 refl)) (and-then ! (load ! (from ! (stop !)) (look ! 6 refl)) (no-more !))))) (λ w.
-        use1 W (later (some (λ (r : Reply). ((‵ (flft κ′ q′) ⊛ ‵ ftrue) ⊛ ‵ (Reply·t.the-row .own r (w ∷ []))) ⊛ raw (ensured 𝓤 H A scheduled·f.ended (scheduled·f.clauses 𝓤 H A at-mem run) (κ′, tt) (r8, (h .now, (p1, (y, tt)))) tt r)))) (id⊢ 𝓤 _) $ await ! tt $ pick ! (λ r.
+        use1 W (later (some (λ (r : PlanReply). ((‵ (flft κ′ q′) ⊛ ‵ ftrue) ⊛ ‵ (PlanReply·t.the-row .own r (w ∷ []))) ⊛ raw (ensured 𝓤 H A scheduled·f.ended (scheduled·f.clauses 𝓤 H A at-mem run) (κ′, tt) (r8, (h .now, (p1, (y, tt)))) tt r)))) (id⊢ 𝓤 _) $ await ! tt $ pick ! (λ r.
         -- what it ensures, at some last output
         split ! $ move ! (1 ∷ []) $ use1 W (some (λ (zs : (Unit {0} × (Unit {0} × (Unit {0} × (List ℕ × Unit {0}))))). ‵ (lasts scheduled·f.ended (κ′, tt) (r8, (h .now, (p1, (y, tt)))) zs) ⊛ raw (fact 𝓤 ((r ≡ scheduleReply (r8) (h .now) (p1) (now y)) × (zs .1 .1 .1 .0 ≡ scheduleOutput (r8) (h .now) (p1) (now y)))))) (id⊢ 𝓤 _) $ pick ! (λ zs.
         split ! $ move ! (1 ∷ []) $ heard ! ((r ≡ scheduleReply (r8) (h .now) (p1) (now y)) × (zs .1 .1 .1 .0 ≡ scheduleOutput (r8) (h .now) (p1) (now y))) (λ e. fsplit ! $ drop ! $ fsplit ! $ drop ! $ fsplit ! $ drop ! $ fsplit ! $ fsplit ! $ move ! (1 ∷ []) $ feqL ! (λ l.
-        move ! (2 ∷ []) $ split ! $ move ! (1 ∷ []) $ peeks ! Reply·t.the-row (Is Reply·t.the-row) (shows 𝓤 H A Reply·t.the-row) r (w ∷ []) (λ is.
+        move ! (2 ∷ []) $ split ! $ move ! (1 ∷ []) $ peeks ! PlanReply·t.the-row (Is PlanReply·t.the-row) (shows 𝓤 H A PlanReply·t.the-row) r (w ∷ []) (λ is.
         -- [what the result owns; the output's token; the last output; true; true; a share of the struct's cell; what it owns; what shuts it; the fractured borrow; the locals; res]
-        land ! (from ! (stop !)) (init ! 27 refl (LL.lawful Reply·t.the-type Reply·t′.the-laws 𝓤 H A W .typed (r) _ is .0)) $
+        land ! (from ! (stop !)) (init ! 27 refl (LL.lawful PlanReply·t.the-type PlanReply·t′.the-laws 𝓤 H A W .typed (r) _ is .0)) $
         move ! (5 ∷ 6 ∷ 7 ∷ []) $ use1 W (‵ (fat q″ (rawTy OpenStates·t′.mir) b o (LL.val OpenStates·t.the-type OpenStates·t′.the-laws (h)))) (W .laws .at-raw q″ OpenStates·t′.mir b o _) $ shuts ! tt OpenStates·t.the-row q″ h (LL.val OpenStates·t.the-type OpenStates·t′.the-laws (h) ∷ []) b o $
         -- [the token; what the result owns; the output's token; the last output; true; true; the fractured borrow; the locals; res]
         returns ! (look ! 25 refl) $ forget ! 7 refl $ forget ! 9 refl $ forget ! 11 refl $ forget ! 13 refl $ forget ! 15 refl $ forget ! 17 refl $ forget ! 19 refl $ forget ! 21 refl $ forget ! 23 refl $ forget ! 25 refl $

@@ -1,8 +1,7 @@
 -- `open_job::calls::add_named` meets its contract: the name, then the tests of the hazard, and then it is put in. Assumes nothing.
-use Prim.Native.Nat.{_≤_}
 use native.Mathlib.Omega.{arith}
 use mathlib.Core.Path.{_≡_, sym, ap, _∙_}
-use mathlib.Core.Bool.{true, false}
+use mathlib.Core.Bool.{false}
 use lib.ListN.{length, length-map}
 use borrow.Author.Needs.{needs}
 use Rattle.refusal.specs.Answer.{accepted}
@@ -38,20 +37,22 @@ returns c =
 fresh : (c : tie.Else1) → let a = c .before .before .before .args in stands (a .name) (standing (a .job)) ≡ false
 fresh c = sym (c .before .stands-at .ensures) ∙ c .if1 .left
 
-may : (c : tie.After-enum-told) → let a = c .before .before .before .before .before .before .args in accepted tt ≡ admit (a .job .header) (a .name) (hazardGiven (a .hazard))
+test-given-requires : tie.Need-test-given-requires
+test-given-requires c κs = let s = c .before .before .before .before in open-ranged (s .args .job) (s .pre .0)
+
+may : (c : tie.After-enum-told) → let a = c .before .before .before .before .before .before .before .args in accepted tt ≡ admit (a .job .header) (a .name) (hazardGiven (a .hazard))
 may c = ap (λ (o : Outcome). outcome o tt) (sym (c .enum-told .given .1)) ∙ c .before .before .test-given .ensures
 
 under-name-requires : tie.Need-under-name-requires
 under-name-requires c κs =
-    let t = c .before in
-    let s = t .before .before .before .before .before .before in
+    let s = c .before .before .before .before .before .before .before in
     let z = hazardGiven (s .args .hazard) in
-    (open-ranged (s .args .job) (s .pre .0), hazard-ranged (s .args .job .header) z (admitted (s .args .job .header) (s .args .name) z (rw (sym (may t))) .fits))
+    (open-ranged (s .args .job) (s .pre .0), hazard-ranged (s .args .job .header) z (admitted (s .args .job .header) (s .args .name) z (rw (sym (may c))) .fits))
 
 put-in-requires : tie.Need-put-in-requires
 put-in-requires c κs =
-    let t = c .before .before in
-    let e = t .before .before .before in
+    let t = c .before in
+    let e = t .before .before .before .before in
     let s = e .before .before .before in
     let z = hazardGiven (s .args .hazard) in
     let few = open-header (s .args .job) (s .pre .0) .count in
@@ -60,8 +61,8 @@ put-in-requires c κs =
 
 returns-2 : tie.Need-returns-2
 returns-2 c =
-    let t = c .before .before .before in
-    let e = t .before .before .before in
+    let t = c .before .before in
+    let e = t .before .before .before .before in
     let s = e .before .before .before in
     let done = add-done (s .args .job) (s .pre .0) (s .args .name) (hazardGiven (s .args .hazard)) (fresh e) (may t) _ (e .before .before .place-of .ensures) in
     rw (c .put-in .ensures, c .before .under-name .ensures) (changes-done (s .args .job) done)
@@ -70,11 +71,11 @@ returns-3 : tie.Need-returns-3
 returns-3 c =
     let x = c .before .before .outcome .given in
     let r = c .before .before .before .before in
-    let e = r .before in
+    let e = r .before .before in
     let s = e .before .before .before in
     changes-refused (s .args .job) (x .0 .0) (add-tested (s .args .job) (s .pre .0) (s .args .name) (hazardGiven (s .args .hazard)) (fresh e) (x .0 .0) (ap (λ (o : Outcome). outcome o tt) (sym (x .1)) ∙ r .test-given .ensures)) (c .unchanged2 .ensures)
 
 pub add-named-spec : {M : Type 1} → statement M
 add-named-spec =
     tie.close
-    (tie.spec place-of-requires stands-at-requires (λ c κs. search needs) returns (λ c κs. search needs) (λ c. search needs) under-name-requires put-in-requires (λ c. search needs) (λ c κs. search needs) returns-2 returns-3)
+    (tie.spec place-of-requires stands-at-requires (λ c κs. search needs) returns test-given-requires (λ c. search needs) under-name-requires put-in-requires (λ c. search needs) (λ c κs. search needs) returns-2 returns-3)

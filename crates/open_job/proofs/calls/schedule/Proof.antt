@@ -1,13 +1,12 @@
 -- `open_job::calls::schedule` meets its contract: the memory, then the side, then the schedule of the envelopes. Assumes nothing.
-use native.Mathlib.Omega.{arith}
-use mathlib.Core.Path.{_≡_, refl, sym, ap, _∙_}
+use mathlib.Core.Path.{_≡_, refl, sym, _∙_}
+use mathlib.Core.Bool.{true}
 use lib.ListN.{length, length-map}
 use borrow.Author.Needs.{needs}
-use Rattle.refusal.specs.Refusal.{outcome}
-use Rattle.refusal.specs.declared.Outcome.{Outcome}
-use Rattle.runs.specs.RunList.{envelopesOf}
 use Rattle.schedule.specs.Plan.{bytesWritten}
-use Rattle.open_job.proofs.CallLaws.{schedule-refused, schedule-eight, schedule-stored, schedule-done}
+use Rattle.open_memory.specs.Memory.{isOpenJob}
+use Rattle.open_memory.proofs.RuleLaws.{open-accepted}
+use Rattle.open_job.proofs.CallLaws.{schedule-bad, schedule-eight, schedule-stored, schedule-done}
 use Rattle.open_job.proofs.calls.schedule.Statement.{statement}
 use Rattle.open_job.proofs.calls.schedule.Tie as tie
 
@@ -15,35 +14,44 @@ use Rattle.open_job.proofs.calls.schedule.Tie as tie
 size : (c : tie.Start) → length (c .args .job .hazards) ≡ 256
 size c = simp length-map at (c .good .0 .1 .1 .1 .0 .1 .0 .1)
 
+-- The memory keeps the rules.
+good : (c : tie.Then1) → isOpenJob (c .before .before .before .args .job) ≡ true
+good c = sym (c .before .is-open-job .ensures) ∙ c .if1 .taken
+
 returns : tie.Need-returns
 unfolding bytesWritten
 returns c =
-    let r = c .before .before .before in
-    let a = r .before .before .args in
-    rw (schedule-eight (a .job) (a .side) (r .open-envelopes .result) (r .open-envelopes .ensures) (c .before .enum-told .given .1) (length (a .out .now)) (c .if1 .taken)) (refl, refl)
+    let t = c .before in
+    let a = t .before .before .before .args in
+    rw (schedule-eight (a .job) (a .side) (good t) (length (a .out .now)) (c .if2 .taken)) (refl, refl)
+
+side-envelopes-requires : tie.Need-side-envelopes-requires
+side-envelopes-requires c κs =
+    let t = c .before in
+    let s = t .before .before .before in
+    open-accepted (s .args .job) (good t) (size s) .fits
 
 plan-envelopes-requires : tie.Need-plan-envelopes-requires
 plan-envelopes-requires c κs =
-    let r = c .before .before .before .before .before .before in
-    let s = r .before .before in
-    schedule-stored (s .args .job) (s .args .side) (r .open-envelopes .result) (r .open-envelopes .ensures) (c .before .before .before .before .enum-told .given .1) (size s)
+    let r = c .before .before .before .before in
+    let t = r .before .before in
+    let s = t .before .before .before in
+    schedule-stored (s .args .job) (s .args .side) (good t) (size s) (r .side-envelopes .result) (r .side-envelopes .ensures)
 
 returns-2 : tie.Need-returns-2
 returns-2 c =
-    let r = c .before .before .before .before .before .before .before .before .before in
-    let s = r .before .before in
-    let e = c .before .before .before .before .before .before in
-    rw (schedule-done (s .args .job) (s .args .side) (r .open-envelopes .result) (r .open-envelopes .ensures) (e .before .enum-told .given .1) (size s) (length (s .args .out .now)) (e .if1 .left)) (c .before .before .plan-envelopes .ensures)
+    let r = c .before .before .before .before .before .before .before in
+    let t = r .before .before in
+    let s = t .before .before .before in
+    rw (schedule-done (s .args .job) (s .args .side) (good t) (size s) (r .side-envelopes .result) (r .side-envelopes .ensures) (length (s .args .out .now)) (r .before .if2 .left)) (c .before .before .plan-envelopes .ensures)
 
 returns-3 : tie.Need-returns-3
 unfolding bytesWritten
 returns-3 c =
-    let r = c .before .before .before in
-    let a = r .before .before .args in
-    let x = c .before .outcome .given in
-    rw (schedule-refused (a .job) (a .side) (length (a .out .now)) (x .0 .0) (ap (λ (o : Outcome). outcome o (envelopesOf (r .open-envelopes .result .envelopes))) (sym (x .1)) ∙ r .open-envelopes .ensures .0)) (refl, refl)
+    let a = c .before .before .before .args in
+    rw (schedule-bad (a .job) (a .side) (length (a .out .now)) (sym (c .before .is-open-job .ensures) ∙ c .if1 .left)) (refl, refl)
 
 pub schedule-spec : {M : Type 1} → statement M
 schedule-spec =
     tie.close
-    (tie.spec (λ c κs. search needs) (λ c. search needs) returns plan-envelopes-requires (λ c. search needs) (λ c. search needs) returns-2 returns-3)
+    (tie.spec (λ c κs. search needs) returns side-envelopes-requires plan-envelopes-requires (λ c. search needs) returns-2 returns-3)

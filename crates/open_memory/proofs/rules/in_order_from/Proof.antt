@@ -1,16 +1,34 @@
--- `open_memory::rules::in_order_from` meets its contract: the name, and the hazard in its ranges. Assumes nothing.
-use mathlib.Core.Path.{ap, _∙_}
+-- `open_memory::rules::in_order_from` meets its contract: the ranges first, so that the test for 5 may be made. Assumes nothing.
+use mathlib.Core.Path.{_≡_, sym, ap, _∙_}
+use mathlib.Core.Bool.{Bool}
 use borrow.Author.Needs.{needs}
+use Rattle.job.specs.Job.{unnamed}
 use Rattle.open_memory.specs.Memory.{hazardInRange}
-use Rattle.open_memory.specs.Steps.{inOrderFrom}
+use Rattle.open_memory.proofs.RangeLaws.{header-fits, hazard-fits}
+use Rattle.open_memory.proofs.OrderLaws.{order-ranged, order-unranged}
 use Rattle.open_memory.proofs.rules.in_order_from.Statement.{statement}
 use Rattle.open_memory.proofs.rules.in_order_from.Tie as tie
 
+-- What the test of the ranges said.
+ranged : (c : tie.After-hazard-in-range) (b : Bool) → c .hazard-in-range .result ≡ b → let a = c .before .before .before .args in hazardInRange (a .h) (unnamed (a .p)) ≡ b
+ranged c b e = let a = c .before .before .before .args in ap (hazardInRange (a .h)) (sym (c .before .given .ensures)) ∙ sym (c .hazard-in-range .ensures) ∙ e
+
+stands-near-requires : tie.Need-stands-near-requires
+stands-near-requires c κs =
+    let s = c .before .before .before .before .before in
+    (header-fits (s .args .h) (s .pre), rw (c .unnamed .ensures) (hazard-fits (s .args .h) (unnamed (s .args .p)) (ranged (c .before .before) _ (c .before .if1 .taken))))
+
 returns : tie.Need-returns
-unfolding inOrderFrom
 returns c =
-    let a = c .before .before .before .args in
-    rw (c .hazard-in-range .ensures ∙ ap (hazardInRange (a .h)) (c .before .given .ensures))
+    let r = c .before .before .before in
+    let a = r .before .before .before .args in
+    rw (c .stands-near .ensures, c .before .unnamed .ensures) (order-ranged (a .h) (a .low) (a .p) (ranged r _ (c .before .before .if1 .taken)))
+
+returns-2 : tie.Need-returns-2
+returns-2 c =
+    let r = c .before in
+    let a = r .before .before .before .args in
+    order-unranged (a .h) (a .low) (a .p) (ranged r _ (c .if1 .left))
 
 pub in-order-from-spec : {M : Type 1} → statement M
-in-order-from-spec = tie.close (tie.spec (λ c. search needs) (λ c κs. search needs) (λ c κs. search needs) returns)
+in-order-from-spec = tie.close (tie.spec (λ c. search needs) (λ c κs. search needs) (λ c κs. search needs) (λ c κs. search needs) stands-near-requires returns returns-2)

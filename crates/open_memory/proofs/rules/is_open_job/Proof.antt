@@ -1,38 +1,31 @@
--- `open_memory::rules::is_open_job` meets its contract: the order, then 5 and 6. Assumes nothing.
-use native.Mathlib.Omega.{arith}
+-- `open_memory::rules::is_open_job` meets its contract: the header, then the names and hazards, then the places behind. Assumes nothing.
 use mathlib.Core.Path.{_≡_, sym, _∙_}
 use mathlib.Core.Bool.{true}
-use lib.ListN.{length, length-map}
 use borrow.Author.Needs.{needs}
-use Rattle.job.specs.Job.{jobOf}
-use Rattle.planning.proofs.SideLaws.{envelopes-done, envelopes-refused}
-use Rattle.open_memory.specs.Steps.{inOrder}
-use Rattle.open_memory.proofs.OrderLaws.{order-fits, tested-open, tested-not-open, disorder}
+use Rattle.open_memory.specs.Memory.{headerInRange}
+use Rattle.open_memory.proofs.RangeLaws.{header-fits}
+use Rattle.open_memory.proofs.OrderLaws.{open-not-header, open-not-all, open-rest}
 use Rattle.open_memory.proofs.rules.is_open_job.Statement.{statement}
 use Rattle.open_memory.proofs.rules.is_open_job.Tie as tie
 
--- How long the array is.
-size : (c : tie.Start) → length (c .args .job .hazards) ≡ 256
-size c = simp length-map at (c .good .0 .1 .1 .1 .0 .1 .0 .1)
+-- The header is in its ranges.
+ranged : (c : tie.Then1) → headerInRange (c .before .before .before .args .job .header) ≡ true
+ranged c = sym (c .before .header-in-range .ensures) ∙ c .if1 .taken
 
-ordered : (c : tie.Then1) → inOrder (c .before .before .args .job) ≡ true
-ordered c = sym (c .before .in-order .ensures) ∙ c .if1 .taken
+all-in-order-requires : tie.Need-all-in-order-requires
+all-in-order-requires c κs = ranged c
 
-side-envelopes-requires : tie.Need-side-envelopes-requires
-side-envelopes-requires c κs = (order-fits _ (ordered c) (size (c .before .before)), omega arith)
+rest-unused-requires : tie.Need-rest-unused-requires
+rest-unused-requires c κs = header-fits _ (ranged (c .before .before)) .count
 
 returns : tie.Need-returns
-returns c =
-    let r = c .before .before in
-    sym (tested-open _ (ordered (r .before)) 2 _ (envelopes-done _ 0 2 (r .side-envelopes .result) (r .side-envelopes .ensures) (c .enum-told .given .1)))
+returns c = c .rest-unused .ensures ∙ open-rest _ (ranged (c .before .before .before)) (sym (c .before .before .all-in-order .ensures) ∙ c .before .if2 .taken)
 
 returns-2 : tie.Need-returns-2
-returns-2 c =
-    let r = c .before .before in
-    sym (tested-not-open _ (ordered (r .before)) 2 _ _ (envelopes-refused _ 0 2 (r .side-envelopes .result) (r .side-envelopes .ensures) (c .enum-told2 .given .1)))
+returns-2 c = open-not-all _ (ranged (c .before .before)) (sym (c .before .all-in-order .ensures) ∙ c .if2 .left)
 
 returns-3 : tie.Need-returns-3
-returns-3 c = sym (disorder _ (sym (c .before .in-order .ensures) ∙ c .if1 .left))
+returns-3 c = open-not-header _ (sym (c .before .header-in-range .ensures) ∙ c .if1 .left)
 
 pub is-open-job-spec : {M : Type 1} → statement M
-is-open-job-spec = tie.close (tie.spec (λ c κs. search needs) side-envelopes-requires (λ c. search needs) (λ c. search needs) returns returns-2 returns-3)
+is-open-job-spec = tie.close (tie.spec (λ c κs. search needs) all-in-order-requires rest-unused-requires returns returns-2 returns-3)

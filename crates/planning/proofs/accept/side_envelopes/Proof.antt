@@ -1,59 +1,49 @@
--- `planning::accept::side_envelopes` meets its contract. The invariant: the envelopes taken are stored, and what is left to do gives the
--- answer. The measure is how many hazards are left. Assumes nothing.
-use Prim.Native.Nat.{_+_, _-_}
+-- `planning::accept::side_envelopes` meets its contract. The invariant: the envelopes taken are stored, with their greatest overhangs, and what
+-- is left to do gives the answer. The measure is how many hazards are left. Assumes nothing.
+use Prim.Native.Nat.{_-_}
 use native.Mathlib.Omega.{arith}
 use mathlib.Core.Path.{_≡_, sym, ap, _∙_}
-use mathlib.Core.List.{[], _∷_}
 use borrow.Author.Needs.{needs}
-use Rattle.job.specs.declared.NamedHazard.{NamedHazard}
 use Rattle.job.specs.Reply.{unused}
 use Rattle.planning.specs.declared.envelope.Tested.{Tested}
 use Rattle.planning.specs.Reply.{testedHazard, hazardAnswer}
-use Rattle.planning.proofs.AcceptLaws.{SoFar, element-fits, none-yet, hazard-taken, hazard-other, hazard-unreached, hazard-refused, all-done, replies-refused}
+use Rattle.planning.proofs.AcceptLaws.{SoFar, element-fits, none-yet, hazard-taken, hazard-left-out, hazard-refused, all-done, replies-refused}
 use Rattle.planning.proofs.accept.side_envelopes.Statement.{statement}
 use Rattle.planning.proofs.accept.side_envelopes.Tie as tie
 
 abbrev Inv-loop : tie.InvT-loop
-Inv-loop first side job header hazard-count envelopes₀ index₀ envelopes index = SoFar job first side envelopes index
+Inv-loop side job header hazard-count envelopes₀ overhangs₀ index₀ envelopes overhangs index = SoFar job side envelopes overhangs index
 
 abbrev μ-loop : tie.MeasureT-loop
-μ-loop first side job header hazard-count envelopes₀ index₀ envelopes index = job .header .count - index
+μ-loop side job header hazard-count envelopes₀ overhangs₀ index₀ envelopes overhangs index = job .header .count - index
 
 loop-holds : tie.Need-loop-holds Inv-loop μ-loop
-loop-holds c = let start = c .before .before .before in none-yet (start .args .t1) (start .args .first) (start .args .side) (start .pre .0) (c .no-envelopes .ensures)
+loop-holds c = let start = c .before .before .before in none-yet (start .args .t1) (start .args .side) (start .pre) (c .no-envelopes .ensures)
 
 test-hazard-requires : tie.Need-test-hazard-requires Inv-loop μ-loop
 test-hazard-requires c κs =
     let start = c .before .before .before .before .before .before .before in
-    let fits = element-fits (start .args .t1) (start .args .first) (start .args .side) (start .pre .0) (c .before .before .before .loop .index) unused (omega arith) in
-    (start .pre .0 .header, rw (c .unnamed .ensures) fits)
+    let fits = element-fits (start .args .t1) (start .args .side) (start .pre) (c .before .before .before .loop .index) unused (omega arith) in
+    (start .pre .header, rw (c .unnamed .ensures) fits)
 
 -- What the test of a turn's hazard said.
 told : (c : tie.After-test-hazard Inv-loop μ-loop) (r : Tested) → c .test-hazard .result ≡ r
-    → let start = c .before .before .before .before .before .before .before .before in hazardAnswer r ≡ testedHazard (start .args .t1 .header) (start .args .first + c .before .before .before .before .loop .index) (c .before .unnamed .result)
+    → let start = c .before .before .before .before .before .before .before .before in hazardAnswer r ≡ testedHazard (start .args .t1 .header) (start .args .side) (c .before .before .before .before .loop .index) (c .before .unnamed .result)
 told c r e = ap hazardAnswer (sym e) ∙ c .test-hazard .ensures
 
 loop-again : tie.Need-loop-again Inv-loop μ-loop
 loop-again c =
-    let b = c .before .before .before .before .before in
+    let b = c .before .before .before .before .before .before in
     let start = b .before .before .before .before .before .before .before .before in
-    let envelope = c .before .before .before .tested .given in
-    hazard-taken (start .args .t1) (start .args .first) (start .args .side) (start .pre .0) unused (b .before .before .before .before .loop .inv) (omega arith) (b .before .unnamed .result) (b .before .unnamed .ensures)
-    (envelope .0 .0) (told b _ (envelope .1)) (c .if1 .taken)
+    let envelope = c .before .before .before .before .tested .given in
+    hazard-taken (start .args .t1) (start .args .side) (start .pre) unused (b .before .before .before .before .loop .inv) (omega arith) (b .before .unnamed .result) (b .before .unnamed .ensures)
+    (envelope .0 .0 .stretch) (envelope .0 .0 .overhangs) (c .greater-of .result) (told b _ (envelope .1)) (c .greater-of .ensures)
 
 loop-again-2 : tie.Need-loop-again-2 Inv-loop μ-loop
 loop-again-2 c =
-    let b = c .before .before .before .before .before in
-    let start = b .before .before .before .before .before .before .before .before in
-    let envelope = c .before .before .before .tested .given in
-    hazard-other (start .args .t1) (start .args .first) (start .args .side) (start .pre .0) unused (b .before .before .before .before .loop .inv) (omega arith) (b .before .unnamed .result) (b .before .unnamed .ensures)
-    (envelope .0 .0 ∷ []) (told b _ (envelope .1)) (c .if1 .left)
-
-loop-again-3 : tie.Need-loop-again-3 Inv-loop μ-loop
-loop-again-3 c =
     let b = c .before .before in
     let start = b .before .before .before .before .before .before .before .before in
-    hazard-unreached (start .args .t1) (start .args .first) (start .args .side) (start .pre .0) unused (b .before .before .before .before .loop .inv) (omega arith) (b .before .unnamed .result) (b .before .unnamed .ensures)
+    hazard-left-out (start .args .t1) (start .args .side) (start .pre) unused (b .before .before .before .before .loop .inv) (omega arith) (b .before .unnamed .result) (b .before .unnamed .ensures)
     (told b _ (c .enum-told .given .1))
 
 returns : tie.Need-returns Inv-loop μ-loop
@@ -62,17 +52,17 @@ returns c =
     let start = b .before .before .before .before .before .before .before .before in
     let refusal = c .before .before .tested2 .given in
     replies-refused (refusal .0 .0) (c .refused .ensures)
-    (hazard-refused (start .args .t1) (start .args .first) (start .args .side) (start .pre .0) unused (b .before .before .before .before .loop .inv) (omega arith) (b .before .unnamed .result) (b .before .unnamed .ensures)
+    (hazard-refused (start .args .t1) (start .args .side) (start .pre) unused (b .before .before .before .before .loop .inv) (omega arith) (b .before .unnamed .result) (b .before .unnamed .ensures)
     (refusal .0 .0) (told b _ (refusal .1)))
 
 returns-2 : tie.Need-returns-2 Inv-loop μ-loop
 returns-2 c =
     let start = c .before .before .before .before .before in
-    all-done (start .args .t1) (start .args .first) (start .args .side) (start .pre .0) (c .before .loop .inv) (c .loop-test .left)
+    all-done (start .args .t1) (start .args .side) (start .pre) (c .before .loop .inv) (c .loop-test .left)
 
 pub side-envelopes-spec : {M : Type 1} → statement M
 side-envelopes-spec =
     tie.close
-    (tie.spec Inv-loop μ-loop (λ c. search needs) (λ c κs. search needs) loop-holds (λ c. search needs) (λ c. search needs) (λ c κs. search needs) (λ c. search needs) test-hazard-requires
-    (λ c. search needs) (λ c. search needs) (λ c. search needs) (λ c. search needs) (λ c. search needs) (λ c. search needs) (λ c. search needs) loop-again (λ c. search needs) loop-again-2
-    (λ c. search needs) (λ c. search needs) loop-again-3 (λ c. search needs) (λ c κs. search needs) returns returns-2)
+    (tie.spec Inv-loop μ-loop (λ c. search needs) (λ c κs. search needs) loop-holds (λ c. search needs) (λ c. search needs) (λ c κs. search needs) test-hazard-requires (λ c. search needs)
+    (λ c. search needs) (λ c. search needs) (λ c. search needs) (λ c. search needs) (λ c κs. search needs) (λ c. search needs) loop-again (λ c. search needs) (λ c. search needs) loop-again-2
+    (λ c. search needs) (λ c κs. search needs) returns returns-2)

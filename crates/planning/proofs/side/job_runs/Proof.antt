@@ -13,7 +13,7 @@ required-runs-requires : tie.Need-required-runs-requires
 required-runs-requires c κs =
     let s = c .before .before .before .before .before in
     let tested = c .before .before .before .before .side-envelopes in
-    stored-envelopes (jobOf (s .args .job)) 0 (s .args .side) (tested .result) (tested .ensures) (s .pre) (c .before .before .enum-told .given .1)
+    stored-envelopes (jobOf (s .args .job)) (s .args .side) (tested .result) (tested .ensures) (s .pre) (c .before .before .enum-told .given .1)
 
 returns : tie.Need-returns
 returns c =

@@ -6,7 +6,7 @@ use Rattle.replies.proofs.open.kept.Statement.{statement}
 use Rattle.replies.proofs.open.kept.Tie as tie
 
 returns : tie.Need-returns
-returns c = let call = c .before .test-number in c .ended .ensures ∙ keeping-seen _ (call .result) (call .ensures)
+returns c = let call = c .before .test-number in c .ending .ensures ∙ keeping-seen _ (call .result) (call .ensures)
 
 pub kept-spec : {M : Type 1} → statement M
 kept-spec = tie.close (tie.spec (λ c κs. search needs) (λ c κs. search needs) returns)

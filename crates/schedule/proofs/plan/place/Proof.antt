@@ -1,5 +1,5 @@
 -- `schedule::plan::place` meets its contract: with room the schedule is placed from the first byte on, and without it nothing is. Assumes nothing.
-use Prim.Native.Nat.{_≤_, _<_}
+use Prim.Native.Nat.{ℕ, _≤_, _<_}
 use native.Mathlib.Omega.{arith}
 use mathlib.Core.Path.{refl, ap, _∙_}
 use lib.ListN.{length}
@@ -19,7 +19,7 @@ returns c =
     let w = writeSchedule (runsOf (a .list)) in
     let counted = c .before .bytes-needed .ensures .1 (c .if1 .taken) in
     let short : length (a .out .now) < length w = omega arith in
-    rw (fitted-short w (length (a .out .now)) short) (ap (refused 9) counted, refl)
+    rw (fitted-short w (a .overhangs) (length (a .out .now)) short) (ap (refused 9) counted, refl)
 
 put-schedule-requires : tie.Need-put-schedule-requires
 put-schedule-requires c κs = let fits = c .before .before .bytes-needed .ensures .0 (c .before .if1 .left) in search (needs, fits)
@@ -31,7 +31,7 @@ returns-2 c =
     let w = writeSchedule (runsOf (a .list)) in
     let fits : length w ≤ length (a .out .now) = c .before .before .before .before .before .bytes-needed .ensures .0 (c .before .before .before .before .if1 .left) in
     let put = c .before .before .put-schedule in
-    rw (fitted-fits w (length (a .out .now)) fits) (ap accepted (put .ensures .0), put .ensures .1 ∙ placed-first (a .out .now) w fits)
+    rw (fitted-fits w (a .overhangs) (length (a .out .now)) fits) (ap (λ (n : ℕ). accepted (record { bytes = n; overhangs = a .overhangs })) (put .ensures .0), put .ensures .1 ∙ placed-first (a .out .now) w fits)
 
 pub place-spec : {M : Type 1} → statement M
 place-spec = tie.close (tie.spec (λ c κs. search needs) returns put-schedule-requires (λ c. search needs) returns-2)

@@ -11,15 +11,15 @@ use Rattle.schedule.proofs.plan.plan_stored.Tie as tie
 
 plan-envelopes-requires : tie.Need-plan-envelopes-requires
 plan-envelopes-requires c κs =
-    let r = c .before .before .before .before .before in
+    let r = c .before .before .before .before .before .before in
     let start = r .before .before in
-    stored-envelopes (jobOf (start .args .job)) 0 (start .args .side) (r .side-envelopes .result) (r .side-envelopes .ensures) (start .pre) (c .before .before .before .enum-told .given .1)
+    stored-envelopes (jobOf (start .args .job)) (start .args .side) (r .side-envelopes .result) (r .side-envelopes .ensures) (start .pre) (c .before .before .before .before .enum-told .given .1)
 
 returns : tie.Need-returns
 returns c =
-    let r = c .before .before .before .before .before .before .before .before in
+    let r = c .before .before .before .before .before .before .before .before .before in
     let a = r .before .before .args in
-    rw (tested-done (jobOf (a .job)) (a .side) (r .side-envelopes .result) (r .side-envelopes .ensures) (length (a .out .now)) (c .before .before .before .before .before .before .enum-told .given .1))
+    rw (tested-done (jobOf (a .job)) (a .side) (r .side-envelopes .result) (r .side-envelopes .ensures) (length (a .out .now)) (c .before .before .before .before .before .before .before .enum-told .given .1))
     (c .before .before .plan-envelopes .ensures)
 
 returns-2 : tie.Need-returns-2

@@ -1,8 +1,8 @@
--- `replies::open::ended` meets its contract: 0 and 0, or the refusal. Assumes nothing.
+-- `replies::ended` meets its contract: 0 and 0, or the refusal. Assumes nothing.
 use borrow.Author.Needs.{needs}
 use Rattle.replies.specs.Interface.{replyOf}
-use Rattle.replies.proofs.open.ended.Statement.{statement}
-use Rattle.replies.proofs.open.ended.Tie as tie
+use Rattle.replies.proofs.ended.Statement.{statement}
+use Rattle.replies.proofs.ended.Tie as tie
 
 returns : tie.Need-returns
 unfolding replyOf

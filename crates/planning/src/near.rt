@@ -1,0 +1,15 @@
+// Refusal 5.
+use job::Hazard;
+use job::Header;
+ghost use mathlib.Core.Path.{_≡_};
+ghost use Rattle.job.proofs.JobLaws.{HeaderFits, HazardFits};
+ghost use Rattle.planning.specs.Envelope.{standsNear};
+
+// A hazard that is reached, which it is if its near offset lies in the clear zone, and stands nearer than barrier offset and deflection allow.
+pub fn stands_near(header: Header, hazard: Hazard) -> bool
+    requires { ⌜ HeaderFits header ⌝ }
+    requires { ⌜ HazardFits header hazard ⌝ }
+    ensures { λ r. ⌜ r ≡ standsNear header hazard ⌝ }
+{
+    (hazard.near < header.zone) & (hazard.near < header.offset + header.deflection)
+}
