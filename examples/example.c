@@ -1,10 +1,10 @@
 /*
  * The first program: plans document 01's printed example, looks up the barrier
  * at some stations, asks for the level at two of them without the schedule,
- * prices it by lots, plans a job whose approach runs into the neighbouring
- * contract and shows two refusals.  It ends with 1 where a call does not do
- * what it should: a schedule that cannot be read must not be priced as one
- * without barriers.
+ * prices it by lots, asks for the corners of its approach, plans a job whose
+ * approach runs into the neighbouring contract and shows two refusals.  It ends
+ * with 1 where a call does not do what it should: a schedule that cannot be
+ * read must not be priced as one without barriers.
  *
  *     cc example.c $(pkg-config --cflags --libs barrier_engine) -o example
  */
@@ -88,7 +88,7 @@ static void print_refusal(const char *what, barrier_reply reply)
         printf("bytes are left over from byte %" PRIu64 " on\n", value);
         break;
     case BARRIER_ARGUMENT:
-        printf("no such side or level, or a range that ends before it begins\n");
+        printf("no such side, level or sheet corner, or a range that ends before it begins\n");
         break;
     case BARRIER_OUTPUT_SHORT:
         printf("the schedule takes %" PRIu64 " bytes\n", value);
@@ -104,6 +104,9 @@ static void print_refusal(const char *what, barrier_reply reply)
         break;
     case BARRIER_STATE:
         printf("no such state number, or nothing is kept under it\n");
+        break;
+    case BARRIER_NO_APPROACH:
+        printf("no such hazard, or adjacent traffic does not reach it\n");
         break;
     default:
         printf("a number that barrier.h does not have\n");
@@ -246,6 +249,34 @@ static int print_prices(const uint8_t *right, size_t right_len)
     return print_lots(right, right_len, 155773) && print_road(right, right_len);
 }
 
+/* Whole millimetres: nothing behind the point is left out. */
+static void print_corner(const char *name, barrier_corner corner)
+{
+    printf("    %-8s (%.0f, %.0f)\n", name, corner.station, corner.offset);
+}
+
+/* The headwall's approach, to be drawn on that sheet; 0 if refused. */
+static int print_sheet(const uint8_t *job, size_t job_len, uint64_t station, uint64_t offset)
+{
+    const barrier_corners_reply reply = barrier_corners(job, job_len, 0, station, offset);
+    if (reply.number != BARRIER_DONE) {
+        const barrier_reply refusal = {reply.number, reply.value};
+        print_refusal("corners", refusal);
+        return 0;
+    }
+    printf("  from sheet corner (%" PRIu64 ", %" PRIu64 ")\n", station, offset);
+    print_corner("upstream", reply.upstream);
+    print_corner("flare", reply.flare);
+    print_corner("hazard", reply.hazard);
+    return 1;
+}
+
+static int print_corners(const uint8_t *job, size_t job_len)
+{
+    printf("Corners of the approach\n");
+    return print_sheet(job, job_len, 0, 0) && print_sheet(job, job_len, 160000, 4000);
+}
+
 /*
  * Case K8's second job: without flare, and the headwall from 67,333 on, one
  * millimetre nearer to the road's begin than its approach is long.  The
@@ -324,7 +355,8 @@ static int show(void)
     print_bytes("right schedule", right, right_len);
     print_bytes("left schedule", left, left_len);
     return print_stations(right, right_len) && print_levels(job, job_len) &&
-           print_prices(right, right_len) && print_overhang() && print_refusals(job, job_len);
+           print_prices(right, right_len) && print_corners(job, job_len) && print_overhang() &&
+           print_refusals(job, job_len);
 }
 
 int main(void)

@@ -3,10 +3,11 @@
  *
  * A job goes in: one straight road and its roadside hazards.  A schedule comes
  * out: the runs of safety barrier along one side of the road, each with its
- * containment level.  There are eleven calls:
+ * containment level.  There are twelve calls:
  *
  *     barrier_plan           writes the schedule of one side of a job
  *     barrier_level          gives the level that a job requires at a station
+ *     barrier_corners        gives the corner points of an approach to draw
  *     barrier_quantity       counts the millimetres of one level in a range
  *     barrier_quantities     the same for all lots of a contract, in one walk
  *     barrier_lookup         finds the record of the run at a station
@@ -17,8 +18,8 @@
  *     barrier_keep           keeps the state of an open job under a number
  *     barrier_return         returns an open job to a state that is kept
  *
- * This file is the manual; examples/example.c is a first program, and
- * examples/open_job.c one with an open job.
+ * This file is the manual; examples/example.c is a first program,
+ * examples/open_job.c one with an open job, and examples/corners.c draws a job.
  *
  * CONTENTS
  *
@@ -28,7 +29,7 @@
  *     What is planned              Threads
  *     Overhangs                    Linking
  *     The schedule                 Constants
- *                                  The calls
+ *     Corner points                The calls
  *
  * ---------------------------------------------------------------------------
  * STATIONS AND RANGES
@@ -201,6 +202,59 @@
  * overhangs may differ: nothing outside the road is in a schedule.
  *
  * ---------------------------------------------------------------------------
+ * CORNER POINTS
+ *
+ * A draughting package draws the approach to a hazard through three corners,
+ * which barrier_corners gives as 64-bit floats:
+ *
+ *     corner      what it is                station           offset
+ *     upstream    the approach's end, which
+ *                 traffic comes to first    s - l or e + l    M and the flare
+ *     flare       where the flare begins    s - T or e + T    M
+ *     hazard      the hazard's end on the
+ *                 side of the approach      s or e            M
+ *
+ * It is the approach of the adjacent traffic alone.  Forward traffic comes from
+ * lower stations and has the first of each two; opposite traffic comes from
+ * higher ones and has the second.  l is the approach length, as raised to whole
+ * panels.  The flare takes the upstream end away from the road, to the offset
+ *
+ *     M + b * (l - T) / a, rounded down
+ *
+ * where it is entered, that is, where b is above 0 and the approach length is
+ * above T before it is raised.  Otherwise the barrier does not bend: the
+ * upstream end is at offset M, and the flare's corner is the same as that one.
+ *
+ *     The printed example, case K1: length 44227, above T = 13340.
+ *
+ *         offset
+ *          5059   upstream
+ *                          . .
+ *                              . .
+ *          3000                    flare . . . . . . . . hazard
+ *
+ *                 155773           186660                200000   station
+ *
+ *     3000 + 1 * (44227 - 13340) / 15 is 5059.1, down to 5059.
+ *
+ * The corners are counted from a sheet corner, a station and an offset of
+ * yours, which are subtracted.  The subtraction is done in floats and loses
+ * nothing: each of the six numbers is exactly a whole count of millimetres, and
+ * no zero is negative.  (That is in the rounding mode that C starts with, to
+ * nearest.  A program that has set another gets the same numbers, but a zero is
+ * -0.0 where it rounds downward.)  Corners are not cut at A and B: where an
+ * approach hangs over they show how far.  So a station may be negative, and an
+ * offset too.
+ *
+ *     sheet corner      upstream          flare             hazard
+ *     (0, 0)            (155773, 5059)    (186660, 3000)    (200000, 3000)
+ *     (160000, 4000)    (-4227, 1059)     (26660, -1000)    (40000, -1000)
+ *
+ * Offsets are measured from the travelled-way edge of the hazard's own side and
+ * grow away from the road, on the left side as on the right: it is for the
+ * drawing to turn one side over, as examples/corners.c does.
+ *
+ * ---------------------------------------------------------------------------
  * OPEN JOBS
  *
  * A controller meets the hazards one by one, as the rod reaches them.  For it
@@ -283,7 +337,8 @@
  *      7      index of the first        bytes behind the last hazard
  *             byte left over
  *      8      0                         side above 1, level not 1 to 6, p > q
- *                                       in any range, or a p without its q
+ *                                       in any range, a p without its q, or a
+ *                                       sheet corner's number above 2000000000
  *      9      bytes needed              the output is shorter than that
  *     10      0                         the bytes are not a schedule, that is,
  *                                       not the writing of a run list
@@ -292,6 +347,8 @@
  *                                       stand (withdraw)
  *     13      0                         state number above 7; to return, also
  *                                       one under which nothing is kept
+ *     14      0                         the job has no such hazard, or adjacent
+ *                                       traffic does not reach it
  *
  * The first that holds is returned, in this order:
  *
@@ -300,6 +357,8 @@
  *                            next is read; then 7; then the hazards by index,
  *                            those of both sides, each for 5; then 9
  *     barrier_level          as barrier_plan, without 9
+ *     barrier_corners        8, of the sheet corner; then as barrier_plan from
+ *                            the job's numbers on, without 9; then 14
  *     barrier_quantity       8, then 10
  *     barrier_quantities     8, then 11, then 10
  *     barrier_lookup         8, then 10, of the asked side's schedule
@@ -348,9 +407,9 @@
  * thread changes a buffer that another call is using.  So on one open job only
  * one call at a time may open, add, withdraw, keep or return, and no other call
  * with it; calls on different open jobs do not touch each other.  One call of
- * barrier_plan or barrier_level takes at most 24 KiB of stack, each of those on
- * an open job at most 64 KiB, without the open job itself, each of the others
- * less than 2 KiB.
+ * barrier_plan, barrier_level or barrier_corners takes at most 24 KiB of stack,
+ * each of those on an open job at most 64 KiB, without the open job itself, and
+ * each of the others less than 2 KiB.
  *
  * ---------------------------------------------------------------------------
  * LINKING
@@ -358,7 +417,7 @@
  * `pkg-config --cflags --libs barrier_engine` prints the flags; they name this
  * header's folder and the archive libbarrier_engine.a.  The archive is for
  * x86-64, position independent, so that it links into programs and shared
- * libraries alike, exports the eleven calls alone, and asks the C library for
+ * libraries alike, exports the twelve calls alone, and asks the C library for
  * nothing but block copies and fills (memcpy, memset and their kin).
  *
  * A program is compiled with the header of the archive that it links: the
@@ -385,9 +444,9 @@ extern "C" {
  * The version of the engine that this header belongs to.  The first number
  * goes up where a call that was there before is called or replies in another
  * way, so that programs already compiled break ("Linking"): 1.0.0 is such a
- * version.
+ * version.  The second goes up with each addition.
  */
-#define BARRIER_VERSION "1.0.0"
+#define BARRIER_VERSION "1.1.0"
 
 /*
  * CONSTANTS
@@ -452,15 +511,16 @@ enum barrier_number {
     BARRIER_NO_SCHEDULE = 10,
     BARRIER_TOO_MANY_RANGES = 11,
     BARRIER_NAME = 12,
-    BARRIER_STATE = 13
+    BARRIER_STATE = 13,
+    BARRIER_NO_APPROACH = 14
 };
 
 /*
  * THE CALLS
  *
- * Sides, levels, stations, state numbers and a hazard's numbers are passed in
- * 64 bits, so that a number that is too great is refused and never cut down to
- * one that is not.
+ * Sides, levels, stations, state numbers, hazard indices, sheet corners and a
+ * hazard's numbers are passed in 64 bits, so that a number that is too great is
+ * refused and never cut down to one that is not.
  */
 
 /*
@@ -566,6 +626,48 @@ barrier_plan_reply barrier_plan(const uint8_t *job, size_t job_len, uint64_t sid
  */
 barrier_reply barrier_level(const uint8_t *job, size_t job_len, uint64_t side,
                             uint64_t station);
+
+/* A corner point, counted from the sheet corner: whole millimetres, as floats. */
+typedef struct {
+    double station;
+    double offset;
+} barrier_corner;
+
+/*
+ * What barrier_corners replies.
+ *
+ *     number      BARRIER_DONE, or the refusal's number
+ *     value       done: 0; refused: the refusal's value
+ *     upstream    done: the approach's upstream end;
+ *     flare       done: where its flare begins, or the upstream end again;
+ *     hazard      done: the hazard's end on that side;
+ *                 refused: 0.0 in all of them
+ */
+typedef struct {
+    uint64_t number;
+    uint64_t value;
+    barrier_corner upstream;
+    barrier_corner flare;
+    barrier_corner hazard;
+} barrier_corners_reply;
+
+/*
+ * Corners: the corner points of the adjacent traffic's approach to one hazard,
+ * for a drawing ("Corner points").
+ *
+ *     job, job_len     the job's bytes
+ *     hazard           the hazard's index in the job, from 0
+ *     sheet_station    the station and the offset from which the corners are
+ *     sheet_offset     counted, each 0 to BARRIER_STATION_MAX
+ *
+ * Done: the three corners, exact.
+ * Refused: 8, 1 to 5, 7 or 14.
+ *
+ * 14 comes after every other test, so where it is replied the job is accepted:
+ * it has no hazard with that index, or that hazard's n is not below C.
+ */
+barrier_corners_reply barrier_corners(const uint8_t *job, size_t job_len, uint64_t hazard,
+                                      uint64_t sheet_station, uint64_t sheet_offset);
 
 /*
  * Quantity: how many millimetres of [p, q) have exactly that level.

@@ -1,7 +1,8 @@
 /*
  * The header lets a pointer be NULL where its length is 0. Each such pointer of
- * each call, and the reply that document 01's table has for it; and the states
- * of an open job without hazards. Ends with 1 where a reply is another.
+ * each call but barrier_corners (corners.c), and the
+ * reply that document 01's table has for it; and the states of an open job
+ * without hazards. Ends with 1 where a reply is another.
  */
 #include <barrier.h>
 #include <stdio.h>

@@ -46,10 +46,14 @@ refused() {
 refused plan example '  plan: refused 1 with 34, the job ends before or inside the number at byte 34'
 refused lookup example '  lookup: refused 10 with 0, these bytes are not a schedule'
 refused level example '  level: refused 1 with 34, the job ends before or inside the number at byte 34'
+refused corners example '  corners: refused 14 with 0, no such hazard, or adjacent traffic does not reach it'
 refused quantities example '  lots: refused 10 with 0, these bytes are not a schedule'
 refused quantity example '  road: refused 10 with 0, these bytes are not a schedule'
 refused nothing example '  near offset 3999: done, but it should be refused'
 grep -qx '  overhang on the right: 2 mm before the road, 3 mm behind it' "$tmp/nothing/c" || fail "the overhangs of plan"
+for corner in 'upstream (-1, 2)' 'flare    (3, -4)' 'hazard   (5, 6)'; do
+    grep -qx "    $corner" "$tmp/nothing/c" || fail "the corner $corner"
+done
 refused open open_job '  open: refused 1 with 22'
 refused add open_job '  add 7: refused 4 with 7'
 refused withdraw open_job '  withdraw 7: refused 12 with 7'

@@ -11,6 +11,7 @@ enum {
     nothing,
     plan,
     level,
+    corners,
     lookup,
     quantity,
     quantities,
@@ -46,6 +47,20 @@ barrier_reply barrier_level(const uint8_t *job, size_t job_len, uint64_t side, u
     (void)side;
     (void)station;
     return REFUSED == level ? refused : done;
+}
+
+/* Six numbers that differ, so that it shows where two are exchanged. */
+barrier_corners_reply barrier_corners(const uint8_t *job, size_t job_len, uint64_t hazard,
+                                      uint64_t sheet_station, uint64_t sheet_offset)
+{
+    const barrier_corners_reply done = {BARRIER_DONE, 0, {-1, 2}, {3, -4}, {5, 6}};
+    const barrier_corners_reply refused = {BARRIER_NO_APPROACH, 0, {0, 0}, {0, 0}, {0, 0}};
+    (void)job;
+    (void)job_len;
+    (void)hazard;
+    (void)sheet_station;
+    (void)sheet_offset;
+    return REFUSED == corners ? refused : done;
 }
 
 barrier_reply barrier_quantity(const uint8_t *schedule, size_t schedule_len, uint64_t priced,

@@ -4,10 +4,10 @@
  * comes from standard input; BARRIER_STACK_MAX bytes have to suffice for
  * planning it, into a large output and into one of exactly its schedule's
  * length, where the bytes needed are counted first, for its level at a
- * station, and for the queries; BARRIER_OPEN_STACK_MAX
- * for an open job to which the job's hazards are added one by one, and in which
- * they are kept eight times. Where a reply is large, its room in the caller
- * counts too.
+ * station, for its last hazard's corners, and for the queries;
+ * BARRIER_OPEN_STACK_MAX for an open job to which the job's hazards are added
+ * one by one, and in which they are kept eight times. Where a reply is large,
+ * its room in the caller counts too.
  *
  * Ends with 1 where a call takes more, with 2 where one is refused.
  */
@@ -30,6 +30,7 @@ static unsigned char schedule[BARRIER_SCHEDULE_MAX];
 static barrier_plan_reply planned, exact, scheduled;
 static barrier_reply level_found, counted;
 static barrier_quantities_reply priced;
+static barrier_corners_reply drawn;
 static barrier_record found;
 static barrier_open_job open_job, whole_job;
 static unsigned char header[64];
@@ -56,6 +57,12 @@ static void plan_exactly(void)
 static void level(void)
 {
     level_found = barrier_level(job, job_length, BARRIER_RIGHT, BARRIER_STATION_MAX / 2);
+}
+
+static void corners(void)
+{
+    drawn = barrier_corners(job, job_length, BARRIER_HAZARDS_MAX - 1, BARRIER_STATION_MAX,
+                            BARRIER_STATION_MAX);
 }
 
 static void quantity(void)
@@ -189,6 +196,7 @@ int main(void)
     well = suffices("plan", plan, BARRIER_STACK_MAX);
     well &= suffices("plan with an output of exactly its length", plan_exactly, BARRIER_STACK_MAX);
     well &= suffices("level", level, BARRIER_STACK_MAX);
+    well &= suffices("corners", corners, BARRIER_STACK_MAX);
     well &= suffices("quantity", quantity, BARRIER_STACK_MAX);
     well &= suffices("quantities", quantities, BARRIER_STACK_MAX);
     well &= suffices("lookup", lookup, BARRIER_STACK_MAX);
@@ -201,6 +209,9 @@ int main(void)
     well &= suffices("open", open_empty, BARRIER_OPEN_STACK_MAX);
     all_done = done("plan with an output of exactly its length", exact.number);
     all_done &= done("level", level_found.number);
+    /* 14 comes last: all that is read and tested has been by then. */
+    if (drawn.number != BARRIER_NO_APPROACH)
+        all_done &= done("corners", drawn.number);
     all_done &= done("quantity", counted.number);
     all_done &= done("quantities", priced.number);
     all_done &= done("lookup", found.number);

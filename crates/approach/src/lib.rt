@@ -44,8 +44,8 @@ fn whole_length(along: u64, across: u64, straight: u64, runout: u64, reach: u64,
     formula_length(along, flare, straight, runout, reach, offset)
 }
 
-// The same in 32 bits.
-fn domain_length(
+// The same in 32 bits: the approach length before it is raised to panels.
+pub fn domain_length(
     along: u32,
     across: u32,
     straight: u32,

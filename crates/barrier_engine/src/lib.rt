@@ -1,6 +1,7 @@
 // The engine's C interface: numbers, slices as pointer and length, and replies as plain structs. include/barrier.h declares it.
 pub mod open; // the calls on an open job
 
+use replies::Corners;
 use replies::PlanReply;
 use replies::Quantities;
 use replies::Record;
@@ -9,10 +10,11 @@ ghost use mathlib.Core.Path.{_≡_};
 ghost use lib.ListN.{length};
 ghost use Rattle.schedule.specs.Plan.{plan, bytesWritten, outputAfter};
 ghost use Rattle.station_level.specs.Level.{levelAt};
+ghost use Rattle.corners.specs.Corners.{cornersOf};
 ghost use Rattle.queries.specs.Quantity.{quantity};
 ghost use Rattle.queries.specs.Lookup.{lookup};
 ghost use Rattle.queries.specs.Ranges.{quantities};
-ghost use Rattle.replies.specs.Interface.{replyOf, planReplyOf, recordOf, quantitiesOf};
+ghost use Rattle.replies.specs.Interface.{replyOf, planReplyOf, recordOf, quantitiesOf, CornersTold};
 
 #[no_mangle]
 pub extern "C" fn barrier_plan(job: &[u8], side: u64, out: &mut [u8]) -> PlanReply
@@ -48,4 +50,16 @@ pub extern "C" fn barrier_quantities(schedule: &[u8], level: u64, ranges: &[u64]
     ensures { λ r. ⌜ r ≡ quantitiesOf (quantities (now (schedule .entry)) level (now (ranges .entry))) ⌝ }
 {
     replies::calls::quantities(schedule, level, ranges)
+}
+
+#[no_mangle]
+pub extern "C" fn barrier_corners(
+    job: &[u8],
+    hazard: u64,
+    sheet_station: u64,
+    sheet_offset: u64,
+) -> Corners
+    ensures { λ r. ⌜ CornersTold r (cornersOf (now (job .entry)) hazard «sheet_station» «sheet_offset») ⌝ }
+{
+    replies::calls::corners(job, hazard, sheet_station, sheet_offset)
 }

@@ -8,3 +8,4 @@ pub mod RefusalLaws
 pub mod CaseLaws
 pub mod BeforeLaws
 pub mod LevelLaws
+pub mod CornerLaws

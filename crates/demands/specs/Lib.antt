@@ -4,3 +4,4 @@ pub mod Before
 -- Document 02.
 pub mod Level
 pub mod Road
+pub mod Corners

@@ -7,6 +7,7 @@ use mathlib.Core.List.{List, [], _∷_, _++_, List·Memᴰ}
 use lib.ListN.{length, getD}
 use Rattle.refusal.specs.declared.Refusal.{Refusal}
 use Rattle.refusal.specs.declared.Refusal.the-variants.{Ended, Malformed, HeaderRange, HazardRange, NearBarrier, LeftOver, Argument, Room, Schedule, Ranges, Name, State}
+use Rattle.refusal.specs.declared.Refusal.the-variants as Refusal
 use Rattle.number.specs.Number.{writeNumber, greatest}
 use Rattle.number.specs.Form.{EndsInside, IllFormed}
 use Rattle.job.specs.declared.Header.{Header}
@@ -113,3 +114,4 @@ ReadRow Schedule s = ⊥
 ReadRow Ranges s = ⊥
 ReadRow (Name name) s = ⊥
 ReadRow State s = ⊥
+ReadRow Refusal.Hazard s = ⊥

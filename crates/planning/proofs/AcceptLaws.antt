@@ -76,7 +76,7 @@ side-turn h side i taken zs d l =
 
 -- The loop
 
-getD-member : {A : Type 0} (l : List A) (i : ℕ) (d : A) → i < length l → List·Memᴰ (getD l i d) l
+pub getD-member : {A : Type 0} (l : List A) (i : ℕ) (d : A) → i < length l → List·Memᴰ (getD l i d) l
 getD-member [] i d h = absurd (not-suc-le-zero h)
 getD-member (x ∷ xs) zero d h = List·Memᴰ·head refl
 getD-member (x ∷ xs) (suc i) d h = List·Memᴰ·tail (getD-member xs i d (le-of-suc-le-suc h))
@@ -97,18 +97,19 @@ pub record SoFar (job : StoredJob) (side : ℕ) (envelopes : Envelopes) (overhan
   pub whole : envelopes ≡ storedEnvelopes taken
   pub rest : sideFrom (job .header) side index (record { envelopes = taken; overhangs = overhangs }) (drop index (jobOf job .hazards)) ≡ testedEnvelopes (jobOf job) side
 
-module _ (job : StoredJob) (side : ℕ) (fits : JobFits (jobOf job)) where
+module _ (job : StoredJob) (fits : JobFits (jobOf job)) where
   -- The hazard with an index, as it is stored.
   module _ (i : ℕ) (d : NamedHazard) (l : i < job .header .count) where
-    inside : i < length (jobOf job .hazards)
+    pub inside : i < length (jobOf job .hazards)
     inside = omega (arith, fits .hazards .count)
 
-    stored : getD (jobOf job .hazards) i (unnamed d) ≡ unnamed (getD (job .hazards) i d)
+    pub stored : getD (jobOf job .hazards) i (unnamed d) ≡ unnamed (getD (job .hazards) i d)
     stored = List·getD-map unnamed (take (job .header .count) (job .hazards)) i d ∙ ap unnamed (getD-take (job .header .count) (job .hazards) i d l)
 
     pub element-fits : HazardFits (job .header) (unnamed (getD (job .hazards) i d))
     element-fits = rw stored at (fits .hazards .each (getD (jobOf job .hazards) i (unnamed d)) (getD-member (jobOf job .hazards) i (unnamed d) inside))
 
+module _ (job : StoredJob) (side : ℕ) (fits : JobFits (jobOf job)) where
   pub none-yet : {envelopes : Envelopes} → envelopes ≡ storedEnvelopes [] → SoFar job side envelopes noOverhang 0
   unfolding sideFrom testedEnvelopes
   none-yet e = record {
@@ -127,8 +128,8 @@ module _ (job : StoredJob) (side : ℕ) (fits : JobFits (jobOf job)) where
 
     next : (testedHazard (job .header) side i z >>= λ c. sideFrom (job .header) side (i + 1) (soFar followedBy c) (drop (i + 1) (jobOf job .hazards))) ≡ testedEnvelopes (jobOf job) side
     next =
-        let here : getD (jobOf job .hazards) i (unnamed d) ≡ z = stored i d l ∙ sym own in
-        rw here at (sym (side-turn (job .header) side i soFar (jobOf job .hazards) (unnamed d) (inside i d l)) ∙ so .rest)
+        let here : getD (jobOf job .hazards) i (unnamed d) ≡ z = stored job fits i d l ∙ sym own in
+        rw here at (sym (side-turn (job .header) side i soFar (jobOf job .hazards) (unnamed d) (inside job fits i d l)) ∙ so .rest)
 
     pub hazard-taken : (e : Stretch) (o new : Overhangs) → accepted (record { envelopes = e ∷ []; overhangs = o }) ≡ testedHazard (job .header) side i z → new ≡ greater overhangs o
         → SoFar job side (record { count = envelopes .count + 1; stretches = set (envelopes .stretches) (envelopes .count) e }) new (i + 1)

@@ -10,3 +10,6 @@ pub mod AcceptedLaws
 pub mod RowLaws
 pub mod RoadLaws
 pub mod BeforeLaws
+pub mod AcceptedJobLaws
+pub mod AdjacentLaws
+pub mod ApproachedLaws

@@ -14,6 +14,7 @@ use Rattle.refusal.specs.Answer.{Answer, accepted, refused, _>>=_, unless-refus
 use Rattle.refusal.specs.Refusal.{numberOf, valueOf, refusal}
 use Rattle.refusal.specs.declared.Refusal.{Refusal}
 use Rattle.refusal.specs.declared.Refusal.the-variants.{Ended, Malformed, HeaderRange, HazardRange, NearBarrier, LeftOver, Argument, Room, Schedule, Ranges, Name, State}
+use Rattle.refusal.specs.declared.Refusal.the-variants as Refusal
 use Rattle.refusal.proofs.EachLaws.{cons-each}
 use Rattle.job.specs.declared.Header.{Header}
 use Rattle.job.specs.declared.Hazard.{Hazard}
@@ -124,3 +125,4 @@ refused-exactly s r b = rows r
     rows Ranges = reading Ranges (omega arith)
     rows (Name name) = reading (Name name) (omega arith)
     rows State = reading State (omega arith)
+    rows Refusal.Hazard = reading Refusal.Hazard (omega arith)

@@ -29,6 +29,10 @@ abbrev pub adjacent : Header → (side : ℕ) → Traffic → Bool
 adjacent h side forward = eqb side 0 || eqb (h .opposite) 0
 adjacent h side opposite = eqb side 1
 
+-- The adjacent traffic of a side.
+unfoldable pub adjacentTraffic : Header → (side : ℕ) → Traffic
+adjacentTraffic h side = if adjacent h side forward then forward else opposite
+
 abbrev pub runout : Header → Traffic → ℕ
 runout h forward = h .forward
 runout h opposite = h .opposite

@@ -1,6 +1,7 @@
 pub mod Envelope
 pub mod Overhang
 pub mod Required
+pub mod Approached
 pub mod Reply
 pub mod Rows
 pub mod Before

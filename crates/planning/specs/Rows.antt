@@ -8,6 +8,7 @@ use lib.ListN.{length}
 use Rattle.refusal.specs.Answer.{accepted}
 use Rattle.refusal.specs.declared.Refusal.{Refusal}
 use Rattle.refusal.specs.declared.Refusal.the-variants.{Ended, Malformed, HeaderRange, HazardRange, NearBarrier, LeftOver, Argument, Room, Schedule, Ranges, Name, State}
+use Rattle.refusal.specs.declared.Refusal.the-variants as Refusal
 use Rattle.job.specs.declared.Header.{Header}
 use Rattle.job.specs.declared.Hazard.{Hazard}
 use Rattle.job.specs.Job.{Job, readJob}
@@ -51,3 +52,4 @@ JobRow Schedule s = ⊥
 JobRow Ranges s = ⊥
 JobRow (Name name) s = ⊥
 JobRow State s = ⊥
+JobRow Refusal.Hazard s = ⊥

@@ -8,7 +8,7 @@ use runs::Stretch;
 ghost use mathlib.Core.Path.{_≡_};
 ghost use Prim.Native.Nat.{_+_, _-_, _≤_, _<_, min};
 ghost use Rattle.job.proofs.JobLaws.{HeaderFits, HazardFits};
-ghost use Rattle.planning.specs.Envelope.{adjacent, runout, farther, lengthening, cutEnvelope, overhang};
+ghost use Rattle.planning.specs.Envelope.{adjacent, adjacentTraffic, runout, farther, lengthening, cutEnvelope, overhang};
 ghost use Rattle.planning.specs.Reply.{trafficOf, hazardAnswer, testedHazard};
 
 // Forward traffic drives by rising stations, opposite traffic by falling ones.
@@ -39,7 +39,7 @@ fn lesser(a: u32, b: u32) -> u32
 }
 
 // The runout length of a traffic; 0 where there is none.
-fn runout_length(header: Header, traffic: Traffic) -> u32
+pub fn runout_length(header: Header, traffic: Traffic) -> u32
     ensures { λ r. ⌜ r ≡ runout header (trafficOf traffic) ⌝ }
 {
     match traffic {
@@ -57,6 +57,17 @@ fn is_adjacent(header: Header, side: u8, traffic: Traffic) -> bool
     }
 }
 
+// The adjacent traffic of a side.
+pub fn adjacent_traffic(header: Header, side: u8) -> Traffic
+    ensures { λ r. ⌜ trafficOf r ≡ adjacentTraffic header side ⌝ }
+{
+    if is_adjacent(header, side, Traffic::Forward) {
+        Traffic::Forward
+    } else {
+        Traffic::Opposite
+    }
+}
+
 // What a traffic adds to the offsets of a side: nothing where it is adjacent, W where it is far.
 fn farther_by(header: Header, side: u8, traffic: Traffic) -> u32
     ensures { λ r. ⌜ r ≡ farther header side (trafficOf traffic) ⌝ }
@@ -66,6 +77,13 @@ fn farther_by(header: Header, side: u8, traffic: Traffic) -> u32
     } else {
         header.way
     }
+}
+
+// The hazard reach of adjacent traffic.
+pub fn adjacent_reach(header: Header, hazard: Hazard) -> u32
+    ensures { λ r. ⌜ r ≡ min (hazard .far) (header .zone) ⌝ }
+{
+    lesser(hazard.far, header.zone)
 }
 
 // By how much a traffic lengthens the envelope of a hazard that stands clear of the barrier.

@@ -15,7 +15,7 @@ pub enum Refusal {
     NearBarrier(usize),
     // Bytes follow the last hazard, from this index on.
     LeftOver(usize),
-    // A side above 1, a level outside 1 to 6, or a range whose end lies before its beginning.
+    // A side above 1, a level outside 1 to 6, a range whose end lies before its beginning, or a sheet corner out of its range.
     Argument,
     // The output is shorter than the bytes needed.
     Room(usize),
@@ -27,6 +27,8 @@ pub enum Refusal {
     Name(usize),
     // A state number above 7, or in a return one under which nothing is kept.
     State,
+    // No such hazard, or one that adjacent traffic does not reach.
+    Hazard,
 }
 
 // The row's number in the table.
@@ -46,6 +48,7 @@ pub fn refusal_number(refusal: Refusal) -> u64
         Refusal::Ranges => 11,
         Refusal::Name(_) => 12,
         Refusal::State => 13,
+        Refusal::Hazard => 14,
     }
 }
 
@@ -66,6 +69,7 @@ pub fn refusal_value(refusal: Refusal) -> u64
         Refusal::Ranges => 0,
         Refusal::Name(name) => name as u64,
         Refusal::State => 0,
+        Refusal::Hazard => 0,
     }
 }
 

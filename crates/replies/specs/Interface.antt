@@ -1,15 +1,20 @@
 -- The C interface's structs for each answer of the calls.
 -- Assumes nothing.
 use Prim.Native.Nat.{ℕ, _+_}
+use mathlib.Core.Path.{_≡_}
 use mathlib.Core.List.{[]}
-use Rattle.refusal.specs.Answer.{Answer, accepted, refused}
+use Rattle.refusal.specs.Answer.{Answer, accepted, refused, _>>=_}
+use Rattle.refusal.specs.Stored.{acceptedOr}
 use Rattle.schedule.specs.declared.reply.Written.{Written}
+use Rattle.corners.specs.Corners.{Points}
+use Rattle.corners.specs.Reply.{CornerIs, noPoints}
 use Rattle.queries.specs.Lookup.{Found, found, nowhere}
 use Rattle.queries.specs.Ranges.{Counted, placesOf}
 use Rattle.replies.specs.declared.Reply.{Reply}
 use Rattle.replies.specs.declared.PlanReply.{PlanReply}
 use Rattle.replies.specs.declared.Record.{Record}
 use Rattle.replies.specs.declared.Quantities.{Quantities}
+use Rattle.replies.specs.declared.Corners.{Corners}
 
 abbrev pub reply : (number value : ℕ) → Reply
 reply number value = record { number = number; value = value }
@@ -37,3 +42,10 @@ recordOf (refused number value) = record { number = number; found = 0; start = 0
 unfoldable pub quantitiesOf : Answer Counted → Quantities
 quantitiesOf (accepted c) = record { number = 0; value = 0; records = c .records; quantities = placesOf (c .quantities) }
 quantitiesOf (refused number value) = record { number = number; value = value; records = 0; quantities = placesOf [] }
+
+-- The corners' struct: number and value by equation, and each float exactly the whole number; after a refusal zeros alone.
+pub record CornersTold (r : Corners) (answer : Answer Points) : Type 0 where
+  pub ended : reply (r .number) (r .value) ≡ replyOf (answer >>= λ _. accepted 0)
+  pub upstream : CornerIs (r .upstream) (acceptedOr noPoints answer .upstream)
+  pub flare : CornerIs (r .flare) (acceptedOr noPoints answer .flare)
+  pub hazard : CornerIs (r .hazard) (acceptedOr noPoints answer .hazard)

@@ -1,4 +1,5 @@
 // The calls on job and schedule bytes.
+use super::Corners;
 use super::PlanReply;
 use super::Quantities;
 use super::Record;
@@ -13,10 +14,11 @@ ghost use mathlib.Core.Path.{_≡_};
 ghost use lib.ListN.{length};
 ghost use Rattle.schedule.specs.Plan.{plan, bytesWritten, outputAfter};
 ghost use Rattle.station_level.specs.Level.{levelAt};
+ghost use Rattle.corners.specs.Corners.{cornersOf};
 ghost use Rattle.queries.specs.Quantity.{quantity};
 ghost use Rattle.queries.specs.Lookup.{lookup};
 ghost use Rattle.queries.specs.Ranges.{quantities};
-ghost use Rattle.replies.specs.Interface.{replyOf, planReplyOf, recordOf, quantitiesOf};
+ghost use Rattle.replies.specs.Interface.{replyOf, planReplyOf, recordOf, quantitiesOf, CornersTold};
 
 pub fn plan(job: &[u8], side: u64, out: &mut [u8]) -> PlanReply
     ensures { λ r. ⌜ r ≡ planReplyOf (bytesWritten (plan (now (job .entry)) side (length (now (out .entry))))) ⌝ }
@@ -88,5 +90,24 @@ pub fn quantities(schedule: &[u8], level: u64, ranges: &[u64]) -> Quantities
         value: how.value,
         records,
         quantities,
+    }
+}
+
+// The corners of a hazard's adjacent approach, from the sheet corner.
+pub fn corners(job: &[u8], hazard: u64, sheet_station: u64, sheet_offset: u64) -> Corners
+    ensures { λ r. ⌜ CornersTold r (cornersOf (now (job .entry)) hazard «sheet_station» «sheet_offset») ⌝ }
+{
+    let reply = corners::call::corners(job, hazard, sheet_station, sheet_offset);
+    let outcome = reply.outcome;
+    let how = ended(outcome);
+    let upstream = reply.upstream;
+    let flare = reply.flare;
+    let end = reply.hazard;
+    Corners {
+        number: how.number,
+        value: how.value,
+        upstream,
+        flare,
+        hazard: end,
     }
 }

@@ -1,4 +1,5 @@
 // What C is told: each answer as a plain struct.
+use corners::reply::Corner;
 use refusal::Outcome;
 use refusal::Refusal;
 use schedule::reply::Plan;
@@ -42,6 +43,16 @@ pub struct Quantities {
     pub value: u64,
     pub records: u64,
     pub quantities: [u64; 64],
+}
+
+// Number 0: done, with the corners of the adjacent approach; else the refusal, and all corners 0.0.
+#[repr(C)]
+pub struct Corners {
+    pub number: u64,
+    pub value: u64,
+    pub upstream: Corner,
+    pub flare: Corner,
+    pub hazard: Corner,
 }
 
 fn refused(refusal: Refusal) -> Reply

@@ -33,6 +33,7 @@ pub const NO_SCHEDULE: u64 = 10;
 pub const TOO_MANY_RANGES: u64 = 11;
 pub const NAME: u64 = 12;
 pub const STATE: u64 = 13;
+pub const NO_APPROACH: u64 = 14;
 
 /// The calls as C has them.
 pub mod c {
@@ -48,6 +49,22 @@ pub mod c {
         pub value: u64,
         pub before: u64,
         pub after: u64,
+    }
+
+    #[repr(C)]
+    #[derive(Clone, Copy, Debug, PartialEq)]
+    pub struct Corner {
+        pub station: f64,
+        pub offset: f64,
+    }
+
+    #[repr(C)]
+    pub struct CornersReply {
+        pub number: u64,
+        pub value: u64,
+        pub upstream: Corner,
+        pub flare: Corner,
+        pub hazard: Corner,
     }
 
     #[repr(C)]
@@ -134,6 +151,14 @@ pub mod c {
         ) -> PlanReply;
 
         pub fn barrier_level(job: *const u8, job_len: usize, side: u64, station: u64) -> Reply;
+
+        pub fn barrier_corners(
+            job: *const u8,
+            job_len: usize,
+            hazard: u64,
+            sheet_station: u64,
+            sheet_offset: u64,
+        ) -> CornersReply;
 
         pub fn barrier_quantity(
             schedule: *const u8,
@@ -236,6 +261,42 @@ pub fn plan(job: &[u8], side: u64, out: &mut [u8]) -> Result<Planned, Refusal> {
 pub fn level(job: &[u8], side: u64, station: u64) -> Result<u64, Refusal> {
     // SAFETY: the pointer is good for as many bytes as are named with it.
     answer(unsafe { c::barrier_level(job.as_ptr(), job.len(), side, station) })
+}
+
+/// A corner point, counted from the sheet corner: whole millimetres, exact.
+pub use c::Corner;
+
+/// The corner points of an approach. Where the flare is not entered, its corner
+/// is the upstream end again.
+#[derive(Clone, Copy, Debug, PartialEq)]
+pub struct Corners {
+    pub upstream: Corner,
+    pub flare: Corner,
+    pub hazard: Corner,
+}
+
+/// The corners of the adjacent traffic's approach to a hazard, by its index in
+/// the job, counted from a sheet corner.
+pub fn corners(
+    job: &[u8],
+    hazard: u64,
+    sheet_station: u64,
+    sheet_offset: u64,
+) -> Result<Corners, Refusal> {
+    // SAFETY: the pointer is good for as many bytes as are named with it.
+    let reply =
+        unsafe { c::barrier_corners(job.as_ptr(), job.len(), hazard, sheet_station, sheet_offset) };
+    match reply.number {
+        DONE => Ok(Corners {
+            upstream: reply.upstream,
+            flare: reply.flare,
+            hazard: reply.hazard,
+        }),
+        number => Err(Refusal {
+            number,
+            value: reply.value,
+        }),
+    }
 }
 
 /// How many millimetres of [p, q) have exactly that level.

@@ -1,9 +1,9 @@
 //! The first program: plans document 01's printed example, looks up the
 //! barrier at some stations, asks for the level at two of them without the
-//! schedule, prices it by lots, plans a job whose approach runs into the
-//! neighbouring contract and shows two refusals. It ends with 1 where a call
-//! does not do what it should: a schedule that cannot be read must not be
-//! priced as one without barriers.
+//! schedule, prices it by lots, asks for the corners of its approach, plans a
+//! job whose approach runs into the neighbouring contract and shows two
+//! refusals. It ends with 1 where a call does not do what it should: a schedule
+//! that cannot be read must not be priced as one without barriers.
 //!
 //! It prints the same text as examples/example.c.
 
@@ -14,7 +14,7 @@ use std::io::{self, Write};
 use std::ops::Range;
 use std::process::ExitCode;
 
-use barrier::{Planned, Refusal, LEFT, NC_3, RIGHT, SCHEDULE_MAX};
+use barrier::{Corner, Corners, Planned, Refusal, LEFT, NC_3, RIGHT, SCHEDULE_MAX};
 use number_form::{get_number, job_bytes};
 
 const ROAD_END: u64 = 1_000_000;
@@ -89,7 +89,7 @@ fn print_refusal(out: &mut impl Write, what: &str, refusal: Refusal) -> io::Resu
         barrier::ARGUMENT => {
             writeln!(
                 out,
-                "no such side or level, or a range that ends before it begins"
+                "no such side, level or sheet corner, or a range that ends before it begins"
             )
         }
         barrier::OUTPUT_SHORT => writeln!(out, "the schedule takes {value} bytes"),
@@ -97,6 +97,9 @@ fn print_refusal(out: &mut impl Write, what: &str, refusal: Refusal) -> io::Resu
         barrier::TOO_MANY_RANGES => writeln!(out, "more than 64 ranges"),
         barrier::NAME => writeln!(out, "the name {value} stands already, or does not stand"),
         barrier::STATE => writeln!(out, "no such state number, or nothing is kept under it"),
+        barrier::NO_APPROACH => {
+            writeln!(out, "no such hazard, or adjacent traffic does not reach it")
+        }
         _ => writeln!(out, "a number that barrier.h does not have"),
     }
 }
@@ -214,6 +217,34 @@ fn print_prices(out: &mut impl Write, right: &[u8]) -> Result<(), Stop> {
     print_road(out, right)
 }
 
+/// Whole millimetres: nothing behind the point is left out.
+fn print_corner(out: &mut impl Write, name: &str, corner: Corner) -> io::Result<()> {
+    let Corner { station, offset } = corner;
+    writeln!(out, "    {name:<8} ({station:.0}, {offset:.0})")
+}
+
+/// The headwall's approach, to be drawn on that sheet.
+fn print_sheet(out: &mut impl Write, job: &[u8], station: u64, offset: u64) -> Result<(), Stop> {
+    let answer = barrier::corners(job, 0, station, offset);
+    let corners = done(out, "corners", answer)?;
+    let Corners {
+        upstream,
+        flare,
+        hazard,
+    } = corners;
+    writeln!(out, "  from sheet corner ({station}, {offset})")?;
+    print_corner(out, "upstream", upstream)?;
+    print_corner(out, "flare", flare)?;
+    print_corner(out, "hazard", hazard)?;
+    Ok(())
+}
+
+fn print_corners(out: &mut impl Write, job: &[u8]) -> Result<(), Stop> {
+    writeln!(out, "Corners of the approach")?;
+    print_sheet(out, job, 0, 0)?;
+    print_sheet(out, job, 160_000, 4_000)
+}
+
 /// Case K8's second job: without flare, and the headwall from 67,333 on, one
 /// millimetre nearer to the road's begin than its approach is long. The
 /// schedule begins with the road. What hangs over stands in the neighbouring
@@ -275,6 +306,7 @@ fn show(out: &mut impl Write) -> Result<(), Stop> {
     print_stations(out, &right)?;
     print_levels(out, &job)?;
     print_prices(out, &right)?;
+    print_corners(out, &job)?;
     print_overhang(out)?;
     print_refusals(out, &job)
 }

@@ -47,6 +47,12 @@ impl Order {
 /// The road of every job.
 pub const ROAD_END: u64 = 2_000_000_000;
 
+/// The last of 256 hazards.
+pub const LAST: u64 = 255;
+
+/// A sheet corner, station and offset.
+pub const SHEET: (u64, u64) = (1_000_000_000, 1_000);
+
 const HEADER: Header = [
     1, 0, ROAD_END, 101_000, 88_000, 9_000, 1_500, 1_800, 1_000, 15, 1, 13_340, 5_000, 1,
 ];

@@ -3,11 +3,11 @@
 
 use std::hint::black_box;
 
-use cases::calls::{contract, plan_reply, record, reply};
+use cases::calls::{contract, corners_reply, plan_reply, record, reply};
 
-use crate::jobs::{self, Kind, Order, ROAD_END};
+use crate::jobs::{self, Kind, LAST, Order, ROAD_END};
 
-pub const NAMES: [&str; 22] = [
+pub const NAMES: [&str; 23] = [
     "sparse-shuffled",
     "sparse-shuffled-panels-4000",
     "overhang-sparse-shuffled",
@@ -16,6 +16,7 @@ pub const NAMES: [&str; 22] = [
     "runs511-ordered",
     "level-sparse-shuffled",
     "level-dense-shuffled",
+    "corners-sparse-shuffled",
     "quantity-511",
     "quantities-64-all",
     "quantities-64-half",
@@ -77,6 +78,7 @@ impl Single {
             "runs511-ordered" => self.plan(jobs::job(Kind::Islands, Order::Station, 256)),
             "level-sparse-shuffled" => self.level(Kind::Sparse),
             "level-dense-shuffled" => self.level(Kind::Dense),
+            "corners-sparse-shuffled" => self.corners(),
             "quantity-511" => self.quantity(),
             "quantities-64-all" => self.quantities(&jobs::schedule_of_one_level(3), 3),
             "quantities-64-half" => self.quantities(&schedule_511(), 1),
@@ -114,6 +116,19 @@ impl Single {
             black_box(match self.who {
                 Who::Engine => engine::level(job, 0, station),
                 Who::Reference => reply(reference::level(job, 0, station)),
+            });
+        }
+    }
+
+    /// The last of 256 hazards, counted from a sheet corner.
+    fn corners(&self) {
+        let job = jobs::job(Kind::Sparse, Order::Shuffled, 256);
+        let sheet = jobs::SHEET;
+        for _ in 0..self.times {
+            let job = black_box(&job);
+            black_box(match self.who {
+                Who::Engine => engine::corners(job, LAST, sheet.0, sheet.1),
+                Who::Reference => corners_reply(reference::corners(job, LAST, sheet.0, sheet.1)),
             });
         }
     }

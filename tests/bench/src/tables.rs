@@ -3,10 +3,10 @@
 use std::hint::black_box;
 use std::process::ExitCode;
 
-use cases::calls::{contract, plan_reply, record, reply};
+use cases::calls::{contract, corners_reply, plan_reply, record, reply};
 use cases::{Memory, Reply};
 
-use crate::jobs::{self, Kind, Order, ROAD_END};
+use crate::jobs::{self, Kind, LAST, Order, ROAD_END};
 use crate::time::{self, Pair, Times};
 
 const COUNTS: [u64; 6] = [1, 8, 32, 64, 128, 256];
@@ -29,6 +29,7 @@ pub fn print() -> ExitCode {
     print_plan(&planned);
     print_growth(&planned);
     print_level();
+    print_corners();
     print_quantity();
     print_contract();
     print_lookup();
@@ -165,6 +166,25 @@ fn print_level() {
         let (name, order) = (kind.name(), Order::Shuffled.name());
         println!("| {name} | {order} | 256 | {} |", columns(&pair.times()));
     }
+}
+
+fn print_corners() {
+    println!("\nCorners of the last of 256 hazards, ns per call:\n");
+    println!("| job | order | engine | reference | engine/reference |");
+    println!("|---|---|---:|---:|---:|");
+    let job = jobs::job(Kind::Sparse, Order::Shuffled, 256);
+    let (station, offset) = jobs::SHEET;
+    let pair = Pair {
+        engine: Box::new(|| {
+            black_box(engine::corners(black_box(&job), LAST, station, offset));
+        }),
+        reference: Box::new(|| {
+            let given = reference::corners(black_box(&job), LAST, station, offset);
+            black_box(corners_reply(given));
+        }),
+    };
+    let (name, order) = (Kind::Sparse.name(), Order::Shuffled.name());
+    println!("| {name} | {order} | {} |", columns(&pair.times()));
 }
 
 fn print_quantity() {

@@ -5,7 +5,7 @@ use std::ops::Range;
 use reference::calls::MOST_RANGES;
 use reference::job::Hazard;
 use reference::memory;
-use reference::{Lookup, Outcome, Planned, Quantities, Refusal};
+use reference::{Corner, Corners, Lookup, Outcome, Planned, Quantities, Refusal};
 
 /// The reply of level, quantity and the calls that change an open job: number 0
 /// with the level, the millimetres or 0, else the paper's refusal number with its
@@ -67,6 +67,24 @@ pub struct Contract {
     pub quantities: [u64; MOST_RANGES],
 }
 
+/// The reply of corners: number 0 with the upstream end, the flare's beginning and
+/// the hazard's end; else the refusal number with its value, and every float 0.0.
+#[derive(Clone, Copy, Debug)]
+pub struct CornersReply {
+    pub number: u64,
+    pub value: u64,
+    pub corners: [Corner; 3],
+}
+
+/// Floats are equal where all their bits are: -0.0 is not 0.0.
+impl PartialEq for CornersReply {
+    fn eq(&self, other: &CornersReply) -> bool {
+        let bits = |corner: Corner| [corner.station.to_bits(), corner.offset.to_bits()];
+        let corners = |reply: &CornersReply| reply.corners.map(bits);
+        (self.number, self.value, corners(self)) == (other.number, other.value, corners(other))
+    }
+}
+
 /// Guard bytes on each side of lent memory.
 pub const GUARD: usize = 24;
 
@@ -95,6 +113,9 @@ pub type PlanCall = dyn Fn(&mut [u8], u64, &mut [u8], Range<usize>) -> PlanReply
 
 /// Job, side, station.
 pub type LevelCall = dyn Fn(&mut [u8], u64, u64) -> Reply;
+
+/// Job, hazard index, the sheet corner's station and offset.
+pub type CornersCall = dyn Fn(&mut [u8], u64, u64, u64) -> CornersReply;
 
 /// Schedule, level, p, q.
 pub type QuantityCall = dyn Fn(&mut [u8], u64, u64, u64) -> Reply;
@@ -125,6 +146,7 @@ pub type OpenScheduleCall = dyn Fn(&mut Memory, u64, &mut [u8], Range<usize>) ->
 pub struct Calls {
     pub plan: Box<PlanCall>,
     pub level: Box<LevelCall>,
+    pub corners: Box<CornersCall>,
     pub quantity: Box<QuantityCall>,
     pub quantities: Box<QuantitiesCall>,
     pub lookup: Box<LookupCall>,
@@ -143,6 +165,9 @@ pub fn right() -> Calls {
             plan_reply(reference::plan(job, side, &mut room[lent]))
         }),
         level: Box::new(|job, side, station| reply(reference::level(job, side, station))),
+        corners: Box::new(|job, hazard, station, offset| {
+            corners_reply(reference::corners(job, hazard, station, offset))
+        }),
         quantity: Box::new(|schedule, level, p, q| {
             reply(reference::quantity(schedule, level, p, q))
         }),
@@ -183,6 +208,28 @@ pub fn plan_reply(result: Result<Planned, Refusal>) -> PlanReply {
             after,
         },
         Err(refusal) => reply(Err(refusal)).into(),
+    }
+}
+
+/// A corner after a refusal.
+pub const NO_CORNER: Corner = Corner {
+    station: 0.0,
+    offset: 0.0,
+};
+
+pub fn corners_reply(result: Result<Corners, Refusal>) -> CornersReply {
+    let (Reply { number, value }, corners) = match result {
+        Ok(Corners {
+            upstream,
+            flare,
+            hazard,
+        }) => (reply(Ok(0)), [upstream, flare, hazard]),
+        Err(refusal) => (reply(Err(refusal)), [NO_CORNER; 3]),
+    };
+    CornersReply {
+        number,
+        value,
+        corners,
     }
 }
 

@@ -4,11 +4,12 @@
 use std::fmt;
 use std::ops::Range;
 
+use reference::Corner;
 use reference::calls::LONG_ENOUGH;
 use reference::job::{self, Hazard};
 use reference::memory::BYTES;
 
-use crate::calls::{self, Calls, Contract, GUARD, Memory, PlanReply, Record, Reply};
+use crate::calls::{self, Calls, Contract, CornersReply, GUARD, Memory, PlanReply, Record, Reply};
 use crate::hex;
 use crate::tally::Tally;
 
@@ -26,6 +27,12 @@ pub enum Case {
         job: Vec<u8>,
         side: u64,
         station: u64,
+    },
+    Corners {
+        job: Vec<u8>,
+        hazard: u64,
+        sheet_station: u64,
+        sheet_offset: u64,
     },
     Quantity {
         schedule: Vec<u8>,
@@ -89,6 +96,15 @@ impl fmt::Display for Case {
             } => write!(f, "--plan {} {side} {out_length} {fill}", hex::write(job)),
             Case::Level { job, side, station } => {
                 write!(f, "--level {} {side} {station}", hex::write(job))
+            }
+            Case::Corners {
+                job,
+                hazard,
+                sheet_station,
+                sheet_offset,
+            } => {
+                let job = hex::write(job);
+                write!(f, "--corners {job} {hazard} {sheet_station} {sheet_offset}")
             }
             Case::Quantity {
                 schedule,
@@ -324,6 +340,35 @@ impl Checker {
         Err(self.difference(case(), what, reply_text(expected), reply_text(got)))
     }
 
+    /// Tries the corners of one hazard, counted from a sheet corner.
+    pub fn corners(
+        &mut self,
+        job: &[u8],
+        hazard: u64,
+        (sheet_station, sheet_offset): (u64, u64),
+    ) -> Result<CornersReply, Box<Difference>> {
+        let case = || Case::Corners {
+            job: job.to_vec(),
+            hazard,
+            sheet_station,
+            sheet_offset,
+        };
+        self.trace(case);
+        let mut lent = job.to_vec();
+        let expected = reference::corners(job, hazard, sheet_station, sheet_offset);
+        let expected = calls::corners_reply(expected);
+        let got = (self.calls.corners)(&mut lent, hazard, sheet_station, sheet_offset);
+        self.tally.count(expected.number);
+
+        let mut what = Vec::new();
+        note_reply(&mut what, expected != got);
+        note_input(&mut what, "job", job, &lent);
+        if what.is_empty() {
+            return Ok(got);
+        }
+        Err(self.difference(case(), what, corners_text(expected), corners_text(got)))
+    }
+
     pub fn quantity(
         &mut self,
         schedule: &[u8],
@@ -509,6 +554,15 @@ impl Checker {
                 fill,
             } => self.plan_filled(job, *side, *out_length, *fill).map(|_| ()),
             Case::Level { job, side, station } => self.levels(job, *side, &[*station]),
+            Case::Corners {
+                job,
+                hazard,
+                sheet_station,
+                sheet_offset,
+            } => {
+                let sheet = (*sheet_station, *sheet_offset);
+                self.corners(job, *hazard, sheet).map(|_| ())
+            }
             Case::Quantity {
                 schedule,
                 level,
@@ -614,6 +668,19 @@ fn reply_and_memory(reply: PlanReply, memory: &Memory, output: Option<Vec<u8>>) 
         Some(output) => format!("{}, open job {memory}", reply_and_output(reply, &output)),
         None => format!("{}, open job {memory}", reply_text(reply.reply())),
     }
+}
+
+/// The floats with their bits, for some are written alike.
+fn corners_text(reply: CornersReply) -> String {
+    let CornersReply {
+        number,
+        value,
+        corners,
+    } = reply;
+    let float = |float: f64| format!("{float} ({:016X})", float.to_bits());
+    let corner = |corner: Corner| format!("{}, {}", float(corner.station), float(corner.offset));
+    let [upstream, flare, hazard] = corners.map(corner);
+    format!("number {number} value {value} upstream {upstream} flare {flare} hazard {hazard}")
 }
 
 fn contract_text(contract: Contract) -> String {

@@ -11,7 +11,7 @@ use crate::draft::{
     number_bytes, printed, range,
 };
 use crate::faults::{BAD_SIDES, Broken, FAULTS, wrong_forms};
-use crate::{damaged, jobs, open};
+use crate::{damaged, jobs, one_hazard, open};
 
 pub type Outcome = Result<(), Box<Difference>>;
 
@@ -34,6 +34,8 @@ pub const ALL: &[Family] = &[
     family("lookups at every run's ends", run_ends),
     family("levels at every envelope's ends", levels),
     family("levels of refused jobs", refused_levels),
+    family("corners of every hazard", one_hazard::corners),
+    family("corners of refused jobs", one_hazard::refused_corners),
     family("run lists and nearly run lists", run_lists),
     family("open jobs, lists of calls", open::lists),
     family("open jobs, all names", open::all_names),
@@ -127,7 +129,7 @@ fn schedules(random: &mut Random, least: usize, most: usize) -> (Vec<u8>, Vec<u8
 
 /// K1 to K10 with both halves, headwalls protected before the flare begins and
 /// just not, each of them in whole panels too, and all on the left side too.
-fn paper_jobs() -> Vec<Draft> {
+pub fn paper_jobs() -> Vec<Draft> {
     let k2 = printed().with(FLARE_B, 0);
     let k4 = k2.clone().with(LO, 101_000).with(W, 3_500);
     let mut list = vec![

@@ -17,7 +17,7 @@ use crate::calls::{
     plan_reply, record, reply, right,
 };
 use crate::draft::{G, KIND, PANEL, number_bytes};
-use crate::{wrong_level, wrong_memory, wrong_open, wrong_overhang, wrong_states};
+use crate::{wrong_corners, wrong_level, wrong_memory, wrong_open, wrong_overhang, wrong_states};
 
 /// Every wrong engine with the name of its slip.
 pub fn all() -> Vec<(&'static str, Calls)> {
@@ -38,6 +38,7 @@ pub fn all() -> Vec<(&'static str, Calls)> {
     list.extend(wrong_memory::all());
     list.extend(wrong_states::all());
     list.extend(wrong_overhang::all());
+    list.extend(wrong_corners::all());
     list
 }
 

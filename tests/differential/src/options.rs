@@ -14,6 +14,7 @@ options:
 one case alone, bytes in hex, no bytes as -:
   --plan JOB SIDE OUTPUT_LENGTH FILL
   --level JOB SIDE STATION
+  --corners JOB HAZARD SHEET_STATION SHEET_OFFSET
   --quantity SCHEDULE LEVEL P Q
   --quantities SCHEDULE LEVEL P,Q,P,Q (no ranges as -)
   --lookup RIGHT LEFT SIDE STATION
@@ -85,7 +86,7 @@ fn number(text: Option<&str>) -> Option<u64> {
 /// How many values follow an option that is one case.
 fn values(option: &str) -> Option<usize> {
     match option {
-        "--plan" | "--quantity" | "--lookup" | "--schedule" => Some(4),
+        "--plan" | "--corners" | "--quantity" | "--lookup" | "--schedule" => Some(4),
         "--level" | "--quantities" | "--add" => Some(3),
         "--open" | "--withdraw" | "--keep" | "--return" => Some(2),
         _ => None,
@@ -111,6 +112,12 @@ fn read_case(option: &str, values: &[&str]) -> Option<Case> {
             job: bytes(0)?,
             side: value(1)?,
             station: value(2)?,
+        },
+        "--corners" => Case::Corners {
+            job: bytes(0)?,
+            hazard: value(1)?,
+            sheet_station: value(2)?,
+            sheet_offset: value(3)?,
         },
         "--quantity" => Case::Quantity {
             schedule: bytes(0)?,

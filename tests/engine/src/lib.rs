@@ -4,7 +4,8 @@
 use std::mem::{offset_of, size_of};
 use std::ops::Range;
 
-use cases::{Calls, Contract, Memory, PlanReply, Record, Reply};
+use cases::{Calls, Contract, CornersReply, Memory, PlanReply, Record, Reply};
+use reference::Corner;
 use reference::job::Hazard;
 use reference::memory::BYTES;
 
@@ -24,6 +25,21 @@ struct CPlanReply {
     after: u64,
 }
 
+#[repr(C)]
+struct CCorner {
+    station: f64,
+    offset: f64,
+}
+
+#[repr(C)]
+struct CCornersReply {
+    number: u64,
+    value: u64,
+    upstream: CCorner,
+    flare: CCorner,
+    hazard: CCorner,
+}
+
 unsafe extern "C" {
     fn barrier_plan(
         job: *const u8,
@@ -39,6 +55,13 @@ unsafe extern "C" {
         out_len: usize,
     ) -> CPlanReply;
     fn barrier_level(job: *const u8, job_len: usize, side: u64, station: u64) -> c::Reply;
+    fn barrier_corners(
+        job: *const u8,
+        job_len: usize,
+        hazard: u64,
+        sheet_station: u64,
+        sheet_offset: u64,
+    ) -> CCornersReply;
     fn barrier_keep(job: *mut c::OpenJob, state: u64) -> c::Reply;
     fn barrier_return(job: *mut c::OpenJob, state: u64) -> c::Reply;
 }
@@ -57,6 +80,17 @@ impl From<CPlanReply> for PlanReply {
             value: reply.value,
             before: reply.before,
             after: reply.after,
+        }
+    }
+}
+
+impl From<CCornersReply> for CornersReply {
+    fn from(reply: CCornersReply) -> CornersReply {
+        let corners = [reply.upstream, reply.flare, reply.hazard];
+        CornersReply {
+            number: reply.number,
+            value: reply.value,
+            corners: corners.map(|CCorner { station, offset }| Corner { station, offset }),
         }
     }
 }
@@ -151,6 +185,12 @@ pub fn level(job: &[u8], side: u64, station: u64) -> Reply {
     unsafe { barrier_level(job.as_ptr(), job.len(), side, station).into() }
 }
 
+pub fn corners(job: &[u8], hazard: u64, sheet_station: u64, sheet_offset: u64) -> CornersReply {
+    let (job, job_len) = (job.as_ptr(), job.len());
+    // SAFETY: the pointer is good for as many bytes as are named with it.
+    unsafe { barrier_corners(job, job_len, hazard, sheet_station, sheet_offset).into() }
+}
+
 pub fn quantity(schedule: &[u8], level: u64, p: u64, q: u64) -> Reply {
     // SAFETY: the pointer is good for as many bytes as are named with it.
     unsafe { c::barrier_quantity(schedule.as_ptr(), schedule.len(), level, p, q).into() }
@@ -190,6 +230,11 @@ pub fn calls() -> Calls {
             let job_len = job.len();
             // SAFETY: as in `level`.
             unsafe { barrier_level(job.as_mut_ptr(), job_len, side, station).into() }
+        }),
+        corners: Box::new(|job, hazard, sheet_station, sheet_offset| {
+            let (job, job_len) = (job.as_mut_ptr(), job.len());
+            // SAFETY: as in `corners`.
+            unsafe { barrier_corners(job, job_len, hazard, sheet_station, sheet_offset).into() }
         }),
         quantity: Box::new(|schedule, level, p, q| {
             let schedule_len = schedule.len();
@@ -262,6 +307,9 @@ pub fn shipped_calls() -> Calls {
             record(barrier::lookup(right, left, side, station))
         }),
         level: Box::new(|job, side, station| reply(barrier::level(job, side, station))),
+        corners: Box::new(|job, hazard, station, offset| {
+            corners_of(barrier::corners(job, hazard, station, offset))
+        }),
         // Open jobs go through the pointers here too.
         ..calls()
     }
@@ -304,6 +352,26 @@ fn reply(answer: Result<u64, Refusal>) -> Reply {
     match answer {
         Ok(value) => Reply { number: 0, value },
         Err(Refusal { number, value }) => Reply { number, value },
+    }
+}
+
+fn corners_of(answer: Result<barrier::Corners, Refusal>) -> CornersReply {
+    let zero = Corner {
+        station: 0.0,
+        offset: 0.0,
+    };
+    match answer {
+        Ok(drawn) => CornersReply {
+            number: 0,
+            value: 0,
+            corners: [drawn.upstream, drawn.flare, drawn.hazard]
+                .map(|barrier::Corner { station, offset }| Corner { station, offset }),
+        },
+        Err(Refusal { number, value }) => CornersReply {
+            number,
+            value,
+            corners: [zero; 3],
+        },
     }
 }
 

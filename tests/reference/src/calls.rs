@@ -73,6 +73,14 @@ pub fn required(job: &[u8], side: u64) -> Result<Required, Refusal> {
     Ok(Required::new(&envelopes_of(&job, side)?, job.continuity))
 }
 
+/// The job of these bytes, if it is accepted: the refusals that plan has without
+/// its own 8 and 9.
+pub fn accepted(bytes: &[u8]) -> Result<Job, Refusal> {
+    let job = job::read(bytes)?;
+    envelope::envelopes(&job)?;
+    Ok(job)
+}
+
 /// The envelopes of one side.
 fn envelopes_of(job: &Job, side: u64) -> Result<Vec<Envelope>, Refusal> {
     if side > 1 {

@@ -94,6 +94,17 @@ pub fn approaches(job: &Job, hazard: &Hazard) -> Vec<Approach> {
     list
 }
 
+/// The hazard with this index and its adjacent traffic; 14 where there is no such
+/// hazard or adjacent traffic does not reach it.
+pub fn adjacent_approach(job: &Job, index: u64) -> Result<(Hazard, Approach), Refusal> {
+    let index = usize::try_from(index).ok();
+    let hazard = index.and_then(|index| job.hazards.get(index));
+    let hazard = *hazard.ok_or(Refusal::no_such_hazard())?;
+    let mut approaches = approaches(job, &hazard).into_iter();
+    let adjacent = approaches.find(|approach| !approach.far);
+    Ok((hazard, adjacent.ok_or(Refusal::no_such_hazard())?))
+}
+
 /// The approach length of one reaching traffic, in whole panels.
 pub fn length(job: &Job, approach: &Approach) -> u64 {
     approach::raised(before_raising(job, approach), job.panel)

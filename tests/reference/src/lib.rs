@@ -8,6 +8,7 @@
 
 pub mod approach;
 pub mod calls;
+pub mod corners;
 pub mod draft;
 pub mod envelope;
 pub mod job;
@@ -24,6 +25,7 @@ pub mod stretch;
 pub use calls::{
     Lookup, Outcome, Planned, Quantities, level, lookup, plan, planned, quantities, quantity,
 };
+pub use corners::{Corner, Corners, corners};
 pub use open::{OpenJob, add, keep, open, open_schedule, return_to, withdraw};
 pub use refusal::Refusal;
 pub use stretch::Stretch;

@@ -41,7 +41,8 @@ impl Refusal {
         refusal(7, begin as u64)
     }
 
-    /// 8: side above 1, level not 1 to 6, p > q, or a p without its q.
+    /// 8: side above 1, level not 1 to 6, p > q, a p without its q, or a sheet
+    /// corner out of range.
     pub fn argument() -> Refusal {
         refusal(8, 0)
     }
@@ -70,6 +71,11 @@ impl Refusal {
     /// kept.
     pub fn state() -> Refusal {
         refusal(13, 0)
+    }
+
+    /// 14: no such hazard, or one that adjacent traffic does not reach.
+    pub fn no_such_hazard() -> Refusal {
+        refusal(14, 0)
     }
 }
 

@@ -2,7 +2,7 @@
 
 use reference::draft::printed;
 use reference::random::Random;
-use reference::{level, lookup, plan, program, quantities, quantity};
+use reference::{corners, level, lookup, plan, program, quantities, quantity};
 
 /// Bytes among which short numbers are frequent.
 fn bytes(random: &mut Random) -> Vec<u8> {
@@ -25,6 +25,7 @@ fn any_bytes_return() {
         let side = random.below(3);
         let _ = plan(&any, side, &mut [0; 9]);
         let _ = level(&any, side, random.draw());
+        let _ = corners(&any, random.below(3), random.below(3_000_000_000), 0);
         let _ = quantity(&any, random.between(1, 6), 0, u64::MAX);
         let ranges = [random.draw(), random.draw(), 0, u64::MAX];
         let _ = quantities(&any, random.between(1, 6), &ranges[random.index(5)..]);
@@ -44,5 +45,6 @@ fn a_changed_job_returns() {
         let side = random.below(2);
         let _ = plan(&changed, side, &mut [0; 20]);
         let _ = level(&changed, side, random.below(300_000));
+        let _ = corners(&changed, random.below(2), 0, random.below(9_000));
     }
 }

@@ -6,7 +6,7 @@ use common::*;
 use reference::job::Hazard;
 use reference::random::Random;
 use reference::{
-    OpenJob, Quantities, Refusal, add, keep, level, memory, open, open_schedule, planned,
+    OpenJob, Quantities, Refusal, add, corners, keep, level, memory, open, open_schedule, planned,
     quantities, quantity, return_to, withdraw,
 };
 
@@ -1055,4 +1055,183 @@ fn an_open_job_with_overhangs() {
 
 fn planned_of(side: u64, start: u64, end: u64) -> Vec<u8> {
     planned(&k4_at(side, start, end).bytes(), side).unwrap()
+}
+
+// 9: corner points for the drawing.
+
+/// A corner in whole millimetres; a float that is none, or -0.0, is found.
+fn whole(corner: reference::Corner) -> (i64, i64) {
+    let millimetres = |float: f64| {
+        let number = float as i64;
+        assert_eq!((number as f64).to_bits(), float.to_bits(), "{float}");
+        number
+    };
+    (millimetres(corner.station), millimetres(corner.offset))
+}
+
+/// Upstream end, flare's beginning and hazard's end.
+fn corners_from(job: &Draft, hazard: u64, sheet: (u64, u64)) -> [(i64, i64); 3] {
+    let given = corners(&job.bytes(), hazard, sheet.0, sheet.1).unwrap();
+    [given.upstream, given.flare, given.hazard].map(whole)
+}
+
+fn corners_of(job: &Draft) -> [(i64, i64); 3] {
+    corners_from(job, 0, (0, 0))
+}
+
+#[test]
+fn corners_of_the_printed_job() {
+    // 30,887 behind the straight part, 15 along for 1 across: 2,059 and two
+    // fifteenths.
+    let at_hazard = (200_000, 3_000);
+    let flare = (200_000 - 13_340, 3_000);
+    assert_eq!(
+        corners_of(&printed()),
+        [(155_773, 3_000 + 2_059), flare, at_hazard]
+    );
+    // Without flare the second corner repeats the first.
+    let straight = (200_000 - 67_334, 3_000);
+    let without = [straight, straight, at_hazard];
+    assert_eq!(corners_of(&printed().with(FLARE_B, 0)), without);
+    // In the straight part, too; just not, the flare's beginning comes first.
+    assert_eq!(corners_of(&k1_with(67_334)), without);
+    assert_eq!(corners_of(&k1_with(100_000)), without);
+    let just = (200_000 - 67_333, 3_000);
+    assert_eq!(corners_of(&k1_with(67_333)), [straight, just, at_hazard]);
+    // No straight part: the flare begins at the hazard.
+    let [upstream, flare, hazard] = corners_of(&k1_with(0));
+    assert_eq!((flare, hazard), (at_hazard, at_hazard));
+    assert_eq!(upstream, (200_000 - 38_517, 3_000 + 2_567));
+}
+
+#[test]
+fn the_offset_is_rounded_down() {
+    // How far the flare goes along and across.
+    let behind = |straight| {
+        let [upstream, flare, _] = corners_of(&k1_with(straight));
+        (flare.0 - upstream.0, upstream.1 - 3_000)
+    };
+    let mut seen = [0; 15];
+    for straight in 13_340..13_400 {
+        let (along, across) = behind(straight);
+        assert_eq!(across, along / 15);
+        seen[(along % 15) as usize] += 1;
+    }
+    assert!(seen.iter().all(|count| *count > 0), "every remainder");
+    // 10 across for 1 along.
+    let steep = printed().with(FLARE_A, 1).with(FLARE_B, 10);
+    let [upstream, flare, _] = corners_of(&steep);
+    assert_eq!(upstream.1 - 3_000, 10 * (flare.0 - upstream.0));
+}
+
+#[test]
+fn corners_in_whole_panels() {
+    // 44,227 raised to 48,000: 34,660 behind the straight part.
+    let raised = printed().in_panels(4_000);
+    let at_hazard = (200_000, 3_000);
+    assert_eq!(
+        corners_of(&raised),
+        [(152_000, 3_000 + 34_660 / 15), (186_660, 3_000), at_hazard]
+    );
+    // 67,334 is T, and 70,000 above it: the flare is not entered.
+    let straight = (130_000, 3_000);
+    let not_entered = k1_with(67_334).in_panels(10_000);
+    assert_eq!(corners_of(&not_entered), [straight, straight, at_hazard]);
+    // A millimetre less of straight part, and it is.
+    let entered = k1_with(67_333).in_panels(10_000);
+    let across = (70_000 - 67_333) / 15;
+    assert_eq!(
+        corners_of(&entered),
+        [(130_000, 3_000 + across), (132_667, 3_000), at_hazard]
+    );
+}
+
+#[test]
+fn corners_of_the_left_side() {
+    // Opposite traffic comes from higher stations to e.
+    let left = two_way(13_340).with_hazard(SIDE, 1);
+    let at_hazard = (210_000, 3_000);
+    assert_eq!(
+        corners_of(&left),
+        [(254_227, 5_059), (223_340, 3_000), at_hazard]
+    );
+    // Its own runout length: LO.
+    let own = left.clone().with(FLARE_B, 0).with(LO, 88_000);
+    let straight = (210_000 + 58_667, 3_000);
+    assert_eq!(corners_of(&own), [straight, straight, at_hazard]);
+    // One-way: forward traffic is adjacent to both sides.
+    let one_way = printed().with_hazard(SIDE, 1);
+    assert_eq!(corners_of(&one_way), corners_of(&printed()));
+}
+
+#[test]
+fn corners_are_counted_from_the_sheet_corner() {
+    let from = |station, offset| corners_from(&printed(), 0, (station, offset));
+    assert_eq!(
+        from(155_773, 3_000),
+        [(0, 2_059), (30_887, 0), (44_227, 0)],
+        "no -0.0"
+    );
+    assert_eq!(from(200_000, 5_059)[0], (-44_227, 0));
+    let last = 2_000_000_000;
+    assert_eq!(
+        from(last, last)[2],
+        (200_000 - last as i64, 3_000 - last as i64)
+    );
+    assert_eq!(from(0, last)[2], (200_000, 3_000 - last as i64));
+}
+
+#[test]
+fn corners_are_not_cut() {
+    let near_0 = printed().with_hazard(S, 10);
+    let [upstream, flare, hazard] = corners_of(&near_0);
+    assert_eq!((upstream.0, flare.0, hazard.0), (-44_217, -13_330, 10));
+    let on_a_short_road = printed().with(A, 200_000).with(B, 210_000);
+    assert_eq!(corners_of(&on_a_short_road), corners_of(&printed()));
+    let behind = two_way(13_340).with_hazard(SIDE, 1).with(B, 210_000);
+    assert_eq!(corners_of(&behind)[0].0, 254_227);
+    let last = PRINTED.with(LO, 200_000).with(B, 2_000_000_000);
+    let last = last.with_hazards(&[[1, 0, 2_000_000_000, 5_000, 9_000, 1]]);
+    assert!(corners_of(&last)[0].0 > 2_000_000_000);
+}
+
+#[test]
+fn refusals_of_corners() {
+    let refused = |job: &[u8], hazard, sheet: (u64, u64)| {
+        let Refusal { number, value } = corners(job, hazard, sheet.0, sheet.1).unwrap_err();
+        (number, value)
+    };
+    let whole = printed().bytes();
+    let sheet = (0, 0);
+    // 8 comes first.
+    for out in [2_000_000_001, 1 << 32, u64::MAX] {
+        for sheet in [(out, 0), (0, out), (out, out)] {
+            assert_eq!(refused(&[], 0, sheet), (8, 0));
+            assert_eq!(refused(&whole, 9, sheet), (8, 0));
+        }
+    }
+    assert_eq!(refused(&[], 9, sheet), (1, 0));
+    assert_eq!(refused(&[0x81, 0x00], 9, sheet), (2, 0));
+    assert_eq!(refused(&printed().with(C, 0).bytes(), 9, sheet), (3, 6));
+    let level_7 = printed().with_hazard(LEVEL, 7).bytes();
+    assert_eq!(refused(&level_7, 9, sheet), (4, 0));
+    let left_over = [&whole[..], &[0x00]].concat();
+    assert_eq!(refused(&left_over, 9, sheet), (7, whole.len() as u64));
+    // 5 of any hazard, before 14 and for one that is asked or not.
+    let near = [1, 200_000, 210_000, 3_999, 9_000, 3];
+    let job = printed().with_hazards(&[PRINTED_HAZARD, near]).bytes();
+    for hazard in [0, 1, 2, u64::MAX] {
+        assert_eq!(refused(&job, hazard, sheet), (5, 1));
+    }
+    // No such hazard.
+    for hazard in [1, 2, 256, 1 << 32, u64::MAX] {
+        assert_eq!(refused(&whole, hazard, sheet), (14, 0));
+    }
+    assert_eq!(refused(&PRINTED.bytes(), 0, sheet), (14, 0));
+    // One that nobody reaches.
+    let unreached = printed().with_hazard(N, 9_000).bytes();
+    assert_eq!(refused(&unreached, 0, sheet), (14, 0));
+    // One that far traffic does not reach: adjacent traffic is enough.
+    let adjacent_alone = two_way(13_340).with_hazard(N, 8_999);
+    assert_eq!(corners_of(&adjacent_alone), corners_of(&printed()));
 }

@@ -23,7 +23,7 @@ loop-holds c = let start = c .before .before .before in none-yet (start .args .t
 test-hazard-requires : tie.Need-test-hazard-requires Inv-loop μ-loop
 test-hazard-requires c κs =
     let start = c .before .before .before .before .before .before .before in
-    let fits = element-fits (start .args .t1) (start .args .side) (start .pre) (c .before .before .before .loop .index) unused (omega arith) in
+    let fits = element-fits (start .args .t1) (start .pre) (c .before .before .before .loop .index) unused (omega arith) in
     (start .pre .header, rw (c .unnamed .ensures) fits)
 
 -- What the test of a turn's hazard said.

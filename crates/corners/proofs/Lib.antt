@@ -1,0 +1,2 @@
+pub mod PointLaws
+pub mod CallLaws

@@ -1,0 +1,43 @@
+-- `corners::call::job_corners` meets its contract: 14, or the corners of the hazard as it is stored. Assumes nothing.
+use native.Mathlib.Omega.{arith}
+use borrow.Author.Needs.{needs}
+use Rattle.planning.proofs.ApproachedLaws.{stored-none, stored-unreached, stored-fits, stored-approached}
+use Rattle.corners.specs.Steps.{jobCorners}
+use Rattle.corners.proofs.CallLaws.{replies-as}
+use Rattle.corners.proofs.call.job_corners.Statement.{statement}
+use Rattle.corners.proofs.call.job_corners.Tie as tie
+
+returns : tie.Need-returns
+unfolding jobCorners
+returns c =
+    let s = c .before .before .before .before in
+    let a = s .args in
+    replies-as (c .refused .ensures) (rw (stored-none (a .t1) (s .pre .0) (a .index) (omega arith)))
+
+returns-2 : tie.Need-returns-2
+unfolding jobCorners
+returns-2 c =
+    let z = c .before .before .before .before in
+    let s = z .before .before .before .before .before in
+    let a = s .args in
+    replies-as (c .refused2 .ensures) (rw (stored-unreached (a .t1) (s .pre .0) (a .index) (omega arith) (z .unnamed .result) (z .unnamed .ensures) (omega arith)))
+
+hazard-corners-requires : tie.Need-hazard-corners-requires
+hazard-corners-requires c κs =
+    let z = c .before .before .before in
+    let s = z .before .before .before .before .before in
+    let a = s .args in
+    (stored-fits (a .t1) (s .pre .0) (a .index) (omega arith) (z .unnamed .result) (z .unnamed .ensures) (omega arith), s .pre .1)
+
+returns-3 : tie.Need-returns-3
+unfolding jobCorners
+returns-3 c =
+    let z = c .before .before .before .before in
+    let s = z .before .before .before .before .before in
+    let a = s .args in
+    replies-as (c .hazard-corners .ensures) (rw (stored-approached (a .t1) (s .pre .0) (a .index) (omega arith) (z .unnamed .result) (z .unnamed .ensures) (omega arith)))
+
+pub job-corners-spec : {M : Type 1} → statement M
+job-corners-spec =
+    tie.close
+    (tie.spec (λ c. search needs) (λ c κs. search needs) returns (λ c. search needs) (λ c. search needs) (λ c κs. search needs) (λ c κs. search needs) returns-2 hazard-corners-requires returns-3)

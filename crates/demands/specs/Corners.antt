@@ -1,0 +1,125 @@
+-- Document 02's request 9 as statements about the definitions: when the call corners refuses, where the corners lie, and worked jobs.
+-- Assumes nothing.
+use Prim.Native.Nat.{ℕ, _+_, _-_, _*_, _≤_, _<_}
+use mathlib.Core.Path.{_≡_}
+use mathlib.Core.Logic.{_↔_, _≢_, _⊎_}
+use mathlib.Core.Bool.{true, false}
+use mathlib.Core.List.{List, [], _∷_, _++_}
+use lib.ListN.{length}
+use lib.IntN.{ℤ, pos, negsuc, _+ℤ_, _-ℤ_}
+use Rattle.refusal.specs.Answer.{Answer, accepted, refused}
+use Rattle.job.specs.declared.Header.{Header}
+use Rattle.job.specs.declared.Hazard.{Hazard}
+use Rattle.job.specs.Job.{Job}
+use Rattle.job.specs.Writing.{writeNumbers}
+use Rattle.planning.specs.Envelope.{Traffic, forward, opposite, adjacentTraffic, lengthening, envelope}
+use Rattle.schedule.specs.Plan.{plan}
+use Rattle.schedule.specs.Planned.{Accepted}
+use Rattle.corners.specs.Corners.{Point, pointAt, Points, flareEntered, sheetTop, cornersOf}
+use Rattle.planning.specs.Approached.{hazardAt, adjacentReaches}
+use Rattle.demands.specs.Cases.{header, hazard}
+
+-- Refusals
+
+-- "A sheet corner out of range is 8": exactly then, whatever the job is.
+abbrev pub Corners-eight : Type 0
+Corners-eight = (s : List ℕ) (i x y v : ℕ) → (cornersOf s i x y ≡ refused 8 v) ↔ ((v ≡ 0) × ((sheetTop < x) ⊎ (sheetTop < y)))
+
+-- "14, no such hazard or adjacent traffic doesn't reach it": exactly then, of an accepted job.
+pub record NoApproach (s : List ℕ) (i : ℕ) : Type 0 where
+  pub job : Job
+  pub taken : Accepted s job
+  pub why : (length (job .hazards) ≤ i) ⊎ (adjacentReaches (job .header) (hazardAt job i) ≡ false)
+
+abbrev pub Corners-fourteen : Type 0
+Corners-fourteen = (s : List ℕ) (i x y v : ℕ) → (cornersOf s i x y ≡ refused 14 v) ↔ ((v ≡ 0) × (x ≤ sheetTop) × (y ≤ sheetTop) × NoApproach s i)
+
+-- "Refusals are plan's without 9; then 14": number and value, on either side of plan and whatever the room of its output is.
+abbrev pub Corners-refusals : Type 0
+Corners-refusals = (s : List ℕ) (i x y side room k v : ℕ) → x ≤ sheetTop → y ≤ sheetTop → side ≤ 1
+    → ((cornersOf s i x y ≡ refused k v) × (k ≢ 14)) ↔ ((plan s side room ≡ refused k v) × (k ≢ 9))
+
+-- Where the corners lie
+
+-- A station so far upstream of another.
+abbrev pub Apart : Traffic → (distance : ℕ) (upstream downstream : ℤ) → Type 0
+Apart forward d u w = u +ℤ pos d ≡ w
+Apart opposite d u w = u ≡ w +ℤ pos d
+
+-- The end of a hazard's envelope on a traffic's side is the station t, counted from the sheet corner. An envelope that would begin before 0 has
+-- no such station.
+abbrev pub EnvelopeEnd : (x : ℕ) → Header → Hazard → Traffic → (t : ℤ) → Type 0
+EnvelopeEnd x h z forward t = lengthening h z forward ≤ z .start → t ≡ pos (envelope h z .start) -ℤ pos x
+EnvelopeEnd x h z opposite t = t ≡ pos (envelope h z .end) -ℤ pos x
+
+-- "The hazard's end on that side."
+abbrev pub hazardEnd : Traffic → Hazard → ℕ
+hazardEnd forward z = z .start
+hazardEnd opposite z = z .end
+
+-- q is "n / a rounded down".
+pub record RoundedDown (n a q : ℕ) : Type 0 where
+  pub not-above : q * a ≤ n
+  pub next-above : n < (q + 1) * a
+
+-- Of a hazard with its adjacent traffic.
+pub record CornersLie (x y : ℕ) (h : Header) (z : Hazard) (t : Traffic) (p : Points) : Type 0 where
+  -- "The hazard's end on that side", at offset M, "counted from a sheet corner".
+  pub hazard : p .hazard ≡ pointAt x y (pos (hazardEnd t z)) (h .offset)
+  -- "Its upstream end": the raised length away, at the uncut envelope's end.
+  pub distance : Apart t (lengthening h z t) (p .upstream .station) (p .hazard .station)
+  pub upstream : EnvelopeEnd x h z t (p .upstream .station)
+  -- "The flare's beginning, T upstream of the hazard's end", at the same offset.
+  pub entered : flareEntered h z t ≡ true → Apart t (h .straight) (p .flare .station) (p .hazard .station) × (p .flare .offset ≡ p .hazard .offset)
+  -- "At the upstream end M + b × (length − T) / a rounded down, with the raised length, where the flare is entered."
+  pub away : flareEntered h z t ≡ true
+      → (n q : ℕ) × (h .straight + n ≡ lengthening h z t) × RoundedDown (h .across * n) (h .along) q × (p .upstream .offset ≡ p .hazard .offset +ℤ pos q)
+  -- "Otherwise the second corner repeats the first", and all three have the same offset.
+  pub straight : flareEntered h z t ≡ false → (p .flare ≡ p .upstream) × (p .upstream .offset ≡ p .hazard .offset)
+
+-- For every job and hazard that the call gives corners for.
+abbrev pub Corners-lie : Type 0
+Corners-lie = (s : List ℕ) (j : Job) (i x y : ℕ) (p : Points) → Accepted s j → cornersOf s i x y ≡ accepted p
+    → CornersLie x y (j .header) (hazardAt j i) (adjacentTraffic (j .header) (hazardAt j i .side)) p
+
+-- Worked jobs
+
+-- A job's numbers, a sheet corner, and the corners of its first hazard.
+pub record CornerCase : Type 0 where
+  pub job : List ℕ
+  pub station : ℕ
+  pub offset : ℕ
+  pub corners : Points
+
+abbrev pub point : (station offset : ℤ) → Point
+point s o = record { station = s; offset = o }
+
+abbrev pub cornerCase : List ℕ → (x y : ℕ) → (upstream flare hazard : Point) → CornerCase
+cornerCase j x y u f h = record { job = j; station = x; offset = y; corners = record { upstream = u; flare = f; hazard = h } }
+
+unfoldable pub cornerCases : List CornerCase
+cornerCases =
+    -- K1, length 44,227: the flare leads (44,227 − 13,340) / 15 away, 2,059.1 rounded down
+    cornerCase (header 101000 0 9000 0 3000 1 0 1 ++ hazard 200000 210000 5000 3) 0 0 (point (pos 155773) (pos 5059)) (point (pos 186660) (pos 3000)) (point (pos 200000) (pos 3000))
+    -- the same on the left, approached by opposite traffic
+    ∷ cornerCase (header 101000 101000 9000 0 3000 1 0 1 ++ (1 ∷ 200000 ∷ 210000 ∷ 5000 ∷ 9000 ∷ 3 ∷ [])) 0 0 (point (pos 254227) (pos 5059)) (point (pos 223340) (pos 3000)) (point (pos 210000) (pos 3000))
+    -- K2: no flare, length 67,334, from a sheet corner beyond it
+    ∷ cornerCase (header 101000 0 9000 0 3000 0 0 1 ++ hazard 200000 210000 5000 3) 250000 4000 (point (negsuc 117333) (negsuc 999)) (point (negsuc 117333) (negsuc 999)) (point (negsuc 49999) (negsuc 999))
+    -- K8's second job: not cut at A, the upstream end lies before station 0
+    ∷ cornerCase (header 101000 0 9000 0 3000 0 0 1 ++ hazard 67333 210000 5000 3) 0 0 (point (negsuc 0) (pos 3000)) (point (negsuc 0) (pos 3000)) (point (pos 67333) (pos 3000))
+    -- K1 in panels of 4,000: 48,000 long, and (48,000 − 13,340) / 15 away, 2,310.6 rounded down
+    ∷ cornerCase (2 ∷ 0 ∷ 1000000 ∷ 101000 ∷ 0 ∷ 9000 ∷ 0 ∷ 3000 ∷ 1000 ∷ 15 ∷ 1 ∷ 13340 ∷ 0 ∷ 4000 ∷ 1 ∷ hazard 200000 210000 5000 3) 0 0
+    (point (pos 152000) (pos 5310)) (point (pos 186660) (pos 3000)) (point (pos 200000) (pos 3000))
+    -- K1 on the left of a one-way road: approached by forward traffic
+    ∷ cornerCase (header 101000 0 9000 0 3000 1 0 1 ++ (1 ∷ 200000 ∷ 210000 ∷ 5000 ∷ 9000 ∷ 3 ∷ [])) 0 0 (point (pos 155773) (pos 5059)) (point (pos 186660) (pos 3000)) (point (pos 200000) (pos 3000))
+    -- in panels of 4,000, with T 67,500: the length before raising, 67,334, does not pass T; the raised length, 68,000, does
+    ∷ cornerCase (2 ∷ 0 ∷ 1000000 ∷ 101000 ∷ 0 ∷ 9000 ∷ 0 ∷ 3000 ∷ 1000 ∷ 15 ∷ 1 ∷ 67500 ∷ 0 ∷ 4000 ∷ 1 ∷ hazard 200000 210000 5000 3) 0 0
+    (point (pos 132000) (pos 3000)) (point (pos 132000) (pos 3000)) (point (pos 200000) (pos 3000))
+    ∷ []
+
+-- What the call gives for the first hazard, and what is expected.
+unfoldable pub drawnCorners : CornerCase → Answer Points
+drawnCorners c = cornersOf (writeNumbers (c .job)) 0 (c .station) (c .offset)
+
+unfoldable pub expectedCorners : CornerCase → Answer Points
+expectedCorners c = accepted (c .corners)

@@ -1,0 +1,2 @@
+// Whole numbers as 64-bit floats: what it means that a float is exactly one, and that sums and differences lose nothing. There is no code
+// here: the calls that draw do their arithmetic in floats and cite these laws.

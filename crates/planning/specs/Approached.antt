@@ -1,0 +1,26 @@
+-- One hazard of an accepted job, for the calls that ask about its adjacent approach (document 02, requests 9 and 10).
+-- Assumes nothing.
+use Prim.Native.Nat.{ℕ}
+use mathlib.Core.Bool.{Bool}
+use mathlib.Core.List.{[]}
+use lib.ListN.{length, getD}
+use lib.Dec.{ltb}
+use Rattle.refusal.specs.Answer.{Answer, accepted, _>>=_, unless-refuse}
+use Rattle.job.specs.declared.Header.{Header}
+use Rattle.job.specs.declared.Hazard.{Hazard}
+use Rattle.job.specs.Job.{Job, hazardOf}
+use Rattle.planning.specs.Envelope.{adjacentTraffic, reaches}
+
+-- The hazard with an index; zeros where there is none.
+abbrev pub hazardAt : Job → (index : ℕ) → Hazard
+hazardAt j i = getD (j .hazards) i (hazardOf [])
+
+abbrev pub adjacentReaches : Header → Hazard → Bool
+adjacentReaches h z = reaches h z (adjacentTraffic h (z .side))
+
+-- "14, no such hazard or adjacent traffic doesn't reach it." It returns 0.
+unfoldable pub approachedHazard : Job → (index : ℕ) → Answer Hazard
+approachedHazard j i =
+    unless-refuse (ltb i (length (j .hazards))) 14 0 >>= λ _.
+    unless-refuse (adjacentReaches (j .header) (hazardAt j i)) 14 0 >>= λ _.
+    accepted (hazardAt j i)
