@@ -1,10 +1,11 @@
 /*
  * The first program: plans document 01's printed example, looks up the barrier
  * at some stations, asks for the level at two of them without the schedule,
- * prices it by lots, asks for the corners of its approach, plans a job whose
- * approach runs into the neighbouring contract and shows two refusals.  It ends
- * with 1 where a call does not do what it should: a schedule that cannot be
- * read must not be priced as one without barriers.
+ * prices it by lots, asks for the corners of its approach and for offsets that
+ * keep a gate clear, plans a job whose approach runs into the neighbouring
+ * contract and shows two refusals.  It ends with 1 where a call does not do
+ * what it should: a schedule that cannot be read must not be priced as one
+ * without barriers.
  *
  *     cc example.c $(pkg-config --cflags --libs barrier_engine) -o example
  */
@@ -277,6 +278,34 @@ static int print_corners(const uint8_t *job, size_t job_len)
     return print_sheet(job, job_len, 0, 0) && print_sheet(job, job_len, 160000, 4000);
 }
 
+/* The offset that keeps the approach that short; 0 if refused. */
+static int print_offset(const uint8_t *job, size_t job_len, uint64_t longest)
+{
+    const barrier_offset_reply reply = barrier_offset(job, job_len, 0, longest);
+    if (reply.number != BARRIER_DONE) {
+        const barrier_reply refusal = {reply.number, reply.value};
+        print_refusal("offset", refusal);
+        return 0;
+    }
+    /* Offset 0 is an offset: whether there is one, found alone says. */
+    if (reply.found)
+        printf("  approach of at most %" PRIu64 " mm: offset %" PRIu64 "\n", longest, reply.value);
+    else
+        printf("  approach of at most %" PRIu64 " mm: none\n", longest);
+    return 1;
+}
+
+/* Gates at several distances upstream of the headwall. */
+static int print_offsets(const uint8_t *job, size_t job_len)
+{
+    static const uint64_t gates[] = {70000, 44227, 40000, 37807, 37806};
+    printf("Barrier offsets that keep a gate clear\n");
+    for (size_t i = 0; i < sizeof gates / sizeof gates[0]; i++)
+        if (!print_offset(job, job_len, gates[i]))
+            return 0;
+    return 1;
+}
+
 /*
  * Case K8's second job: without flare, and the headwall from 67,333 on, one
  * millimetre nearer to the road's begin than its approach is long.  The
@@ -355,8 +384,8 @@ static int show(void)
     print_bytes("right schedule", right, right_len);
     print_bytes("left schedule", left, left_len);
     return print_stations(right, right_len) && print_levels(job, job_len) &&
-           print_prices(right, right_len) && print_corners(job, job_len) && print_overhang() &&
-           print_refusals(job, job_len);
+           print_prices(right, right_len) && print_corners(job, job_len) &&
+           print_offsets(job, job_len) && print_overhang() && print_refusals(job, job_len);
 }
 
 int main(void)

@@ -3,11 +3,13 @@
  *
  * A job goes in: one straight road and its roadside hazards.  A schedule comes
  * out: the runs of safety barrier along one side of the road, each with its
- * containment level.  There are twelve calls:
+ * containment level.  There are thirteen calls:
  *
  *     barrier_plan           writes the schedule of one side of a job
  *     barrier_level          gives the level that a job requires at a station
  *     barrier_corners        gives the corner points of an approach to draw
+ *     barrier_offset         gives the smallest barrier offset that keeps an
+ *                            approach clear of a gate
  *     barrier_quantity       counts the millimetres of one level in a range
  *     barrier_quantities     the same for all lots of a contract, in one walk
  *     barrier_lookup         finds the record of the run at a station
@@ -359,6 +361,8 @@
  *     barrier_level          as barrier_plan, without 9
  *     barrier_corners        8, of the sheet corner; then as barrier_plan from
  *                            the job's numbers on, without 9; then 14
+ *     barrier_offset         as barrier_plan from the job's numbers on, without
+ *                            9; then 14
  *     barrier_quantity       8, then 10
  *     barrier_quantities     8, then 11, then 10
  *     barrier_lookup         8, then 10, of the asked side's schedule
@@ -407,9 +411,9 @@
  * thread changes a buffer that another call is using.  So on one open job only
  * one call at a time may open, add, withdraw, keep or return, and no other call
  * with it; calls on different open jobs do not touch each other.  One call of
- * barrier_plan, barrier_level or barrier_corners takes at most 24 KiB of stack,
- * each of those on an open job at most 64 KiB, without the open job itself, and
- * each of the others less than 2 KiB.
+ * barrier_plan, barrier_level, barrier_corners or barrier_offset takes at most
+ * 24 KiB of stack, each of those on an open job at most 64 KiB, without the
+ * open job itself, and each of the others less than 2 KiB.
  *
  * ---------------------------------------------------------------------------
  * LINKING
@@ -417,7 +421,7 @@
  * `pkg-config --cflags --libs barrier_engine` prints the flags; they name this
  * header's folder and the archive libbarrier_engine.a.  The archive is for
  * x86-64, position independent, so that it links into programs and shared
- * libraries alike, exports the twelve calls alone, and asks the C library for
+ * libraries alike, exports the thirteen calls alone, and asks the C library for
  * nothing but block copies and fills (memcpy, memset and their kin).
  *
  * A program is compiled with the header of the archive that it links: the
@@ -446,7 +450,7 @@ extern "C" {
  * way, so that programs already compiled break ("Linking"): 1.0.0 is such a
  * version.  The second goes up with each addition.
  */
-#define BARRIER_VERSION "1.1.0"
+#define BARRIER_VERSION "1.2.0"
 
 /*
  * CONSTANTS
@@ -668,6 +672,56 @@ typedef struct {
  */
 barrier_corners_reply barrier_corners(const uint8_t *job, size_t job_len, uint64_t hazard,
                                       uint64_t sheet_station, uint64_t sheet_offset);
+
+/*
+ * What barrier_offset replies.
+ *
+ *     number    BARRIER_DONE, or the refusal's number
+ *     value     found: the offset; refused: the refusal's value; else 0
+ *     found     1 where there is such an offset, else 0, also when refused
+ */
+typedef struct {
+    uint64_t number;
+    uint64_t value;
+    uint64_t found;
+} barrier_offset_reply;
+
+/*
+ * Offset: the smallest barrier offset with which the adjacent traffic's
+ * approach to one hazard is no longer than wanted.  A gate or a driveway stands
+ * upstream, and the barrier may not pass it.
+ *
+ *     job, job_len    the job's bytes
+ *     hazard          the hazard's index in the job, from 0
+ *     longest         the longest approach that is wanted, any number of
+ *                     millimetres
+ *
+ * Done: found is 1, and value the smallest M from 0 to 20000 with n at least
+ * M + D whose approach length is at most that; or found is 0, and there is no
+ * such M.  An offset of 0 is found 1 with value 0.
+ * Refused: 1 to 5, 7 or 14.
+ *
+ * The approach length is the one that is planned with this M: by the rule for
+ * the straight part, raised to whole panels, and not cut at A and B.  It never
+ * grows with M, so every greater offset that leaves the barrier its room is
+ * short enough too.  The job's own M plays no part in it, but the job has to be
+ * accepted with it: one that is refused 5 for its own M can be asked with M 0
+ * in its header.  Where the offset found is not above the job's own, the job's
+ * own is short enough already.
+ * The job's other hazards do not count: an offset that is put into the header
+ * is that of all of them, and one that stands nearer may then be refused 5.
+ *
+ *     The printed example: n 5000 and D 1000, so M is at most 4000.
+ *
+ *     longest          M
+ *     63485 or more    0
+ *     44227            3000
+ *     40000            3659, length 39996; with 3658 it is 40002
+ *     37807            4000
+ *     37806 or less    none
+ */
+barrier_offset_reply barrier_offset(const uint8_t *job, size_t job_len, uint64_t hazard,
+                                    uint64_t longest);
 
 /*
  * Quantity: how many millimetres of [p, q) have exactly that level.

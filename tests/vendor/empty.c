@@ -1,6 +1,6 @@
 /*
  * The header lets a pointer be NULL where its length is 0. Each such pointer of
- * each call but barrier_corners (corners.c), and the
+ * each call but barrier_corners and barrier_offset (corners.c, offset.c), and the
  * reply that document 01's table has for it; and the states of an open job
  * without hazards. Ends with 1 where a reply is another.
  */

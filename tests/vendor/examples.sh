@@ -47,10 +47,13 @@ refused plan example '  plan: refused 1 with 34, the job ends before or inside t
 refused lookup example '  lookup: refused 10 with 0, these bytes are not a schedule'
 refused level example '  level: refused 1 with 34, the job ends before or inside the number at byte 34'
 refused corners example '  corners: refused 14 with 0, no such hazard, or adjacent traffic does not reach it'
+refused offset example '  offset: refused 14 with 0, no such hazard, or adjacent traffic does not reach it'
 refused quantities example '  lots: refused 10 with 0, these bytes are not a schedule'
 refused quantity example '  road: refused 10 with 0, these bytes are not a schedule'
 refused nothing example '  near offset 3999: done, but it should be refused'
 grep -qx '  overhang on the right: 2 mm before the road, 3 mm behind it' "$tmp/nothing/c" || fail "the overhangs of plan"
+grep -qx '  approach of at most 37807 mm: offset 7' "$tmp/nothing/c" || fail "the offset"
+grep -qx '  approach of at most 37806 mm: none' "$tmp/nothing/c" || fail "no offset"
 for corner in 'upstream (-1, 2)' 'flare    (3, -4)' 'hazard   (5, 6)'; do
     grep -qx "    $corner" "$tmp/nothing/c" || fail "the corner $corner"
 done

@@ -4,7 +4,7 @@
  * comes from standard input; BARRIER_STACK_MAX bytes have to suffice for
  * planning it, into a large output and into one of exactly its schedule's
  * length, where the bytes needed are counted first, for its level at a
- * station, for its last hazard's corners, and for the queries;
+ * station, for its last hazard's corners and offset, and for the queries;
  * BARRIER_OPEN_STACK_MAX for an open job to which the job's hazards are added
  * one by one, and in which they are kept eight times. Where a reply is large,
  * its room in the caller counts too.
@@ -31,6 +31,7 @@ static barrier_plan_reply planned, exact, scheduled;
 static barrier_reply level_found, counted;
 static barrier_quantities_reply priced;
 static barrier_corners_reply drawn;
+static barrier_offset_reply cleared;
 static barrier_record found;
 static barrier_open_job open_job, whole_job;
 static unsigned char header[64];
@@ -63,6 +64,12 @@ static void corners(void)
 {
     drawn = barrier_corners(job, job_length, BARRIER_HAZARDS_MAX - 1, BARRIER_STATION_MAX,
                             BARRIER_STATION_MAX);
+}
+
+/* No approach is that short, so the whole search is made. */
+static void offset(void)
+{
+    cleared = barrier_offset(job, job_length, BARRIER_HAZARDS_MAX - 1, 0);
 }
 
 static void quantity(void)
@@ -197,6 +204,7 @@ int main(void)
     well &= suffices("plan with an output of exactly its length", plan_exactly, BARRIER_STACK_MAX);
     well &= suffices("level", level, BARRIER_STACK_MAX);
     well &= suffices("corners", corners, BARRIER_STACK_MAX);
+    well &= suffices("offset", offset, BARRIER_STACK_MAX);
     well &= suffices("quantity", quantity, BARRIER_STACK_MAX);
     well &= suffices("quantities", quantities, BARRIER_STACK_MAX);
     well &= suffices("lookup", lookup, BARRIER_STACK_MAX);
@@ -212,6 +220,8 @@ int main(void)
     /* 14 comes last: all that is read and tested has been by then. */
     if (drawn.number != BARRIER_NO_APPROACH)
         all_done &= done("corners", drawn.number);
+    if (cleared.number != BARRIER_NO_APPROACH)
+        all_done &= done("offset", cleared.number);
     all_done &= done("quantity", counted.number);
     all_done &= done("quantities", priced.number);
     all_done &= done("lookup", found.number);

@@ -1,3 +1,4 @@
 pub mod FormulaLaws
 pub mod ApproachLaws
 pub mod PanelLaws
+pub mod OffsetLaws

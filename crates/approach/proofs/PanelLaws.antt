@@ -8,7 +8,7 @@ use mathlib.Core.Logic.{_↔_}
 use Rattle.approach.specs.Approach.{ceilDiv, approachLength, Domain}
 use Rattle.approach.specs.Panel.{Multiple, LeastMultiple, raised, Raising, raisedLength, BelowRaised}
 use Rattle.approach.proofs.FormulaLaws.{not-le, ceil-covers, ceil-least}
-use Rattle.approach.proofs.ApproachLaws.{approach-below, length-fits}
+use Rattle.approach.proofs.ApproachLaws.{approach-below, length-some, length-fits}
 
 -- The raising.
 
@@ -35,6 +35,10 @@ pub raised-one : (x : ℕ) → raised 1 x ≡ x
 raised-one x =
     let r = raised-least 1 x (omega arith) in
     omega (arith, r .not-smaller, r .least x (record { times = x; product = omega arith }) (omega arith))
+
+-- A longer length is raised no less.
+pub raised-monotone : (p x y : ℕ) → 1 ≤ p → x ≤ y → raised p x ≤ raised p y
+raised-monotone p x y h l = let r = raised-least p y h in raised-least p x h .least (raised p y) (r .multiple) (omega (arith, r .not-smaller))
 
 -- Raising adds less than a panel.
 pub raised-less : (p x : ℕ) → 1 ≤ p → raised p x < x + p
@@ -74,8 +78,12 @@ pub raised-length-one : (a b T L R m : ℕ) → raisedLength 1 a b T L R m ≡ a
 unfolding raisedLength
 raised-length-one a b T L R m = raised-one (approachLength a b T L R m)
 
--- In the domain, with panels up to 10,000, it is below 210,000.
+-- In the domain it is above 0, and with panels up to 10,000 below 210,000.
 module _ (p a b T L R m : ℕ) (low : 1 ≤ p) (d : Domain a b T L R m) where
+  pub raised-length-some : 1 ≤ raisedLength p a b T L R m
+  unfolding raisedLength
+  raised-length-some = omega (arith, raised-least p (approachLength a b T L R m) low .not-smaller, length-some a b T L R m d)
+
   pub raised-length-fits : p ≤ 10000 → raisedLength p a b T L R m < 210000
   unfolding raisedLength
   raised-length-fits top = omega (arith, raised-less p (approachLength a b T L R m) low, length-fits a b T L R m d)

@@ -2,7 +2,7 @@
 -- Assumes nothing.
 use Prim.Native.Nat.{ℕ, _*_, _≤_}
 use mathlib.Core.Path.{_≡_}
-use Rattle.approach.specs.Approach.{ceilDiv, approachLength, BelowRule}
+use Rattle.approach.specs.Approach.{ceilDiv, approachLength, BelowRule, Domain}
 
 -- y is a multiple of p.
 pub record Multiple (p y : ℕ) : Type 0 where
@@ -30,3 +30,8 @@ raisedLength p a b T L R m = raised p (approachLength a b T L R m)
 -- A distance below the raised length, multiplied out: every multiple of the panel length up to that distance is below the approach length before rounding.
 abbrev pub BelowRaised : (p a b T L R m d : ℕ) → Type 0
 BelowRaised p a b T L R m d = (k : ℕ) → k * p ≤ d → BelowRule a b T L R m (k * p)
+
+-- A barrier that stands farther out needs an approach that is not longer: one claim over any two offsets below the reach, through rule, rounding and raising
+-- (law length-falls).
+abbrev pub Falling : Type 0
+Falling = (p a b T L R m k : ℕ) → 1 ≤ p → Domain a b T L R k → m ≤ k → raisedLength p a b T L R k ≤ raisedLength p a b T L R m

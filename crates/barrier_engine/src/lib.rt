@@ -6,15 +6,17 @@ use replies::PlanReply;
 use replies::Quantities;
 use replies::Record;
 use replies::Reply;
+use replies::SmallestOffset;
 ghost use mathlib.Core.Path.{_≡_};
 ghost use lib.ListN.{length};
 ghost use Rattle.schedule.specs.Plan.{plan, bytesWritten, outputAfter};
 ghost use Rattle.station_level.specs.Level.{levelAt};
 ghost use Rattle.corners.specs.Corners.{cornersOf};
+ghost use Rattle.clear_offset.specs.Offset.{smallestOffset};
 ghost use Rattle.queries.specs.Quantity.{quantity};
 ghost use Rattle.queries.specs.Lookup.{lookup};
 ghost use Rattle.queries.specs.Ranges.{quantities};
-ghost use Rattle.replies.specs.Interface.{replyOf, planReplyOf, recordOf, quantitiesOf, CornersTold};
+ghost use Rattle.replies.specs.Interface.{replyOf, planReplyOf, recordOf, quantitiesOf, CornersTold, smallestOf};
 
 #[no_mangle]
 pub extern "C" fn barrier_plan(job: &[u8], side: u64, out: &mut [u8]) -> PlanReply
@@ -29,6 +31,13 @@ pub extern "C" fn barrier_level(job: &[u8], side: u64, station: u64) -> Reply
     ensures { λ r. ⌜ r ≡ replyOf (levelAt (now (job .entry)) side station) ⌝ }
 {
     replies::calls::level(job, side, station)
+}
+
+#[no_mangle]
+pub extern "C" fn barrier_offset(job: &[u8], hazard: u64, longest: u64) -> SmallestOffset
+    ensures { λ r. ⌜ r ≡ smallestOf (smallestOffset (now (job .entry)) hazard longest) ⌝ }
+{
+    replies::hazard::offset(job, hazard, longest)
 }
 
 #[no_mangle]

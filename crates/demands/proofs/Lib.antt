@@ -9,3 +9,4 @@ pub mod CaseLaws
 pub mod BeforeLaws
 pub mod LevelLaws
 pub mod CornerLaws
+pub mod OffsetLaws

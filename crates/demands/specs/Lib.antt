@@ -5,3 +5,4 @@ pub mod Before
 pub mod Level
 pub mod Road
 pub mod Corners
+pub mod Offset

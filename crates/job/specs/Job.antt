@@ -144,6 +144,26 @@ headerWith l panel count = record {
 abbrev pub headerOf : List ℕ → Header
 headerOf l = if eqb (getD l 0 0) 2 then headerWith l (getD l 13 0) (getD l 14 0) else headerWith l 1 (getD l 13 0)
 
+-- The same header with another barrier offset.
+abbrev pub withOffset : Header → (M : ℕ) → Header
+withOffset h M = record {
+  kind = h .kind;
+  begin = h .begin;
+  end = h .end;
+  forward = h .forward;
+  opposite = h .opposite;
+  zone = h .zone;
+  way = h .way;
+  offset = M;
+  deflection = h .deflection;
+  along = h .along;
+  across = h .across;
+  straight = h .straight;
+  continuity = h .continuity;
+  panel = h .panel;
+  count = h .count;
+}
+
 abbrev pub hazardOf : List ℕ → Hazard
 hazardOf l = record { side = getD l 0 0; start = getD l 1 0; end = getD l 2 0; near = getD l 3 0; far = getD l 4 0; level = getD l 5 0 }
 

@@ -76,7 +76,7 @@ pub present-runout : (h : Header) → HeaderFits h → (t : Traffic) → present
 present-runout h f forward = sym (lt-ltb 0 (h .forward) (f .forward-low))
 present-runout h f opposite = refl
 
-runout-top : (h : Header) → HeaderFits h → (t : Traffic) → runout h t ≤ 200000
+pub runout-top : (h : Header) → HeaderFits h → (t : Traffic) → runout h t ≤ 200000
 runout-top h f forward = f .forward-top
 runout-top h f opposite = f .opposite-top
 

@@ -8,6 +8,7 @@ use Rattle.refusal.specs.Stored.{acceptedOr}
 use Rattle.schedule.specs.declared.reply.Written.{Written}
 use Rattle.corners.specs.Corners.{Points}
 use Rattle.corners.specs.Reply.{CornerIs, noPoints}
+use Rattle.clear_offset.specs.Offset.{Smallest, offset, none}
 use Rattle.queries.specs.Lookup.{Found, found, nowhere}
 use Rattle.queries.specs.Ranges.{Counted, placesOf}
 use Rattle.replies.specs.declared.Reply.{Reply}
@@ -15,6 +16,7 @@ use Rattle.replies.specs.declared.PlanReply.{PlanReply}
 use Rattle.replies.specs.declared.Record.{Record}
 use Rattle.replies.specs.declared.Quantities.{Quantities}
 use Rattle.replies.specs.declared.Corners.{Corners}
+use Rattle.replies.specs.declared.SmallestOffset.{SmallestOffset}
 
 abbrev pub reply : (number value : ℕ) → Reply
 reply number value = record { number = number; value = value }
@@ -43,9 +45,15 @@ unfoldable pub quantitiesOf : Answer Counted → Quantities
 quantitiesOf (accepted c) = record { number = 0; value = 0; records = c .records; quantities = placesOf (c .quantities) }
 quantitiesOf (refused number value) = record { number = number; value = value; records = 0; quantities = placesOf [] }
 
--- The corners' struct: number and value by equation, and each float exactly the whole number; after a refusal zeros alone.
+-- The corners' struct: number and value by equation, and each float exactly the whole number; 0 after a refusal.
 pub record CornersTold (r : Corners) (answer : Answer Points) : Type 0 where
   pub ended : reply (r .number) (r .value) ≡ replyOf (answer >>= λ _. accepted 0)
   pub upstream : CornerIs (r .upstream) (acceptedOr noPoints answer .upstream)
   pub flare : CornerIs (r .flare) (acceptedOr noPoints answer .flare)
   pub hazard : CornerIs (r .hazard) (acceptedOr noPoints answer .hazard)
+
+-- The smallest offset, or that there is none.
+unfoldable pub smallestOf : Answer Smallest → SmallestOffset
+smallestOf (accepted (offset M)) = record { number = 0; value = M; found = 1 }
+smallestOf (accepted none) = record { number = 0; value = 0; found = 0 }
+smallestOf (refused number value) = record { number = number; value = value; found = 0 }

@@ -9,6 +9,7 @@ ghost use Rattle.schedule.specs.Plan.{planReply};
 ghost use Rattle.replies.specs.Interface.{reply, replyOf, planReplyOf};
 
 pub mod calls; // the calls on job and schedule bytes
+pub mod hazard; // the call smallest offset
 pub mod open; // the calls on the parts of an open job
 
 // Number 0: done, with the bytes written and the greatest overhangs before A and behind B; else the refusal, and 0 for both.
@@ -53,6 +54,14 @@ pub struct Corners {
     pub upstream: Corner,
     pub flare: Corner,
     pub hazard: Corner,
+}
+
+// Number 0: where found is 1, value is the smallest barrier offset, and where it is 0 there is none; else the refusal, and found 0.
+#[repr(C)]
+pub struct SmallestOffset {
+    pub number: u64,
+    pub value: u64,
+    pub found: u64,
 }
 
 fn refused(refusal: Refusal) -> Reply

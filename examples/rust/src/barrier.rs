@@ -68,6 +68,13 @@ pub mod c {
     }
 
     #[repr(C)]
+    pub struct OffsetReply {
+        pub number: u64,
+        pub value: u64,
+        pub found: u64,
+    }
+
+    #[repr(C)]
     pub struct Record {
         pub number: u64,
         pub found: u64,
@@ -159,6 +166,13 @@ pub mod c {
             sheet_station: u64,
             sheet_offset: u64,
         ) -> CornersReply;
+
+        pub fn barrier_offset(
+            job: *const u8,
+            job_len: usize,
+            hazard: u64,
+            longest: u64,
+        ) -> OffsetReply;
 
         pub fn barrier_quantity(
             schedule: *const u8,
@@ -293,6 +307,22 @@ pub fn corners(
             hazard: reply.hazard,
         }),
         number => Err(Refusal {
+            number,
+            value: reply.value,
+        }),
+    }
+}
+
+/// The smallest barrier offset with which the adjacent traffic's approach to a
+/// hazard, by its index in the job, is no longer than that; `None` where there
+/// is no such offset.
+pub fn offset(job: &[u8], hazard: u64, longest: u64) -> Result<Option<u64>, Refusal> {
+    // SAFETY: the pointer is good for as many bytes as are named with it.
+    let reply = unsafe { c::barrier_offset(job.as_ptr(), job.len(), hazard, longest) };
+    match (reply.number, reply.found) {
+        (DONE, 0) => Ok(None),
+        (DONE, _) => Ok(Some(reply.value)),
+        (number, _) => Err(Refusal {
             number,
             value: reply.value,
         }),

@@ -1,9 +1,10 @@
 //! The first program: plans document 01's printed example, looks up the
 //! barrier at some stations, asks for the level at two of them without the
-//! schedule, prices it by lots, asks for the corners of its approach, plans a
-//! job whose approach runs into the neighbouring contract and shows two
-//! refusals. It ends with 1 where a call does not do what it should: a schedule
-//! that cannot be read must not be priced as one without barriers.
+//! schedule, prices it by lots, asks for the corners of its approach and for
+//! offsets that keep a gate clear, plans a job whose approach runs into the
+//! neighbouring contract and shows two refusals. It ends with 1 where a call
+//! does not do what it should: a schedule that cannot be read must not be
+//! priced as one without barriers.
 //!
 //! It prints the same text as examples/example.c.
 
@@ -245,6 +246,27 @@ fn print_corners(out: &mut impl Write, job: &[u8]) -> Result<(), Stop> {
     print_sheet(out, job, 160_000, 4_000)
 }
 
+/// The offset that keeps the approach that short.
+fn print_offset(out: &mut impl Write, job: &[u8], longest: u64) -> Result<(), Stop> {
+    let answer = barrier::offset(job, 0, longest);
+    let found = done(out, "offset", answer)?;
+    write!(out, "  approach of at most {longest} mm: ")?;
+    match found {
+        Some(offset) => writeln!(out, "offset {offset}")?,
+        None => writeln!(out, "none")?,
+    }
+    Ok(())
+}
+
+/// Gates at several distances upstream of the headwall.
+fn print_offsets(out: &mut impl Write, job: &[u8]) -> Result<(), Stop> {
+    writeln!(out, "Barrier offsets that keep a gate clear")?;
+    for longest in [70_000, 44_227, 40_000, 37_807, 37_806] {
+        print_offset(out, job, longest)?;
+    }
+    Ok(())
+}
+
 /// Case K8's second job: without flare, and the headwall from 67,333 on, one
 /// millimetre nearer to the road's begin than its approach is long. The
 /// schedule begins with the road. What hangs over stands in the neighbouring
@@ -307,6 +329,7 @@ fn show(out: &mut impl Write) -> Result<(), Stop> {
     print_levels(out, &job)?;
     print_prices(out, &right)?;
     print_corners(out, &job)?;
+    print_offsets(out, &job)?;
     print_overhang(out)?;
     print_refusals(out, &job)
 }

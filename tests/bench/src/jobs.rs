@@ -4,9 +4,11 @@
 use cases::draft::{A, B, Draft, E, Header, S};
 use cases::{Memory, Random};
 use reference::Stretch;
+use reference::envelope;
 use reference::job::Hazard;
 use reference::level::Run;
 use reference::memory::BYTES;
+use reference::offset;
 use reference::open::STATES;
 
 #[derive(Clone, Copy, PartialEq, Eq)]
@@ -196,6 +198,15 @@ pub fn lots(schedule: &[u8]) -> Vec<u64> {
 /// The planned schedule of the right side.
 pub fn schedule(job: &[u8]) -> Vec<u8> {
     reference::planned(job, 0).expect("the job is accepted")
+}
+
+/// The adjacent approach of the last hazard with the last M that there is for it.
+pub fn at_last_offset(job: &[u8]) -> u64 {
+    let job = reference::job::read(job).expect("the job is accepted");
+    let reached = envelope::adjacent_approach(&job, LAST);
+    let (hazard, approach) = reached.expect("the last hazard is reached");
+    let last = hazard.near - job.deflection;
+    offset::length(&job, &approach, last)
 }
 
 /// A station in the middle run of the right side.

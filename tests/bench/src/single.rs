@@ -3,11 +3,11 @@
 
 use std::hint::black_box;
 
-use cases::calls::{contract, corners_reply, plan_reply, record, reply};
+use cases::calls::{contract, corners_reply, offset_reply, plan_reply, record, reply};
 
 use crate::jobs::{self, Kind, LAST, Order, ROAD_END};
 
-pub const NAMES: [&str; 23] = [
+pub const NAMES: [&str; 24] = [
     "sparse-shuffled",
     "sparse-shuffled-panels-4000",
     "overhang-sparse-shuffled",
@@ -17,6 +17,7 @@ pub const NAMES: [&str; 23] = [
     "level-sparse-shuffled",
     "level-dense-shuffled",
     "corners-sparse-shuffled",
+    "offset-sparse-shuffled",
     "quantity-511",
     "quantities-64-all",
     "quantities-64-half",
@@ -79,6 +80,7 @@ impl Single {
             "level-sparse-shuffled" => self.level(Kind::Sparse),
             "level-dense-shuffled" => self.level(Kind::Dense),
             "corners-sparse-shuffled" => self.corners(),
+            "offset-sparse-shuffled" => self.offset(),
             "quantity-511" => self.quantity(),
             "quantities-64-all" => self.quantities(&jobs::schedule_of_one_level(3), 3),
             "quantities-64-half" => self.quantities(&schedule_511(), 1),
@@ -129,6 +131,19 @@ impl Single {
             black_box(match self.who {
                 Who::Engine => engine::corners(job, LAST, sheet.0, sheet.1),
                 Who::Reference => corners_reply(reference::corners(job, LAST, sheet.0, sheet.1)),
+            });
+        }
+    }
+
+    /// The last of 256 hazards, its last M.
+    fn offset(&self) {
+        let job = jobs::job(Kind::Sparse, Order::Shuffled, 256);
+        let longest = jobs::at_last_offset(&job);
+        for _ in 0..self.times {
+            let job = black_box(&job);
+            black_box(match self.who {
+                Who::Engine => engine::offset(job, LAST, longest),
+                Who::Reference => offset_reply(reference::offset(job, LAST, longest)),
             });
         }
     }

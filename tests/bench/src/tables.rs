@@ -3,7 +3,7 @@
 use std::hint::black_box;
 use std::process::ExitCode;
 
-use cases::calls::{contract, corners_reply, plan_reply, record, reply};
+use cases::calls::{contract, corners_reply, offset_reply, plan_reply, record, reply};
 use cases::{Memory, Reply};
 
 use crate::jobs::{self, Kind, LAST, Order, ROAD_END};
@@ -29,7 +29,7 @@ pub fn print() -> ExitCode {
     print_plan(&planned);
     print_growth(&planned);
     print_level();
-    print_corners();
+    print_one_hazard();
     print_quantity();
     print_contract();
     print_lookup();
@@ -168,13 +168,14 @@ fn print_level() {
     }
 }
 
-fn print_corners() {
-    println!("\nCorners of the last of 256 hazards, ns per call:\n");
-    println!("| job | order | engine | reference | engine/reference |");
-    println!("|---|---|---:|---:|---:|");
+/// The calls on one hazard of the sparse job.
+fn print_one_hazard() {
+    println!("\nOf the last of 256 hazards, sparse and shuffled, ns per call:\n");
+    println!("| call | engine | reference | engine/reference |");
+    println!("|---|---:|---:|---:|");
     let job = jobs::job(Kind::Sparse, Order::Shuffled, 256);
     let (station, offset) = jobs::SHEET;
-    let pair = Pair {
+    let corners = Pair {
         engine: Box::new(|| {
             black_box(engine::corners(black_box(&job), LAST, station, offset));
         }),
@@ -183,8 +184,19 @@ fn print_corners() {
             black_box(corners_reply(given));
         }),
     };
-    let (name, order) = (Kind::Sparse.name(), Order::Shuffled.name());
-    println!("| {name} | {order} | {} |", columns(&pair.times()));
+    let longest = jobs::at_last_offset(&job);
+    let smallest = Pair {
+        engine: Box::new(|| {
+            black_box(engine::offset(black_box(&job), LAST, longest));
+        }),
+        reference: Box::new(|| {
+            let given = reference::offset(black_box(&job), LAST, longest);
+            black_box(offset_reply(given));
+        }),
+    };
+    for (name, pair) in [("corners", corners), ("smallest offset", smallest)] {
+        println!("| {name} | {} |", columns(&pair.times()));
+    }
 }
 
 fn print_quantity() {

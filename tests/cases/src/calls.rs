@@ -85,6 +85,15 @@ impl PartialEq for CornersReply {
     }
 }
 
+/// The reply of offset: number 0 with found 1 and M, or found 0 and 0; else the
+/// refusal number with its value and found 0.
+#[derive(Clone, Copy, Debug, PartialEq, Eq)]
+pub struct OffsetReply {
+    pub number: u64,
+    pub value: u64,
+    pub found: u64,
+}
+
 /// Guard bytes on each side of lent memory.
 pub const GUARD: usize = 24;
 
@@ -117,6 +126,9 @@ pub type LevelCall = dyn Fn(&mut [u8], u64, u64) -> Reply;
 /// Job, hazard index, the sheet corner's station and offset.
 pub type CornersCall = dyn Fn(&mut [u8], u64, u64, u64) -> CornersReply;
 
+/// Job, hazard index, the wanted longest approach.
+pub type OffsetCall = dyn Fn(&mut [u8], u64, u64) -> OffsetReply;
+
 /// Schedule, level, p, q.
 pub type QuantityCall = dyn Fn(&mut [u8], u64, u64, u64) -> Reply;
 
@@ -147,6 +159,7 @@ pub struct Calls {
     pub plan: Box<PlanCall>,
     pub level: Box<LevelCall>,
     pub corners: Box<CornersCall>,
+    pub offset: Box<OffsetCall>,
     pub quantity: Box<QuantityCall>,
     pub quantities: Box<QuantitiesCall>,
     pub lookup: Box<LookupCall>,
@@ -167,6 +180,9 @@ pub fn right() -> Calls {
         level: Box::new(|job, side, station| reply(reference::level(job, side, station))),
         corners: Box::new(|job, hazard, station, offset| {
             corners_reply(reference::corners(job, hazard, station, offset))
+        }),
+        offset: Box::new(|job, hazard, longest| {
+            offset_reply(reference::offset(job, hazard, longest))
         }),
         quantity: Box::new(|schedule, level, p, q| {
             reply(reference::quantity(schedule, level, p, q))
@@ -230,6 +246,16 @@ pub fn corners_reply(result: Result<Corners, Refusal>) -> CornersReply {
         number,
         value,
         corners,
+    }
+}
+
+pub fn offset_reply(result: Result<Option<u64>, Refusal>) -> OffsetReply {
+    let found = u64::from(matches!(result, Ok(Some(_))));
+    let Reply { number, value } = reply(result.map(|offset| offset.unwrap_or(0)));
+    OffsetReply {
+        number,
+        value,
+        found,
     }
 }
 

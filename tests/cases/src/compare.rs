@@ -9,7 +9,9 @@ use reference::calls::LONG_ENOUGH;
 use reference::job::{self, Hazard};
 use reference::memory::BYTES;
 
-use crate::calls::{self, Calls, Contract, CornersReply, GUARD, Memory, PlanReply, Record, Reply};
+use crate::calls::{
+    self, Calls, Contract, CornersReply, GUARD, Memory, OffsetReply, PlanReply, Record, Reply,
+};
 use crate::hex;
 use crate::tally::Tally;
 
@@ -33,6 +35,11 @@ pub enum Case {
         hazard: u64,
         sheet_station: u64,
         sheet_offset: u64,
+    },
+    Offset {
+        job: Vec<u8>,
+        hazard: u64,
+        longest: u64,
     },
     Quantity {
         schedule: Vec<u8>,
@@ -106,6 +113,11 @@ impl fmt::Display for Case {
                 let job = hex::write(job);
                 write!(f, "--corners {job} {hazard} {sheet_station} {sheet_offset}")
             }
+            Case::Offset {
+                job,
+                hazard,
+                longest,
+            } => write!(f, "--offset {} {hazard} {longest}", hex::write(job)),
             Case::Quantity {
                 schedule,
                 level,
@@ -369,6 +381,33 @@ impl Checker {
         Err(self.difference(case(), what, corners_text(expected), corners_text(got)))
     }
 
+    /// Tries the smallest offset for one hazard and a wanted longest approach.
+    pub fn offset(
+        &mut self,
+        job: &[u8],
+        hazard: u64,
+        longest: u64,
+    ) -> Result<OffsetReply, Box<Difference>> {
+        let case = || Case::Offset {
+            job: job.to_vec(),
+            hazard,
+            longest,
+        };
+        self.trace(case);
+        let mut lent = job.to_vec();
+        let expected = calls::offset_reply(reference::offset(job, hazard, longest));
+        let got = (self.calls.offset)(&mut lent, hazard, longest);
+        self.tally.count(expected.number);
+
+        let mut what = Vec::new();
+        note_reply(&mut what, expected != got);
+        note_input(&mut what, "job", job, &lent);
+        if what.is_empty() {
+            return Ok(got);
+        }
+        Err(self.difference(case(), what, offset_text(expected), offset_text(got)))
+    }
+
     pub fn quantity(
         &mut self,
         schedule: &[u8],
@@ -563,6 +602,11 @@ impl Checker {
                 let sheet = (*sheet_station, *sheet_offset);
                 self.corners(job, *hazard, sheet).map(|_| ())
             }
+            Case::Offset {
+                job,
+                hazard,
+                longest,
+            } => self.offset(job, *hazard, *longest).map(|_| ()),
             Case::Quantity {
                 schedule,
                 level,
@@ -681,6 +725,15 @@ fn corners_text(reply: CornersReply) -> String {
     let corner = |corner: Corner| format!("{}, {}", float(corner.station), float(corner.offset));
     let [upstream, flare, hazard] = corners.map(corner);
     format!("number {number} value {value} upstream {upstream} flare {flare} hazard {hazard}")
+}
+
+fn offset_text(reply: OffsetReply) -> String {
+    let OffsetReply {
+        number,
+        value,
+        found,
+    } = reply;
+    format!("number {number} value {value} found {found}")
 }
 
 fn contract_text(contract: Contract) -> String {

@@ -36,6 +36,11 @@ pub const ALL: &[Family] = &[
     family("levels of refused jobs", refused_levels),
     family("corners of every hazard", one_hazard::corners),
     family("corners of refused jobs", one_hazard::refused_corners),
+    family("smallest offsets", one_hazard::offsets),
+    family(
+        "smallest offsets of refused jobs",
+        one_hazard::refused_offsets,
+    ),
     family("run lists and nearly run lists", run_lists),
     family("open jobs, lists of calls", open::lists),
     family("open jobs, all names", open::all_names),

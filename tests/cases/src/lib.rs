@@ -16,11 +16,12 @@ pub mod wrong;
 pub mod wrong_corners;
 pub mod wrong_level;
 pub mod wrong_memory;
+pub mod wrong_offset;
 pub mod wrong_open;
 pub mod wrong_overhang;
 pub mod wrong_states;
 
-pub use calls::{Calls, Contract, CornersReply, Memory, PlanReply, Record, Reply};
+pub use calls::{Calls, Contract, CornersReply, Memory, OffsetReply, PlanReply, Record, Reply};
 pub use compare::{Case, Checker, Difference, Step};
 pub use reference::draft;
 pub use reference::random::Random;

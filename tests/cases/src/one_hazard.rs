@@ -3,10 +3,13 @@
 use reference::calls::accepted as accepted_job;
 use reference::corners::{Point, SHEET_END, points};
 use reference::envelope;
+use reference::offset::{self, GREATEST};
 
 use crate::Random;
 use crate::compare::Checker;
-use crate::draft::{B, C, Draft, FLARE_A, FLARE_B, LF, LO, M, PRINTED, T, W, number_bytes, range};
+use crate::draft::{
+    B, C, D, Draft, FLARE_A, FLARE_B, LF, LO, M, PRINTED, T, W, number_bytes, range,
+};
 use crate::families::{KINDS, Outcome, accepted, accepted_of_kind, around, paper_jobs};
 use crate::faults::{Broken, FAULTS, wrong_forms};
 use crate::jobs;
@@ -29,16 +32,18 @@ fn index(random: &mut Random, draft: &Draft) -> u64 {
     }
 }
 
-/// Accepted jobs of every sort, each given with the indices to ask for.
+/// Accepted jobs of every sort, so many random ones among them, each given with
+/// the indices to ask for.
 fn each_job(
     checker: &mut Checker,
     random: &mut Random,
+    random_jobs: u64,
     ask: impl Fn(&mut Checker, &mut Random, &Draft, &[u64]) -> Outcome,
 ) -> Outcome {
     for draft in paper_jobs().into_iter().chain(steep_jobs()) {
         ask(checker, random, &draft, &indices(&draft))?;
     }
-    for round in 0..500 {
+    for round in 0..random_jobs {
         let mut draft = accepted(random, 1, 12);
         if round % 4 == 0 {
             jobs::bring_to_road_ends(&mut draft, random);
@@ -124,7 +129,7 @@ fn each_refused_job(
 // Corners.
 
 pub fn corners(checker: &mut Checker, random: &mut Random) -> Outcome {
-    each_job(checker, random, |checker, random, draft, indices| {
+    each_job(checker, random, 500, |checker, random, draft, indices| {
         let job = draft.bytes();
         for hazard in indices {
             let points = points_of(draft, *hazard);
@@ -202,4 +207,96 @@ fn bad_sheet(random: &mut Random) -> (u64, u64) {
     ]);
     let other = random.pick(&[0, SHEET_END, bad]);
     random.pick(&[(bad, other), (other, bad)])
+}
+
+// Smallest offsets.
+
+pub fn offsets(checker: &mut Checker, random: &mut Random) -> Outcome {
+    each_job(checker, random, 120, |checker, random, draft, indices| {
+        let job = draft.bytes();
+        for hazard in indices {
+            for _ in 0..2 {
+                checker.offset(&job, *hazard, longest(random, draft, *hazard))?;
+            }
+        }
+        Ok(())
+    })?;
+    for draft in [last_offsets(), small_jobs(random)].concat() {
+        for hazard in indices(&draft) {
+            for _ in 0..4 {
+                let longest = longest(random, &draft, hazard);
+                checker.offset(&draft.bytes(), hazard, longest)?;
+            }
+        }
+    }
+    Ok(())
+}
+
+pub fn refused_offsets(checker: &mut Checker, random: &mut Random) -> Outcome {
+    each_refused_job(checker, random, |checker, random, draft, job, _| {
+        let hazard = index(random, draft);
+        checker.offset(job, hazard, longest(random, draft, hazard))?;
+        Ok(())
+    })
+}
+
+/// Jobs with few offsets to try, so that many of them can be asked for.
+fn small_jobs(random: &mut Random) -> Vec<Draft> {
+    let made = (0..150).map(|_| jobs::small(random));
+    let accepted = made.filter(|draft| accepted_job(&draft.bytes()).is_ok());
+    accepted.filter(|draft| draft.hazards.len() <= 8).collect()
+}
+
+/// n − D at 20,000, next to it and at 0, with and without flare and panels.
+fn last_offsets() -> Vec<Draft> {
+    let mut list = Vec::new();
+    for (near, deflection) in [
+        (20_001, 1),
+        (24_999, 5_000),
+        (25_000, 5_000),
+        (25_001, 5_000),
+        (29_999, 1),
+        (5_000, 5_000),
+        (1, 1),
+    ] {
+        for across in [0, 1] {
+            let draft = PRINTED.with(M, 0).with(D, deflection).with(FLARE_B, across);
+            let draft = draft.with(C, 30_000).with(LF, 200_000);
+            let draft = draft.with_hazards(&[[0, 300_000, 300_001, near, 60_000, 2]]);
+            list.extend([draft.clone(), draft.in_panels(7)]);
+        }
+    }
+    list
+}
+
+/// A wanted longest approach: that of the least M, of the last one, of the
+/// header's or of any, or a millimetre to either side of it; 0, 1, the greatest
+/// numbers, and such as are short in 32 bits.
+fn longest(random: &mut Random, draft: &Draft, hazard: u64) -> u64 {
+    let any = match random.below(6) {
+        0 => random.pick(&[0, 1, u64::MAX - 1, u64::MAX, 1 << 32]),
+        _ => random.edgy(0, 210_000),
+    };
+    let Ok(job) = accepted_job(&draft.bytes()) else {
+        return any;
+    };
+    let Ok((hazard, approach)) = envelope::adjacent_approach(&job, hazard) else {
+        return any;
+    };
+    let last = (hazard.near - job.deflection).min(GREATEST);
+    let offset = match random.below(9) {
+        0 => return any,
+        1..=2 => 0,
+        3..=4 => last,
+        5 => job.barrier_offset,
+        _ => random.edgy(0, last),
+    };
+    let length = offset::length(&job, &approach, offset);
+    match random.below(8) {
+        0..=1 => length - 1,
+        2 => length + 1,
+        3 => length + (1 << 32),
+        4 => envelope::before_raising(&job, &approach),
+        _ => length,
+    }
 }

@@ -17,7 +17,10 @@ use crate::calls::{
     plan_reply, record, reply, right,
 };
 use crate::draft::{G, KIND, PANEL, number_bytes};
-use crate::{wrong_corners, wrong_level, wrong_memory, wrong_open, wrong_overhang, wrong_states};
+use crate::{
+    wrong_corners, wrong_level, wrong_memory, wrong_offset, wrong_open, wrong_overhang,
+    wrong_states,
+};
 
 /// Every wrong engine with the name of its slip.
 pub fn all() -> Vec<(&'static str, Calls)> {
@@ -39,6 +42,7 @@ pub fn all() -> Vec<(&'static str, Calls)> {
     list.extend(wrong_states::all());
     list.extend(wrong_overhang::all());
     list.extend(wrong_corners::all());
+    list.extend(wrong_offset::all());
     list
 }
 
@@ -1867,6 +1871,7 @@ mod tests {
     fn no_difference_without_a_slip() {
         let calls = Calls {
             level: wrong_level::by(RIGHT).level,
+            offset: wrong_offset::by(wrong_offset::RIGHT).offset,
             quantity: Box::new(|schedule, level, p, q| {
                 reply(quantity_by(&STRICT, schedule, level, p, q))
             }),

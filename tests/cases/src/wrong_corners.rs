@@ -582,7 +582,10 @@ fn wrong_sheets() -> Vec<(&'static str, Calls)> {
         (
             "corners: a sheet corner at 2,000,000,001 taken",
             taken(|station, offset| {
-                let within = |number| [number, SHEET_END][usize::from(number == SHEET_END + 1)];
+                let within = |number| match number == SHEET_END + 1 {
+                    true => SHEET_END,
+                    false => number,
+                };
                 (within(station), within(offset))
             }),
         ),
@@ -680,7 +683,7 @@ fn wrong_hazards() -> Vec<(&'static str, Calls)> {
 }
 
 /// The index of the hazard that is counted so among these alone.
-fn nth(job: &Job, counted: u64, among: impl Fn(&Hazard) -> bool) -> u64 {
+pub fn nth(job: &Job, counted: u64, among: impl Fn(&Hazard) -> bool) -> u64 {
     let mut among = (0..).zip(&job.hazards).filter(|(_, hazard)| among(hazard));
     let found = among.nth(counted.min(1_000) as usize);
     found.map_or(u64::MAX, |(index, _)| index)
@@ -889,7 +892,7 @@ fn of_unreached(bytes: &[u8], index: u64, sheet: (u64, u64)) -> Option<Corners> 
 }
 
 /// The first hazard whose envelope leaves the road.
-fn first_off_road(job: &Job) -> Option<u64> {
+pub fn first_off_road(job: &Job) -> Option<u64> {
     let off_road = |hazard: &Hazard| {
         let envelope = envelope::envelope(job, 0, hazard);
         matches!(envelope, Ok(Some(envelope)) if envelope.overhang != Overhang::default())

@@ -93,12 +93,16 @@ const SLIPS: &[Slip] = &[
         "overhangs of the last hazard that has one",
         "open job: overhangs of the last hazard that has one",
         |job, side| {
-            let mut last = Overhang::default();
-            for Envelope { overhang, .. } in of_side(job, side) {
-                last.before = [overhang.before, last.before][usize::from(overhang.before == 0)];
-                last.after = [overhang.after, last.after][usize::from(overhang.after == 0)];
+            let list = of_side(job, side);
+            let overhangs = list.iter().rev().map(|envelope| envelope.overhang);
+            let last = |end: fn(Overhang) -> u64| {
+                let mut of_end = overhangs.clone().map(end);
+                of_end.find(|overhang| *overhang > 0).unwrap_or(0)
+            };
+            Overhang {
+                before: last(|overhang| overhang.before),
+                after: last(|overhang| overhang.after),
             }
-            last
         },
     ),
     (

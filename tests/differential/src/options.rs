@@ -15,6 +15,7 @@ one case alone, bytes in hex, no bytes as -:
   --plan JOB SIDE OUTPUT_LENGTH FILL
   --level JOB SIDE STATION
   --corners JOB HAZARD SHEET_STATION SHEET_OFFSET
+  --offset JOB HAZARD LONGEST
   --quantity SCHEDULE LEVEL P Q
   --quantities SCHEDULE LEVEL P,Q,P,Q (no ranges as -)
   --lookup RIGHT LEFT SIDE STATION
@@ -87,7 +88,7 @@ fn number(text: Option<&str>) -> Option<u64> {
 fn values(option: &str) -> Option<usize> {
     match option {
         "--plan" | "--corners" | "--quantity" | "--lookup" | "--schedule" => Some(4),
-        "--level" | "--quantities" | "--add" => Some(3),
+        "--level" | "--offset" | "--quantities" | "--add" => Some(3),
         "--open" | "--withdraw" | "--keep" | "--return" => Some(2),
         _ => None,
     }
@@ -118,6 +119,11 @@ fn read_case(option: &str, values: &[&str]) -> Option<Case> {
             hazard: value(1)?,
             sheet_station: value(2)?,
             sheet_offset: value(3)?,
+        },
+        "--offset" => Case::Offset {
+            job: bytes(0)?,
+            hazard: value(1)?,
+            longest: value(2)?,
         },
         "--quantity" => Case::Quantity {
             schedule: bytes(0)?,

@@ -4,7 +4,7 @@
 use std::mem::{offset_of, size_of};
 use std::ops::Range;
 
-use cases::{Calls, Contract, CornersReply, Memory, PlanReply, Record, Reply};
+use cases::{Calls, Contract, CornersReply, Memory, OffsetReply, PlanReply, Record, Reply};
 use reference::Corner;
 use reference::job::Hazard;
 use reference::memory::BYTES;
@@ -40,6 +40,13 @@ struct CCornersReply {
     hazard: CCorner,
 }
 
+#[repr(C)]
+struct COffsetReply {
+    number: u64,
+    value: u64,
+    found: u64,
+}
+
 unsafe extern "C" {
     fn barrier_plan(
         job: *const u8,
@@ -62,6 +69,7 @@ unsafe extern "C" {
         sheet_station: u64,
         sheet_offset: u64,
     ) -> CCornersReply;
+    fn barrier_offset(job: *const u8, job_len: usize, hazard: u64, longest: u64) -> COffsetReply;
     fn barrier_keep(job: *mut c::OpenJob, state: u64) -> c::Reply;
     fn barrier_return(job: *mut c::OpenJob, state: u64) -> c::Reply;
 }
@@ -91,6 +99,16 @@ impl From<CCornersReply> for CornersReply {
             number: reply.number,
             value: reply.value,
             corners: corners.map(|CCorner { station, offset }| Corner { station, offset }),
+        }
+    }
+}
+
+impl From<COffsetReply> for OffsetReply {
+    fn from(reply: COffsetReply) -> OffsetReply {
+        OffsetReply {
+            number: reply.number,
+            value: reply.value,
+            found: reply.found,
         }
     }
 }
@@ -191,6 +209,11 @@ pub fn corners(job: &[u8], hazard: u64, sheet_station: u64, sheet_offset: u64) -
     unsafe { barrier_corners(job, job_len, hazard, sheet_station, sheet_offset).into() }
 }
 
+pub fn offset(job: &[u8], hazard: u64, longest: u64) -> OffsetReply {
+    // SAFETY: the pointer is good for as many bytes as are named with it.
+    unsafe { barrier_offset(job.as_ptr(), job.len(), hazard, longest).into() }
+}
+
 pub fn quantity(schedule: &[u8], level: u64, p: u64, q: u64) -> Reply {
     // SAFETY: the pointer is good for as many bytes as are named with it.
     unsafe { c::barrier_quantity(schedule.as_ptr(), schedule.len(), level, p, q).into() }
@@ -235,6 +258,11 @@ pub fn calls() -> Calls {
             let (job, job_len) = (job.as_mut_ptr(), job.len());
             // SAFETY: as in `corners`.
             unsafe { barrier_corners(job, job_len, hazard, sheet_station, sheet_offset).into() }
+        }),
+        offset: Box::new(|job, hazard, longest| {
+            let job_len = job.len();
+            // SAFETY: as in `offset`.
+            unsafe { barrier_offset(job.as_mut_ptr(), job_len, hazard, longest).into() }
         }),
         quantity: Box::new(|schedule, level, p, q| {
             let schedule_len = schedule.len();
@@ -310,6 +338,9 @@ pub fn shipped_calls() -> Calls {
         corners: Box::new(|job, hazard, station, offset| {
             corners_of(barrier::corners(job, hazard, station, offset))
         }),
+        offset: Box::new(|job, hazard, longest| {
+            offset_of_hazard(barrier::offset(job, hazard, longest))
+        }),
         // Open jobs go through the pointers here too.
         ..calls()
     }
@@ -372,6 +403,19 @@ fn corners_of(answer: Result<barrier::Corners, Refusal>) -> CornersReply {
             value,
             corners: [zero; 3],
         },
+    }
+}
+
+fn offset_of_hazard(answer: Result<Option<u64>, Refusal>) -> OffsetReply {
+    let (number, value, found) = match answer {
+        Ok(Some(value)) => (0, value, 1),
+        Ok(None) => (0, 0, 0),
+        Err(Refusal { number, value }) => (number, value, 0),
+    };
+    OffsetReply {
+        number,
+        value,
+        found,
     }
 }
 

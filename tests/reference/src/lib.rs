@@ -15,6 +15,7 @@ pub mod job;
 pub mod level;
 pub mod memory;
 pub mod number;
+pub mod offset;
 pub mod open;
 pub mod program;
 pub mod random;
@@ -26,6 +27,7 @@ pub use calls::{
     Lookup, Outcome, Planned, Quantities, level, lookup, plan, planned, quantities, quantity,
 };
 pub use corners::{Corner, Corners, corners};
+pub use offset::offset;
 pub use open::{OpenJob, add, keep, open, open_schedule, return_to, withdraw};
 pub use refusal::Refusal;
 pub use stretch::Stretch;

@@ -2,7 +2,7 @@
 
 use reference::draft::printed;
 use reference::random::Random;
-use reference::{corners, level, lookup, plan, program, quantities, quantity};
+use reference::{corners, level, lookup, offset, plan, program, quantities, quantity};
 
 /// Bytes among which short numbers are frequent.
 fn bytes(random: &mut Random) -> Vec<u8> {
@@ -26,6 +26,7 @@ fn any_bytes_return() {
         let _ = plan(&any, side, &mut [0; 9]);
         let _ = level(&any, side, random.draw());
         let _ = corners(&any, random.below(3), random.below(3_000_000_000), 0);
+        let _ = offset(&any, random.below(3), random.draw());
         let _ = quantity(&any, random.between(1, 6), 0, u64::MAX);
         let ranges = [random.draw(), random.draw(), 0, u64::MAX];
         let _ = quantities(&any, random.between(1, 6), &ranges[random.index(5)..]);
@@ -46,5 +47,6 @@ fn a_changed_job_returns() {
         let _ = plan(&changed, side, &mut [0; 20]);
         let _ = level(&changed, side, random.below(300_000));
         let _ = corners(&changed, random.below(2), 0, random.below(9_000));
+        let _ = offset(&changed, 0, random.below(100_000));
     }
 }

@@ -6,8 +6,8 @@ use common::*;
 use reference::job::Hazard;
 use reference::random::Random;
 use reference::{
-    OpenJob, Quantities, Refusal, add, corners, keep, level, memory, open, open_schedule, planned,
-    quantities, quantity, return_to, withdraw,
+    OpenJob, Quantities, Refusal, add, corners, keep, level, memory, offset, open, open_schedule,
+    planned, quantities, quantity, return_to, withdraw,
 };
 
 // 1: quantities for a whole contract.
@@ -1234,4 +1234,145 @@ fn refusals_of_corners() {
     // One that far traffic does not reach: adjacent traffic is enough.
     let adjacent_alone = two_way(13_340).with_hazard(N, 8_999);
     assert_eq!(corners_of(&adjacent_alone), corners_of(&printed()));
+}
+
+// 10: an offset that keeps the driveway clear.
+
+/// The smallest M for the first hazard of an accepted job.
+fn smallest(job: &Draft, longest: u64) -> Option<u64> {
+    offset(&job.bytes(), 0, longest).unwrap()
+}
+
+/// K2: 101,000 × (9,000 − M) / 9,000, and M at most 5,000 − 1,000.
+#[test]
+fn the_smallest_offset_without_flare() {
+    let k2 = printed().with(FLARE_B, 0);
+    for (longest, offset) in [
+        (u64::MAX, Some(0)),
+        ((1 << 32) + 5, Some(0)),
+        (101_001, Some(0)),
+        (101_000, Some(0)),
+        (100_999, Some(1)),
+        (100_989, Some(1)),
+        (100_988, Some(2)),
+        (67_335, Some(3_000)),
+        (67_334, Some(3_000)),
+        (67_333, Some(3_001)),
+        (56_113, Some(4_000)),
+        (56_112, Some(4_000)),
+        (56_111, None),
+        (1, None),
+        (0, None),
+    ] {
+        assert_eq!(smallest(&k2, longest), offset, "{longest}");
+    }
+    // The header's M does not count, where the job is accepted with it.
+    for header in [0, 2_999, 4_000] {
+        let job = k2.clone().with(M, header);
+        assert_eq!(smallest(&job, 67_334), Some(3_000));
+        assert_eq!(smallest(&job, 101_000), Some(0));
+    }
+}
+
+#[test]
+fn the_last_offset() {
+    // n − D below, at and above 20,000; 200,000 × (30,000 − M) / 30,000.
+    let job = |near, deflection| {
+        let job = printed().with(FLARE_B, 0).with(LF, 200_000).with(C, 30_000);
+        let job = job.with(D, deflection).with_hazard(N, near);
+        job.with_hazard(F, 60_000)
+    };
+    let at_20_000 = 66_667;
+    assert_eq!(smallest(&job(25_000, 5_000), at_20_000), Some(20_000));
+    assert_eq!(smallest(&job(25_000, 5_000), at_20_000 - 1), None);
+    assert_eq!(smallest(&job(29_999, 1), at_20_000), Some(20_000));
+    assert_eq!(smallest(&job(29_999, 1), at_20_000 - 1), None);
+    assert_eq!(smallest(&job(24_999, 5_000), at_20_000), None);
+    assert_eq!(smallest(&job(24_999, 5_000), 66_674), Some(19_999));
+    // n = D: 0 alone.
+    let only_0 = job(5_000, 5_000).with(M, 0);
+    assert_eq!(smallest(&only_0, 200_000), Some(0));
+    assert_eq!(smallest(&only_0, 199_999), None);
+}
+
+/// By every M one after the other, whatever the flare, the panels and the side.
+#[test]
+fn the_smallest_offset_is_the_smallest() {
+    let mut random = Random::new(10, "offsets");
+    let [mut found, mut none] = [0; 2];
+    for _ in 0..150 {
+        let straight = random.below(100_000);
+        let flared = two_way(straight).with(FLARE_B, random.below(3));
+        let job = flared.with_hazard(SIDE, random.below(2)).with(M, 0);
+        let job = job.in_panels(random.between(1, 10_000));
+        let at = |offset| {
+            let job = job.clone().with(M, offset);
+            let [upstream, _, hazard] = corners_of(&job);
+            (upstream.0 - hazard.0).unsigned_abs()
+        };
+        let longest = at(random.below(4_001)) - random.below(2);
+        let first = (0..=4_000).find(|offset| at(*offset) <= longest);
+        assert_eq!(smallest(&job, longest), first);
+        match first {
+            Some(_) => found += 1,
+            None => none += 1,
+        }
+    }
+    assert!(found > 50 && none > 5, "{found} {none}");
+}
+
+#[test]
+fn panels_and_the_straight_part_count() {
+    // In panels of 4,000: 44,227 at 3,000 is raised to 48,000.
+    let in_panels = printed().in_panels(4_000);
+    let at_48_000 = smallest(&in_panels, 48_000);
+    assert_eq!(at_48_000, smallest(&in_panels, 51_999));
+    assert_eq!(at_48_000, smallest(&printed(), 48_000));
+    assert!(at_48_000 < Some(3_000));
+    assert_eq!(
+        smallest(&in_panels, 47_999),
+        smallest(&printed(), 44_000),
+        "a panel less"
+    );
+    // 67,334 at 3,000 in the straight part; 72,755 by the formula with flare.
+    assert_eq!(smallest(&k1_with(80_000), 67_334), Some(3_000));
+    assert_eq!(smallest(&k1_with(67_334), 67_334), Some(3_000));
+}
+
+#[test]
+fn other_hazards_do_not_count() {
+    // The second may not stand behind an M above 3,000, and is refused there.
+    let second = [0, 300_000, 310_000, 4_000, 9_000, 3];
+    let job = printed().with(FLARE_B, 0);
+    let job = job.with_hazards(&[PRINTED_HAZARD, second]);
+    assert_eq!(offset(&job.bytes(), 0, 56_112), Ok(Some(4_000)));
+    assert_eq!(offset(&job.bytes(), 1, 67_334), Ok(Some(3_000)));
+    assert_eq!(offset(&job.bytes(), 1, 67_333), Ok(None));
+}
+
+#[test]
+fn refusals_of_the_smallest_offset() {
+    let refused = |job: &[u8], hazard| {
+        let Refusal { number, value } = offset(job, hazard, 50_000).unwrap_err();
+        (number, value)
+    };
+    let whole = printed().bytes();
+    assert_eq!(refused(&[], 9), (1, 0));
+    assert_eq!(refused(&[0x81, 0x00], 9), (2, 0));
+    assert_eq!(refused(&printed().with(C, 0).bytes(), 9), (3, 6));
+    assert_eq!(refused(&printed().with_hazard(LEVEL, 7).bytes(), 9), (4, 0));
+    let left_over = [&whole[..], &[0x00]].concat();
+    assert_eq!(refused(&left_over, 9), (7, whole.len() as u64));
+    // The job itself has to be accepted: 5 by the header's M, of any hazard.
+    assert_eq!(refused(&printed().with(M, 4_001).bytes(), 0), (5, 0));
+    let near = [1, 200_000, 210_000, 3_999, 9_000, 3];
+    let job = printed().with_hazards(&[PRINTED_HAZARD, near]).bytes();
+    for hazard in [0, 1, 2, u64::MAX] {
+        assert_eq!(refused(&job, hazard), (5, 1));
+    }
+    for hazard in [1, 2, 256, 1 << 32, u64::MAX] {
+        assert_eq!(refused(&whole, hazard), (14, 0));
+    }
+    let unreached = printed().with_hazard(N, 9_000).bytes();
+    assert_eq!(refused(&unreached, 0), (14, 0));
 }

@@ -1,0 +1,4 @@
+-- The paper's definitions.
+pub mod Offset
+-- What the code asks for on the way.
+pub mod Steps
