@@ -128,7 +128,7 @@ static int show_overhang(barrier_open_job *job)
 
 int main(void)
 {
-    static barrier_open_job job; /* 45 KiB: too much for some stacks */
+    static barrier_open_job job; /* 54 KiB: too much for some stacks */
     const int shown = show_hazards(&job) && show_variant(&job) && show_overhang(&job);
     if (fflush(stdout) != 0 || ferror(stdout)) {
         fprintf(stderr, "open_job: standard output cannot be written\n");

@@ -42,17 +42,21 @@
  * millimetre in common, and a run that begins on the boundary is in the second
  * lot alone.
  *
+ * Stations may be counted from a datum far away: a road can end at station
+ * 1000000000000, a million kilometres from it.  So a station takes 64 bits.
+ *
  * ---------------------------------------------------------------------------
  * THE NUMBER FORM
  *
  * Jobs and schedules are rows of numbers.  A number is cut into groups of
  * seven bits, lowest group first, one group a byte; the top bit is set on all
  * but the last byte.  Only the shortest form is a number: as many groups as
- * the bits of the value need, and 0 takes one.  At most five bytes, value at
- * most 4294967295.
+ * the bits of the value need, and 0 takes one.  At most six bytes, which hold
+ * values to 4398046511103.
  *
- *     0       00            128      80 01
- *     127     7F            155773   FD C0 09
+ *     0       00            155773          FD C0 09
+ *     127     7F            999000155773    FD CC B2 C8 89 1D
+ *     128     80 01         4398046511103   FF FF FF FF FF 7F
  *
  * ---------------------------------------------------------------------------
  * THE JOB
@@ -62,8 +66,9 @@
  *
  *     no.  letter  meaning                                  range
  *      1           kind                                     1 to 2
- *      2     A     road begin                               0 to 1999999999
- *      3     B     road end                                 A + 1 to 2000000000
+ *      2     A     road begin                               0 to 999999999999
+ *      3     B     road end,                                A + 1 to
+ *                  B - A at most 2000000000                 1000000000000
  *      4     LF    runout length of forward traffic,
  *                  which travels towards rising stations    1 to 200000
  *      5     LO    runout length of opposite traffic;
@@ -198,7 +203,7 @@
  *     level       1 to 6
  *
  * A side without runs has the schedule 00, one byte.  Two runs may touch
- * (distance 0) where their levels differ.  No run ends above 2000000000.
+ * (distance 0) where their levels differ.  No run ends above 1000000000000.
  * Two jobs that require the same levels on a side have equal schedules of that
  * side, byte for byte; so schedules can be compared with memcmp.  Their
  * overhangs may differ: nothing outside the road is in a schedule.
@@ -323,9 +328,8 @@
  *     number  value                     when
  *      1      byte index where the      the job's bytes end before or inside a
  *             number begins             number
- *      2      byte index where the      a number's fifth byte has the top bit
- *             number begins             set, or its value is above 4294967295,
- *                                       or it is not in shortest form
+ *      2      byte index where the      a number's sixth byte has the top bit
+ *             number begins             set, or it is not in shortest form
  *      3      header number, 1 to 14,   header number outside its range; when
  *             for kind 2 to 15          opening, also a hazard count above 0
  *             0                         the memory is not an open job
@@ -340,7 +344,8 @@
  *             byte left over
  *      8      0                         side above 1, level not 1 to 6, p > q
  *                                       in any range, a p without its q, or a
- *                                       sheet corner's number above 2000000000
+ *                                       sheet corner's number above
+ *                                       1000000000000
  *      9      bytes needed              the output is shorter than that
  *     10      0                         the bytes are not a schedule, that is,
  *                                       not the writing of a run list
@@ -379,7 +384,7 @@
  * Refusal 10 is for any fault anywhere in the schedule, also behind the record
  * that is wanted: a count above 511 or not that of the records, a number not
  * in shortest form, bytes left over, a length of 0, a level outside 1 to 6, an
- * end above 2000000000, touching runs of one level.
+ * end above 1000000000000, touching runs of one level.
  *
  * ---------------------------------------------------------------------------
  * MEMORY
@@ -412,7 +417,7 @@
  * one call at a time may open, add, withdraw, keep or return, and no other call
  * with it; calls on different open jobs do not touch each other.  One call of
  * barrier_plan, barrier_level, barrier_corners or barrier_offset takes at most
- * 24 KiB of stack, each of those on an open job at most 64 KiB, without the
+ * 36 KiB of stack, each of those on an open job at most 64 KiB, without the
  * open job itself, and each of the others less than 2 KiB.
  *
  * ---------------------------------------------------------------------------
@@ -425,14 +430,31 @@
  * nothing but block copies and fills (memcpy, memset and their kin).
  *
  * A program is compiled with the header of the archive that it links: the
- * linker does not see where they differ.  In version 1.0.0 barrier_plan and
- * barrier_open_schedule reply with a longer struct, which is handed over in
- * another way.  A program compiled with an earlier header still links, but the
- * call then takes its arguments for others and writes over the job's bytes or
- * other memory: it has to be compiled anew.  In its text, barrier_reply becomes
- * barrier_plan_reply there, and what it did for refusal 6 (the name
- * BARRIER_ENVELOPE_OFF_ROAD is gone) it does for an overhang.  The open job has
- * 5176 bytes in version 0.4.0, 5180 in 0.5.0 to 0.6.1, and 46204 from 0.7.0 on.
+ * linker does not see where they differ.  A program compiled with an earlier
+ * header still links, but it has to be compiled anew where the first number of
+ * the version has gone up since:
+ *
+ *   - In version 1.0.0 barrier_plan and barrier_open_schedule reply with a
+ *     longer struct, which is handed over in another way: the call takes its
+ *     arguments for others and writes over the job's bytes or other memory.  In
+ *     the program's text, barrier_reply becomes barrier_plan_reply there, and
+ *     what it did for refusal 6 (the name BARRIER_ENVELOPE_OFF_ROAD is gone) it
+ *     does for an overhang.
+ *   - In version 2.0.0 an open job takes more room: the calls write behind the
+ *     end of one for which an earlier header made room.  In the program's text,
+ *     what holds a station, a schedule's first distance or BARRIER_STATION_MAX
+ *     becomes a 64-bit number, and what reads or writes the number form takes
+ *     six bytes.  BARRIER_STACK_MAX is greater, 36864 after 24576: a thread's
+ *     stack that was made for the earlier one is too small.  So are buffers of
+ *     the earlier BARRIER_SCHEDULE_MAX, 5623, and BARRIER_JOB_LONGEST, 4648.
+ *     What was accepted before gets the same replies.
+ *     Of what was refused, roads, runs and sheet corners beyond 2000000000 are
+ *     taken, and a number above 4294967295 is no longer refused 2 for that, but
+ *     3 or 4 where it is too great for its field.
+ *
+ * The open job has 5176 bytes in version 0.4.0, 5180 in 0.5.0 to 0.6.1, 46204
+ * in 0.7.0 to 1.2.0, and 55544 from 2.0.0 on, where it is aligned to 8 and no
+ * longer to 4.
  */
 #ifndef BARRIER_H
 #define BARRIER_H
@@ -445,41 +467,52 @@ extern "C" {
 #endif
 
 /*
- * The version of the engine that this header belongs to.  The first number
- * goes up where a call that was there before is called or replies in another
- * way, so that programs already compiled break ("Linking"): 1.0.0 is such a
- * version.  The second goes up with each addition.
+ * The version of the engine that this header belongs to.  From 1.0.0 on the
+ * first number goes up where a call that was there before is called or replies
+ * in another way, or an open job has another size, so that programs already
+ * compiled break ("Linking"): 1.0.0 is such a version for its replies, 2.0.0
+ * for its open job.  The second goes up with each addition.
  */
-#define BARRIER_VERSION "1.2.0"
+#define BARRIER_VERSION "2.0.0"
 
 /*
  * CONSTANTS
  *
  * BARRIER_SCHEDULE_MAX bytes take the schedule of every job, so that a plan
- * into an output of this size is never refused 9: two bytes for the count and
- * at most eleven for each of 511 records.
+ * into an output of this size is never refused 9: two bytes for the count, at
+ * most twelve for the first record, which has the distance from station 0, and
+ * at most eleven for each of 510 more.
  *
  * BARRIER_JOB_MAX is how much of its input the program `barrier` passes on.
  * No accepted job is that long: by the ranges above, the header takes at most
- * 40 bytes (38 for kind 1) and each of 256 hazards at most 18.
- * BARRIER_JOB_LONGEST is that sum, 40 + 256 * 18, and there are accepted jobs
+ * 42 bytes (40 for kind 1) and each of 256 hazards at most 20.
+ * BARRIER_JOB_LONGEST is that sum, 42 + 256 * 20, and there are accepted jobs
  * of exactly this length.  The calls take jobs of any length, and refuse a
  * longer one for what is wrong with it.
+ *
+ * BARRIER_STATION_MAX is the greatest B, and so the greatest end of a run, and
+ * the greatest number of a sheet corner.  BARRIER_ROAD_MAX is the greatest
+ * B - A, the longest road.  Both are 64-bit numbers.
+ *
+ * BARRIER_RUNS_MAX is the greatest run count of a schedule, BARRIER_RANGES_MAX
+ * how many ranges barrier_quantities takes, and BARRIER_STATES how many states
+ * an open job keeps, under 0 to BARRIER_STATES - 1.
  *
  * BARRIER_OPEN_STACK_MAX bytes of stack suffice for each call on an open job,
  * BARRIER_STACK_MAX for each of the others.  This is measured of the archive,
  * as part of its test, and not proved.
  */
-#define BARRIER_SCHEDULE_MAX 5623
+#define BARRIER_SCHEDULE_MAX 5624
 #define BARRIER_JOB_MAX 8192
-#define BARRIER_JOB_LONGEST 4648
+#define BARRIER_JOB_LONGEST 5162
 #define BARRIER_HAZARDS_MAX 256
 #define BARRIER_NAME_MAX 255
 #define BARRIER_STATES 8
 #define BARRIER_RUNS_MAX 511
 #define BARRIER_RANGES_MAX 64
-#define BARRIER_STATION_MAX 2000000000
-#define BARRIER_STACK_MAX 24576
+#define BARRIER_STATION_MAX UINT64_C(1000000000000)
+#define BARRIER_ROAD_MAX UINT64_C(2000000000)
+#define BARRIER_STACK_MAX 36864
 #define BARRIER_OPEN_STACK_MAX 65536
 
 /* The sides of the road.  Forward traffic runs beside the right one. */
@@ -606,8 +639,8 @@ typedef struct {
  * the bytes needed, since no schedule is empty.  That reply has overhang 0
  * whatever hangs over: take the overhangs from the call that is done.
  *
- * A job that versions before 1.0.0 accepted gets the same bytes, and overhang 0
- * at both ends.
+ * A job that any version from 0.3.0 on accepted gets the same bytes, and
+ * overhang 0 at both ends if that version was before 1.0.0.
  */
 barrier_plan_reply barrier_plan(const uint8_t *job, size_t job_len, uint64_t side,
                                 uint8_t *out, size_t out_len);
@@ -804,10 +837,10 @@ typedef struct {
  * that room can be made for them, and may be others in a later version.
  */
 typedef struct {
-    uint32_t start;
-    uint32_t end;
-    uint32_t near_offset;
-    uint32_t far_offset;
+    uint64_t start;
+    uint64_t end;
+    uint16_t near_offset;
+    uint16_t far_offset;
     uint16_t name;
     uint8_t side;
     uint8_t level;
@@ -818,34 +851,34 @@ typedef struct {
  * kept, `used` is 1 and the rest as in an open job; where none is, all is 0.
  */
 typedef struct {
-    uint32_t used;
-    uint32_t count;
+    uint64_t used;
+    uint64_t count;
     barrier_place hazards[BARRIER_HAZARDS_MAX];
 } barrier_kept;
 
 /*
- * An open job: 46204 bytes, aligned to 4, without padding.  Its fields are the
+ * An open job: 55544 bytes, aligned to 8, without padding.  Its fields are the
  * engine's, as a place's are: the header's numbers in the order of kind 2,
  * panel length 1 for kind 1; then 256 places, where the hazards stand in the
  * first `count`, in rising order of their names, and every other place is 0;
  * then what is kept, by state number.
  */
 typedef struct {
-    uint32_t kind;
-    uint32_t begin;
-    uint32_t end;
-    uint32_t forward;
-    uint32_t opposite;
-    uint32_t zone;
-    uint32_t way;
-    uint32_t offset;
-    uint32_t deflection;
-    uint32_t along;
-    uint32_t across;
-    uint32_t straight;
-    uint32_t continuity;
-    uint32_t panel;
-    uint32_t count;
+    uint64_t kind;
+    uint64_t begin;
+    uint64_t end;
+    uint64_t forward;
+    uint64_t opposite;
+    uint64_t zone;
+    uint64_t way;
+    uint64_t offset;
+    uint64_t deflection;
+    uint64_t along;
+    uint64_t across;
+    uint64_t straight;
+    uint64_t continuity;
+    uint64_t panel;
+    uint64_t count;
     barrier_place hazards[BARRIER_HAZARDS_MAX];
     barrier_kept kept[BARRIER_STATES];
 } barrier_open_job;

@@ -73,8 +73,12 @@ static void printed_example(void)
                 -2059, 44227, -2059);
     corners_are("K1, farthest sheet",
                 barrier_corners(job, job_len, 0, BARRIER_STATION_MAX, BARRIER_STATION_MAX),
-                -1999844227.0, -1999994941.0, -1999813340.0, -1999997000.0, -1999800000.0,
-                -1999997000.0);
+                -999999844227.0, -999999994941.0, -999999813340.0, -999999997000.0,
+                -999999800000.0, -999999997000.0);
+    /* Cut down to 32 bits the sheet's numbers would be 0. */
+    corners_are("K1, sheet in 33 bits",
+                barrier_corners(job, job_len, 0, 4294967296u, 4294967296u), -4294811523.0,
+                -4294962237.0, -4294780636.0, -4294964296.0, -4294767296.0, -4294964296.0);
     refused("no second hazard", barrier_corners(job, job_len, 1, 0, 0), BARRIER_NO_APPROACH, 0);
     /* Cut down to fewer bits these would be 0. */
     refused("hazard 256", barrier_corners(job, job_len, 256, 0, 0), BARRIER_NO_APPROACH, 0);
@@ -82,14 +86,31 @@ static void printed_example(void)
             BARRIER_NO_APPROACH, 0);
     refused("hazard in 64 bits", barrier_corners(job, job_len, UINT64_MAX, 0, 0),
             BARRIER_NO_APPROACH, 0);
-    refused("sheet station out of range", barrier_corners(job, job_len, 0, 2000000001, 0),
-            BARRIER_ARGUMENT, 0);
-    refused("sheet offset out of range", barrier_corners(job, job_len, 0, 0, 2000000001),
-            BARRIER_ARGUMENT, 0);
-    refused("sheet in 33 bits", barrier_corners(job, job_len, 0, 4294967296u, 4294967296u),
-            BARRIER_ARGUMENT, 0);
+    refused("sheet station out of range",
+            barrier_corners(job, job_len, 0, BARRIER_STATION_MAX + 1, 0), BARRIER_ARGUMENT, 0);
+    refused("sheet offset out of range",
+            barrier_corners(job, job_len, 0, 0, BARRIER_STATION_MAX + 1), BARRIER_ARGUMENT, 0);
     refused("sheet out of range, no hazard", barrier_corners(job, job_len, 1, UINT64_MAX, 0),
             BARRIER_ARGUMENT, 0);
+}
+
+/* The sample job `chainage`: the same, 999,000 km farther on. */
+static void far_away(void)
+{
+    const uint64_t begin = UINT64_C(999000000000);
+    const uint64_t numbers[20] = {
+        1, begin, begin + 1000000, 101000, 0, 9000, 0, 3000, 1000, 15, 1, 13340, 0, 1,
+        0, begin + 200000, begin + 210000, 5000, 9000, 3};
+
+    write_job(numbers, 20);
+    corners_are("far away", barrier_corners(job, job_len, 0, 0, 0), 999000155773.0, 5059,
+                999000186660.0, 3000, 999000200000.0, 3000);
+    corners_are("far away, sheet by the road", barrier_corners(job, job_len, 0, begin, 0), 155773,
+                5059, 186660, 3000, 200000, 3000);
+    corners_are("far away, farthest sheet",
+                barrier_corners(job, job_len, 0, BARRIER_STATION_MAX, BARRIER_STATION_MAX),
+                -999844227.0, -999999994941.0, -999813340.0, -999999997000.0, -999800000.0,
+                -999999997000.0);
 }
 
 /* The sample job `corners`: panels, both sides, a barrier that does not bend. */
@@ -130,22 +151,24 @@ static void one_way_left(void)
     refused("too near", barrier_corners(job, job_len, 0, 0, 0), BARRIER_HAZARD_NEAR, 0);
     refused("too near, no such hazard", barrier_corners(job, job_len, 5, 0, 0), BARRIER_HAZARD_NEAR,
             0);
-    refused("too near, sheet out of range", barrier_corners(job, job_len, 0, 0, 2000000001),
-            BARRIER_ARGUMENT, 0);
+    refused("too near, sheet out of range",
+            barrier_corners(job, job_len, 0, 0, BARRIER_STATION_MAX + 1), BARRIER_ARGUMENT, 0);
     job[job_len++] = 0;
     refused("a byte left over", barrier_corners(job, job_len, 5, 0, 0), BARRIER_JOB_LEFT_OVER,
             job_len - 1);
 }
 
-/* The greatest road, runout length and panels, on the left: upstream is higher. */
+/* The greatest station, runout length and panels, on the left: upstream is higher. */
 static void farthest(void)
 {
-    uint64_t numbers[21] = {2, 0,    2000000000, 200000, 200000,     30000,      0, 0,     1, 1, 0, 0,
-                            0, 9999, 1,          1,      1999999999, 2000000000, 1, 30000, 6};
+    const uint64_t end = BARRIER_STATION_MAX;
+    uint64_t numbers[21] = {
+        2, end - BARRIER_ROAD_MAX, end, 200000, 200000, 30000, 0, 0, 1, 1, 0, 0, 0, 9999, 1,
+        1, end - 1, end, 1, 30000, 6};
 
     write_job(numbers, 21);
-    corners_are("greatest station", barrier_corners(job, job_len, 0, 0, 0), 2000209979.0, 0,
-                2000209979.0, 0, 2000000000.0, 0);
+    corners_are("greatest station", barrier_corners(job, job_len, 0, 0, 0), 1000000209979.0, 0,
+                1000000209979.0, 0, 1000000000000.0, 0);
     /* Ten across for one along: length 2,956, raised to one panel of 9,999. */
     numbers[10] = 10;
     write_job(numbers, 21);
@@ -156,13 +179,14 @@ static void farthest(void)
 static void no_job(void)
 {
     refused("no job", barrier_corners(NULL, 0, 0, 0, 0), BARRIER_JOB_ENDED, 0);
-    refused("no job, sheet out of range", barrier_corners(NULL, 0, 0, 2000000001, 0),
+    refused("no job, sheet out of range", barrier_corners(NULL, 0, 0, BARRIER_STATION_MAX + 1, 0),
             BARRIER_ARGUMENT, 0);
 }
 
 int main(void)
 {
     printed_example();
+    far_away();
     panels();
     one_way_left();
     farthest();

@@ -1,8 +1,9 @@
 #!/bin/sh
 # The header compiles alone, as C and as C++, without a warning; in C++ each
-# enum's name is a type, which a call of the same name would hide; an open job
-# has the size that it names; and the refusals' numbers are those of the table,
-# in the calls for Rust too.
+# enum's name is a type, which a call of the same name would hide; the greatest
+# station is a number there; an open job has the size that it names, and no
+# padding; and the refusals' numbers are those of the table. The calls for Rust
+# have the same sizes and numbers.
 set -eu
 # Flags are several words: they stand unquoted.
 warnings="-Wall -Wextra -Werror -pedantic -fsyntax-only"
@@ -17,16 +18,28 @@ $CXX -std=c++98 $warnings -Iinclude -x c++ - <<'END'
 extern barrier_side side;
 extern barrier_containment level;
 extern barrier_number number;
+extern char one[BARRIER_STATION_MAX / 1000000 == 1000000 && BARRIER_ROAD_MAX == 2000000000 ? 1 : -1];
 END
 echo "header: alone as C99, C11, C++98, C++11 and C++17"
 
-size=$(sed -n 's/^ \* An open job: \([0-9]*\) bytes, aligned to 4.*/\1/p' include/barrier.h)
+size=$(sed -n 's/^ \* An open job: \([0-9]*\) bytes, aligned to 8, without padding\..*/\1/p' include/barrier.h)
 $CC -std=c99 $warnings -Iinclude -x c - <<END
 #include <barrier.h>
 struct aligned { char before; barrier_open_job job; };
-typedef char as_named[sizeof(barrier_open_job) == $size && offsetof(struct aligned, job) == 4 ? 1 : -1];
+typedef char as_named[sizeof(barrier_open_job) == $size && offsetof(struct aligned, job) == 8 ? 1 : -1];
 END
-echo "header: an open job has $size bytes, as named"
+$CC -std=c99 $warnings -Wpadded -x c include/barrier.h
+rust_size=$(sed -n 's/.*size_of::<OpenJob>() == \([0-9_]*\).*/\1/p' examples/rust/src/barrier.rs | tr -d _)
+[ "$rust_size" = "$size" ] || {
+    echo "header: in Rust an open job has $rust_size bytes, not $size" >&2
+    exit 1
+}
+schedule=$(sed -n 's/^#define BARRIER_SCHEDULE_MAX \([0-9]*\)$/\1/p' include/barrier.h)
+grep -qx "pub const SCHEDULE_MAX: usize = $schedule;" examples/rust/src/barrier.rs || {
+    echo "header: in Rust the longest schedule has not $schedule bytes" >&2
+    exit 1
+}
+echo "header: an open job has $size bytes, as named, without padding; this and the longest schedule are the same in Rust"
 
 # NAME NUMBER of each refusal, from the enum, from Rust, and the table's rows.
 tmp=$(mktemp -d)

@@ -43,7 +43,10 @@ judged() {
     [ "$said" = "$3" ] || fail "after $1 $2 the engine says $said"
 }
 judged '' 'hazards 2' 'refused 1 34'
-judged '/^clear-zone/d' 'clear-zone 4294967296' 'refused 2 9'
+# What six bytes hold is a number, and too great for its field; more is none.
+judged '/^clear-zone/d' 'clear-zone 4294967296' 'refused 3 6'
+judged '/^clear-zone/d' 'clear-zone 4398046511103' 'refused 3 6'
+judged '/^clear-zone/d' 'clear-zone 4398046511104' 'refused 2 9'
 judged '/^clear-zone/d' 'clear-zone 18446744073709551615' 'refused 2 9'
 judged '' 'kind 0' 'refused 3 1'
 judged '' 'kind 3' 'refused 3 1'
@@ -55,6 +58,9 @@ judged '3s/.*/hazards 257/' 'panel 10000' 'refused 3 15'
 judged '3s/.*/kind 1/' 'panel 4000' 'refused 3 14'
 judged '' 'kind 2' 'refused 7 23'
 judged '/^road/d' 'road 5 5' 'refused 3 3'
+judged '/^road/d' 'road 0 2000000001' 'refused 3 3'
+judged '/^road/d' 'road 999999999999 1000000000001' 'refused 3 3'
+judged '/^road/d' 'road 1000000000000 1000000000001' 'refused 3 2'
 judged 's/^hazard right/hazard 2/' '' 'refused 4 0'
 judged 's/ 5000 / 3999 /' '' 'refused 5 0'
 judged '' 'hazards 0' 'refused 7 22'

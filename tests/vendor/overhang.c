@@ -1,7 +1,7 @@
 /*
  * Approaches that run into the neighbouring contract: the schedule, what hangs
  * over at each end of the road, and the levels there; of a job and of an open
- * job. Ends with 1 where a reply is another.
+ * job, near the datum and far from it. Ends with 1 where a reply is another.
  */
 #include "../../examples/number_form.h"
 #include <barrier.h>
@@ -160,6 +160,19 @@ static void sides_are(const char *what, planner call, const struct wanted *wante
     expect(what, untouched(out));
 }
 
+/* Only the first run's distance is another: it is counted from station 0. */
+static void move_schedule(const struct wanted *wanted, uint64_t by, struct wanted *moved)
+{
+    size_t at = 1, length = 1;
+
+    *moved = *wanted;
+    if (wanted->schedule[0] == 0)
+        return;
+    length += put_number(moved->schedule + 1, get_number(wanted->schedule, &at) + by);
+    memcpy(moved->schedule + length, wanted->schedule + at, wanted->length - at);
+    moved->length = length + wanted->length - at;
+}
+
 /* The same job, and an open job to which its hazards are added. */
 static void sample_is(const char *what, const struct sample *sample, const struct wanted *wanted)
 {
@@ -176,6 +189,24 @@ static void sample_is(const char *what, const struct sample *sample, const struc
     job_len = write_job(sample, sample->hazards_len, job);
     sides_are(what, plan, wanted);
     sides_are(what, schedule, wanted);
+}
+
+/* The same, with everything so much farther on. */
+static void moved_is(const char *what, struct sample sample, const struct wanted *wanted,
+                     uint64_t by)
+{
+    struct wanted moved[2];
+    size_t i;
+
+    sample.header[1] += by;
+    sample.header[2] += by;
+    for (i = 0; i < sample.hazards_len; i++) {
+        sample.hazards[i].start += by;
+        sample.hazards[i].end += by;
+    }
+    move_schedule(&wanted[BARRIER_RIGHT], by, &moved[BARRIER_RIGHT]);
+    move_schedule(&wanted[BARRIER_LEFT], by, &moved[BARRIER_LEFT]);
+    sample_is(what, &sample, moved);
 }
 
 /* The last sample's level at a station, and what lookup says of its schedule. */
@@ -256,6 +287,9 @@ static void refused_all_the_same(void)
 int main(void)
 {
     sample_is("K8's second job", &k8, k8_wanted);
+    moved_is("K8's second job, far away", k8, k8_wanted, UINT64_C(999000000000));
+    /* What hangs over behind lies beyond the greatest station. */
+    moved_is("both ends, far away", both_ends, both_ends_wanted, BARRIER_STATION_MAX - 400000);
     sample_is("both ends", &both_ends, both_ends_wanted);
     levels();
     withdrawals();

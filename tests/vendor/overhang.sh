@@ -6,4 +6,4 @@ tmp=$(mktemp -d)
 trap 'rm -rf "$tmp"' EXIT
 $CC -std=c99 -O2 -Wall -Wextra -Werror -pedantic -Iinclude tests/vendor/overhang.c -L"$LIBDIR" -lbarrier_engine -o "$tmp/overhang"
 "$tmp/overhang"
-echo "overhang: K8's second job and one over both ends of its road, planned and open, replies and outputs as stated"
+echo "overhang: K8's second job and one over both ends of its road, planned and open, near and far away, replies and outputs as stated"

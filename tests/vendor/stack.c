@@ -20,6 +20,9 @@
 
 enum { PAINT = 0xA5 };
 
+/* The jobs have the longest road, which ends at the greatest station. */
+#define ROAD_BEGIN (BARRIER_STATION_MAX - BARRIER_ROAD_MAX)
+
 /* More than any call may take, so that too much shows. */
 static unsigned char stack[2 * BARRIER_OPEN_STACK_MAX];
 static ucontext_t here, there;
@@ -57,7 +60,8 @@ static void plan_exactly(void)
 
 static void level(void)
 {
-    level_found = barrier_level(job, job_length, BARRIER_RIGHT, BARRIER_STATION_MAX / 2);
+    level_found =
+        barrier_level(job, job_length, BARRIER_RIGHT, ROAD_BEGIN + BARRIER_ROAD_MAX / 2);
 }
 
 static void corners(void)
@@ -195,7 +199,7 @@ int main(void)
     int well, all_done, i;
 
     for (i = 0; i < 128; i++)
-        ranges[i] = BARRIER_STATION_MAX / 127 * (uint64_t)i;
+        ranges[i] = ROAD_BEGIN + BARRIER_ROAD_MAX / 127 * (uint64_t)i;
     job_length = fread(job, 1, sizeof job, stdin);
     plan(); /* so that the loader's own work is done before it counts */
     if (!done("plan", planned.number))

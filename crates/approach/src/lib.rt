@@ -35,8 +35,15 @@ fn flare_across(along: u64, across: u64, straight: u64, runout: u64, reach: u64,
     }
 }
 
-// The formula, with flare or without.
-fn whole_length(along: u64, across: u64, straight: u64, runout: u64, reach: u64, offset: u64) -> u64
+// The approach length before it is raised to panels: the formula, with flare or without.
+pub fn domain_length(
+    along: u64,
+    across: u64,
+    straight: u64,
+    runout: u64,
+    reach: u64,
+    offset: u64,
+) -> u64
     requires { ⌜ Domain along across straight runout reach offset ⌝ }
     ensures { λ r. ⌜ r ≡ approachLength along across straight runout reach offset ⌝ }
 {
@@ -44,31 +51,8 @@ fn whole_length(along: u64, across: u64, straight: u64, runout: u64, reach: u64,
     formula_length(along, flare, straight, runout, reach, offset)
 }
 
-// The same in 32 bits: the approach length before it is raised to panels.
-pub fn domain_length(
-    along: u32,
-    across: u32,
-    straight: u32,
-    runout: u32,
-    reach: u32,
-    offset: u32,
-) -> u32
-    requires { ⌜ Domain along across straight runout reach offset ⌝ }
-    ensures { λ r. ⌜ r ≡ approachLength along across straight runout reach offset ⌝ }
-{
-    let length = whole_length(
-        along as u64,
-        across as u64,
-        straight as u64,
-        runout as u64,
-        reach as u64,
-        offset as u64,
-    );
-    length as u32
-}
-
 // A length raised to whole panels. Panel length 1, that of every kind 1 job, spares the division.
-fn raised_to(panel: u32, length: u32) -> u32
+fn raised_to(panel: u64, length: u64) -> u64
     requires { ⌜ 1 ≤ panel ⌝ }
     requires { ⌜ panel ≤ 10000 ⌝ }
     requires { ⌜ length ≤ 200000 ⌝ }
@@ -83,14 +67,14 @@ fn raised_to(panel: u32, length: u32) -> u32
 // The approach length in whole panels. Flare `across` for `along` (b for a) after a straight part T; runout length L, hazard reach R and
 // barrier offset m.
 pub fn raised_length(
-    panel: u32,
-    along: u32,
-    across: u32,
-    straight: u32,
-    runout: u32,
-    reach: u32,
-    offset: u32,
-) -> u32
+    panel: u64,
+    along: u64,
+    across: u64,
+    straight: u64,
+    runout: u64,
+    reach: u64,
+    offset: u64,
+) -> u64
     requires { ⌜ 1 ≤ panel ⌝ }
     requires { ⌜ panel ≤ 10000 ⌝ }
     requires { ⌜ Domain along across straight runout reach offset ⌝ }

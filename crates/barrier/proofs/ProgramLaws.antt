@@ -22,7 +22,7 @@ use Rattle.planning.specs.Required.{jobRuns}
 use Rattle.planning.proofs.EnvelopeLaws.{accepted-fits, domain-of}
 use Rattle.planning.proofs.FormulaLaws.{formula-level}
 use Rattle.planning.proofs.JobRunLaws.{job-runs}
-use Rattle.report.specs.Text.{rightWord, leftWord, runLine, runLines, totalLine, covered, runsReport, reported}
+use Rattle.report.specs.Text.{rightWord, leftWord, runLine, runLines, totalLine, covered, runsReport, reportedBy, reported}
 use Rattle.report.proofs.LineLaws.{lines-append}
 
 -- The word that a side's lines begin with.
@@ -47,7 +47,7 @@ lines-split word rs before r after e = ap (runLines word) e ∙ lines-append wor
 -- A run that a side's runs show at t is printed.
 module _ (s : List ℕ) (j : Job) (a : acceptJob s ≡ accepted j) (v t : ℕ) where
   right-printed : (w : ShownRun (jobRuns j 0) t) → v ≤ w .run .level → PrintedRun s rightWord v t
-  unfolding runsReport reported
+  unfolding runsReport reportedBy
   right-printed w h =
       let A = runLines rightWord (w .before) in
       let B = runLines rightWord (w .after) in
@@ -67,7 +67,7 @@ module _ (s : List ℕ) (j : Job) (a : acceptJob s ≡ accepted j) (v t : ℕ) w
       }
 
   left-printed : (w : ShownRun (jobRuns j 1) t) → v ≤ w .run .level → PrintedRun s leftWord v t
-  unfolding runsReport reported
+  unfolding runsReport reportedBy
   left-printed w h =
       let A = runLines leftWord (w .before) in
       let B = runLines leftWord (w .after) in

@@ -19,12 +19,12 @@ fn stored_offset(job: StoredJob, hazard: u64, longest: u64) -> Offset
     ensures { λ r. ⌜ offsetReply r ≡ jobOffset (jobOf job) hazard longest ⌝ }
 {
     let header = job.header;
-    if header.count as u64 <= hazard {
+    if header.count <= hazard {
         return Offset::Refused(Refusal::Hazard);
     }
     let index = hazard as usize;
     let asked = unnamed(job.hazards[index]);
-    if header.zone <= asked.near {
+    if header.zone <= asked.near as u64 {
         return Offset::Refused(Refusal::Hazard);
     }
     smallest_of(header, asked, longest)

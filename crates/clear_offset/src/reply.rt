@@ -3,7 +3,7 @@ use refusal::Refusal;
 
 pub enum Offset {
     // The smallest barrier offset, in millimetres.
-    Smallest(u32),
+    Smallest(u64),
     // Every offset that leaves the deflection free has a longer approach.
     Nothing,
     Refused(Refusal),

@@ -13,7 +13,7 @@ ghost use Rattle.clear_offset.specs.Offset.{lengthAt, hazardOffset, offs
 ghost use Rattle.clear_offset.specs.Steps.{Clear};
 
 // The adjacent approach length, the barrier at an offset that leaves the deflection free.
-fn length_at(header: Header, hazard: Hazard, offset: u32) -> u32
+fn length_at(header: Header, hazard: Hazard, offset: u64) -> u64
     requires { ⌜ Clear header hazard ⌝ }
     requires { ⌜ offset + header .deflection ≤ hazard .near ⌝ }
     ensures { λ r. ⌜ r ≡ lengthAt header hazard offset ⌝ }
@@ -38,15 +38,15 @@ pub fn smallest_of(header: Header, hazard: Hazard, longest: u64) -> Offset
     requires { ⌜ Clear header hazard ⌝ }
     ensures { λ r. ⌜ offsetReply r ≡ accepted (hazardOffset header hazard longest) ⌝ }
 {
-    let end = lesser(hazard.near - header.deflection, 20000) + 1;
-    let mut low: u32 = 0;
+    let end = lesser(hazard.near as u64 - header.deflection, 20000) + 1;
+    let mut low: u64 = 0;
     let mut high = end;
-    let mut lengths: u32 = 15;
+    let mut lengths: u64 = 15;
     while low < high {
         let middle = low + (high - low) / 2;
         let length = length_at(header, hazard, middle);
         lengths -= 1;
-        if length as u64 <= longest {
+        if length <= longest {
             high = middle;
         } else {
             low = middle + 1;

@@ -3,6 +3,7 @@
 use Prim.Native.Nat.{ℕ, _≤_, _<_}
 use mathlib.Core.Path.{_≡_}
 use Rattle.refusal.specs.Answer.{Answer, accepted, _>>=_}
+use Rattle.refusal.specs.Limits.{limits}
 use Rattle.job.specs.declared.Header.{Header}
 use Rattle.job.specs.declared.Hazard.{Hazard}
 use Rattle.job.specs.Job.{Job}
@@ -24,6 +25,12 @@ jobCorners x y j i = approachedHazard j i >>= λ z. accepted (hazardCorners x y 
 pub record OnSheet (sheet : Sheet) : Type 0 where
   pub station : sheet .station ≤ sheetTop
   pub offset : sheet .offset ≤ sheetTop
+
+-- A hazard and a distance upstream of it whose numbers are far below 2 ^ 53, so that floats have them exactly.
+pub record StationFits (z : Hazard) (distance : ℕ) : Type 0 where
+  pub start : z .start ≤ limits .lastStation
+  pub end : z .end ≤ limits .lastStation
+  pub near : distance ≤ 210000
 
 -- The lengths of a traffic's approach.
 pub record LengthsOf (h : Header) (z : Hazard) (t : Traffic) (l : Lengths) : Type 0 where

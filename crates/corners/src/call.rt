@@ -55,12 +55,12 @@ fn job_corners(job: StoredJob, index: u64, sheet: Sheet) -> Corners
     ensures { λ r. ⌜ Replies r (jobCorners (sheet .station) (sheet .offset) (jobOf job) index) ⌝ }
 {
     let header = job.header;
-    if header.count as u64 <= index {
+    if header.count <= index {
         return refused(Refusal::Hazard);
     }
     let place = index as usize;
     let hazard = unnamed(job.hazards[place]);
-    if header.zone <= hazard.near {
+    if header.zone <= hazard.near as u64 {
         return refused(Refusal::Hazard);
     }
     hazard_corners(header, hazard, sheet)
@@ -70,7 +70,7 @@ fn job_corners(job: StoredJob, index: u64, sheet: Sheet) -> Corners
 pub fn corners(job: &[u8], hazard: u64, sheet_station: u64, sheet_offset: u64) -> Corners
     ensures { λ r. ⌜ Replies r (cornersOf (now (job .entry)) hazard «sheet_station» «sheet_offset») ⌝ }
 {
-    if (2000000000 < sheet_station) | (2000000000 < sheet_offset) {
+    if (1000000000000 < sheet_station) | (1000000000000 < sheet_offset) {
         return refused(Refusal::Argument);
     }
     let accepted = accept_job(job);

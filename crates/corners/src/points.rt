@@ -17,7 +17,7 @@ ghost use Rattle.planning.specs.Envelope.{adjacent, reaches};
 ghost use Rattle.planning.specs.Reply.{trafficOf};
 ghost use Rattle.corners.specs.Corners.{upstreamBy, pointAt, approachPoints};
 ghost use Rattle.corners.specs.Reply.{CornerIs, Replies};
-ghost use Rattle.corners.specs.Steps.{OnSheet, LengthsOf};
+ghost use Rattle.corners.specs.Steps.{OnSheet, StationFits, LengthsOf};
 
 // The sheet corner.
 pub struct Sheet {
@@ -27,8 +27,8 @@ pub struct Sheet {
 
 // The lengths of an approach: before it is raised to panels, and raised.
 pub struct Lengths {
-    pub before: u32,
-    pub raised: u32,
+    pub before: u64,
+    pub raised: u64,
 }
 
 // The lengths of the approach of adjacent traffic that reaches the hazard.
@@ -63,7 +63,8 @@ pub fn approach_lengths(header: Header, hazard: Hazard, traffic: Traffic) -> Len
 }
 
 // A station so far upstream of the hazard's end on the traffic's side; it may be negative.
-fn station_upstream(traffic: Traffic, hazard: Hazard, distance: u32) -> f64
+fn station_upstream(traffic: Traffic, hazard: Hazard, distance: u64) -> f64
+    requires { ⌜ StationFits hazard distance ⌝ }
     ensures { λ r. ⌜ Whole r (upstreamBy (trafficOf traffic) hazard distance) ⌝ }
 {
     match traffic {
@@ -73,7 +74,9 @@ fn station_upstream(traffic: Traffic, hazard: Hazard, distance: u32) -> f64
 }
 
 // The corner there, from the sheet corner.
-fn corner_at(traffic: Traffic, hazard: Hazard, distance: u32, offset: u32, sheet: Sheet) -> Corner
+fn corner_at(traffic: Traffic, hazard: Hazard, distance: u64, offset: u64, sheet: Sheet) -> Corner
+    requires { ⌜ StationFits hazard distance ⌝ }
+    requires { ⌜ offset ≤ 2120000 ⌝ }
     requires { ⌜ OnSheet sheet ⌝ }
     ensures { λ r. ⌜ CornerIs r (pointAt (sheet .station) (sheet .offset) (upstreamBy (trafficOf traffic) hazard distance) offset) ⌝ }
 {
@@ -93,6 +96,7 @@ pub fn approach_corners(
     sheet: Sheet,
 ) -> Corners
     requires { ⌜ HeaderFits header ⌝ }
+    requires { ⌜ HazardFits header hazard ⌝ }
     requires { ⌜ LengthsOf header hazard (trafficOf traffic) lengths ⌝ }
     requires { ⌜ OnSheet sheet ⌝ }
     ensures { λ r. ⌜ Replies r (accepted (approachPoints (sheet .station) (sheet .offset) header hazard (trafficOf traffic))) ⌝ }

@@ -10,7 +10,7 @@ use Rattle.refusal.specs.Answer.{Answer, accepted, refused, _>>=_, unless-refus
 use Rattle.refusal.proofs.AnswerLaws.{bound}
 use Rattle.job.specs.Job.{Job, readJob}
 use Rattle.planning.specs.declared.Overhangs.{Overhangs}
-use Rattle.planning.specs.Envelope.{lengthening, noOverhang, sideOverhangs, testHazards, acceptJob}
+use Rattle.planning.specs.Envelope.{lengthening, noOverhang, sideOverhangs, testHazards, acceptJobBy, acceptJob}
 use Rattle.planning.specs.Required.{jobRuns}
 use Rattle.planning.specs.Before.{Lengthening, testHazardsBefore, acceptBefore, envelopesBefore, StaysOnRoad, readJobBefore, lengtheningBefore}
 use Rattle.planning.proofs.RoadLaws.{stays-uncut, stays-no-overhang}
@@ -18,7 +18,7 @@ use Rattle.planning.proofs.BeforeLaws.{panel-one, envelopes-alike, accept-alike
 use Rattle.runs.specs.declared.Stretch.{Stretch}
 use Rattle.runs.specs.Required.{requiredRuns}
 use Rattle.schedule.specs.Schedule.{writeSchedule}
-use Rattle.schedule.specs.Plan.{PlannedSide, fitted, plan}
+use Rattle.schedule.specs.Plan.{PlannedSide, fitted, planBy, plan}
 use Rattle.demands.specs.Before.{planBefore, AsBefore, Plan-before-8, Plan-before-4}
 
 module _ (side room : ℕ) where
@@ -37,7 +37,7 @@ module _ (side room : ℕ) where
       ∙ ap (λ (o : Overhangs). fitted (writeSchedule (requiredRuns (envelopesBefore lengthening (j .header) side (j .hazards)) (j .header .continuity))) o room) (stays-no-overhang j side s)
 
 pub plan-before-8 : Plan-before-8
-unfolding plan planBefore acceptJob acceptBefore
+unfolding planBy planBefore acceptJobBy acceptBefore
 plan-before-8 s side room = sided (leb side 1)
   where
     tested : (j : Job) → Tested (j .header) 0 (j .hazards)

@@ -20,7 +20,7 @@ use Rattle.planning.specs.Required.{jobLevel, jobRuns}
 use Rattle.planning.proofs.RoadLaws.{level-off-road}
 use Rattle.planning.proofs.EnvelopeLaws.{accepted-fits}
 use Rattle.planning.proofs.JobRunLaws.{job-run-list}
-use Rattle.schedule.specs.Schedule.{writeRecord}
+use Rattle.schedule.specs.Schedule.{writeRecordBy, writeRecord}
 use Rattle.schedule.specs.Plan.{plan}
 use Rattle.schedule.proofs.PlanLaws.{plan-bad-side}
 use Rattle.station_level.specs.Level.{levelAt}
@@ -33,7 +33,7 @@ use Rattle.demands.proofs.RefusalLaws.{OneToSeven, accept-refusals, Pla
 
 -- The level in a run's record is the run's.
 record-level : (e v : ℕ) (r : Stretch) → Next e v r → recordLevel (writeRecord e r) ≡ accepted (r .level)
-unfolding recordLevel writeRecord
+unfolding recordLevel writeRecordBy
 record-level e v r n =
     rw (read-number w 0 gap (writeNumber len ++ writeNumber (r .level)) (omega (arith, n .long, n .ends)) refl)
     (rw (read-number w at2 len (writeNumber (r .level)) (omega (arith, n .ends)) q2)

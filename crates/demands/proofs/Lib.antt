@@ -7,6 +7,7 @@ pub mod LotLaws
 pub mod RefusalLaws
 pub mod CaseLaws
 pub mod BeforeLaws
+pub mod LimitLaws
 pub mod LevelLaws
 pub mod CornerLaws
 pub mod OffsetLaws

@@ -16,9 +16,9 @@ use Rattle.number.specs.Number.{numberAt, writeNumber}
 use Rattle.number.proofs.NumberLaws.{Bytes}
 use Rattle.runs.specs.declared.Stretch.{Stretch}
 use Rattle.runs.specs.RunList.{mostRuns, isRunList, shownLevel}
-use Rattle.schedule.specs.Schedule.{writeSchedule, IsSchedule, readRecords, orTen, readSchedule}
-use Rattle.queries.specs.Quantity.{millimetres, quantity}
-use Rattle.queries.specs.Lookup.{asked, lookup, Found, findRecord, placeIn}
+use Rattle.schedule.specs.Schedule.{writeSchedule, IsSchedule, readRecords, orTen, readScheduleBy, readSchedule}
+use Rattle.queries.specs.Quantity.{millimetres, quantityBy, quantity}
+use Rattle.queries.specs.Lookup.{asked, lookupBy, lookup, Found, findRecord, placeInBy}
 use Rattle.schedule.proofs.ScheduleLaws.{read-schedule, schedule-read}
 use Rattle.queries.proofs.QuantityLaws.{Ranged, ranged}
 use Rattle.demands.proofs.DemandLaws.{millimetres-add}
@@ -35,7 +35,7 @@ or-ten-refused (accepted a) k v e = let z : _≡_ {A = ℕ} 0 1 = cc in absurd (
 or-ten-refused (refused x y) k v e = refl
 
 refused-ten : (s : List ℕ) (k v : ℕ) → readSchedule s ≡ refused k v → readSchedule s ≡ refused 10 0
-unfolding readSchedule
+unfolding readScheduleBy
 refused-ten s k v e =
     or-ten-refused (
     numberAt s 0 >>= λ n.
@@ -92,7 +92,7 @@ pub record Counts (s : List ℕ) (v p q n : ℕ) : Type 0 where
   pub count : millimetres (shownLevel runs) v p q ≡ n
 
 pub quantity-counts : (s : List ℕ) (v p q n : ℕ) → (quantity s v p q ≡ accepted n) ↔ Counts s v p q n
-unfolding quantity
+unfolding quantityBy
 quantity-counts s v p q n = (to, from)
   where
     to : quantity s v p q ≡ accepted n → Counts s v p q n
@@ -123,7 +123,7 @@ quantity-add s w v p r q low top a b =
 
 -- 8: "level not 1 to 6, or p > q".
 pub quantity-eight : (s : List ℕ) (v p q : ℕ) → Bytes s → (quantity s v p q ≡ refused 8 0) ↔ (Ranged v p q → ⊥)
-unfolding quantity
+unfolding quantityBy
 quantity-eight s v p q b =
     let e = query-eight (leb 1 v && leb v 6 && leb p q) s (λ rs. millimetres (shownLevel rs) v p q) b in
     let r = ranged v p q in
@@ -131,7 +131,7 @@ quantity-eight s v p q b =
 
 -- 10: the arguments are in their ranges, and the schedule isn't the writing of a run list.
 pub quantity-ten : (s : List ℕ) (v p q : ℕ) → Bytes s → (quantity s v p q ≡ refused 10 0) ↔ (Ranged v p q × (IsSchedule s → ⊥))
-unfolding quantity
+unfolding quantityBy
 quantity-ten s v p q b =
     let e = query-ten (leb 1 v && leb v 6 && leb p q) s (λ rs. millimetres (shownLevel rs) v p q) b in
     let r = ranged v p q in
@@ -145,7 +145,7 @@ module _ (right left : List ℕ) (side t : ℕ) (b : Bytes (asked side right lef
 
   -- 8: "side above 1".
   pub lookup-eight : (lookup right left side t ≡ refused 8 0) ↔ (1 < side)
-  unfolding lookup placeIn find
+  unfolding lookupBy placeInBy find
   lookup-eight =
       let e = query-eight (leb side 1) (asked side right left) find b in
       (λ x. pick (decLe side 1) (e .0 x), λ h. e .1 (λ l. omega (arith, leb-true side 1 l)))
@@ -156,7 +156,7 @@ module _ (right left : List ℕ) (side t : ℕ) (b : Bytes (asked side right lef
 
   -- 10: the asked side's schedule isn't the writing of a run list; the other side's is not looked at.
   pub lookup-ten : (lookup right left side t ≡ refused 10 0) ↔ ((side ≤ 1) × (IsSchedule (asked side right left) → ⊥))
-  unfolding lookup placeIn find
+  unfolding lookupBy placeInBy find
   lookup-ten =
       let e = query-ten (leb side 1) (asked side right left) find b in
       (λ x. (leb-true side 1 (e .0 x .0), e .0 x .1), λ h. e .1 (le-leb side 1 (h .0), h .1))

@@ -13,15 +13,15 @@ use borrow.Author.Tests.{le-leb}
 use Rattle.refusal.specs.Answer.{Answer, accepted, refused, _>>=_, unless-refuse}
 use Rattle.number.specs.declared.Read.{Read}
 use Rattle.number.specs.declared.Read.the-variants.{Number, Ended, Malformed}
-use Rattle.number.specs.Number.{readNumber, readingOf, numberAt}
+use Rattle.number.specs.Number.{readNumber, readingOf, numberAtBy, numberAt}
 use Rattle.job.specs.declared.Header.{Header}
 use Rattle.job.specs.declared.Hazard.{Hazard}
-use Rattle.job.specs.Job.{Job, Range, within, nextInHeader, nextInHazard, readFields, moreNumbers, readHeader, headerOf, hazardOf, readHazards, readJob, readRest}
-use Rattle.planning.specs.Envelope.{sideOverhangs, standsNear, testHazard, testHazards, acceptJob}
+use Rattle.job.specs.Job.{Job, Range, within, nextInHeader, nextInHazard, readFieldsBy, readFields, moreNumbers, readHeaderBy, readHeader, headerOf, hazardOf, readHazardsBy, readHazards, readJobBy, readJob, readRestBy}
+use Rattle.planning.specs.Envelope.{sideOverhangs, standsNear, testHazard, testHazards, acceptJobBy, acceptJob}
 use Rattle.planning.proofs.OverhangLaws.{greatest-before, greatest-after}
 use Rattle.planning.specs.Required.{jobRuns}
 use Rattle.schedule.specs.Schedule.{writeSchedule}
-use Rattle.schedule.specs.Plan.{PlannedSide, fitted, plan}
+use Rattle.schedule.specs.Plan.{PlannedSide, fitted, planBy, plan}
 use Rattle.schedule.proofs.PlanLaws.{fitted-fits, fitted-short}
 use Rattle.schedule.proofs.PlanLaws.{plan-bad-side}
 use Rattle.demands.specs.Road.{Overhanging, Plan-overhangs, Plan-six}
@@ -42,7 +42,7 @@ test true k v l h n = tt
 test false k v l h n = (l, h, n)
 
 number-refusals : (s : List ℕ) (at : ℕ) → OneToSeven (numberAt s at)
-unfolding numberAt
+unfolding numberAtBy
 number-refusals s at = go (readNumber s at)
   where
     go : (r : Read) → OneToSeven (readingOf at r)
@@ -51,7 +51,7 @@ number-refusals s at = go (readNumber s at)
     go Malformed = (omega arith, omega arith, omega arith)
 
 fields-refusals : (rangeOf : List ℕ → Range) (number : ℕ) (valueOf : List ℕ → ℕ) (k : ℕ) (got s : List ℕ) (at : ℕ) → 1 ≤ number → number ≤ 7 → number ≢ 6 → OneToSeven (readFields rangeOf number valueOf k got s at)
-unfolding readFields
+unfolding readFieldsBy
 fields-refusals rangeOf number valueOf zero got s at l h n = tt
 fields-refusals rangeOf number valueOf (suc k) got s at l h n =
     both (numberAt s at) _ (number-refusals s at) (λ x.
@@ -59,14 +59,14 @@ fields-refusals rangeOf number valueOf (suc k) got s at l h n =
     fields-refusals rangeOf number valueOf k (got ++ x .value ∷ []) s (x .next) l h n))
 
 hazards-refusals : (h : Header) (k : ℕ) (got : List Hazard) (s : List ℕ) (at : ℕ) → OneToSeven (readHazards h k got s at)
-unfolding readHazards
+unfolding readHazardsBy
 hazards-refusals h zero got s at = tt
 hazards-refusals h (suc k) got s at =
     both (readFields (nextInHazard h) 4 (λ _. length got) 6 [] s at) _ (fields-refusals (nextInHazard h) 4 (λ _. length got) 6 [] s at (omega arith) (omega arith) (omega arith)) (λ z.
     hazards-refusals h k (got ++ hazardOf (z .numbers) ∷ []) s (z .next))
 
 read-refusals : (s : List ℕ) → OneToSeven (readJob s)
-unfolding readJob readRest readHeader
+unfolding readJobBy readRestBy readHeaderBy
 read-refusals s =
     both (readHeader s) _
     (both (readFields nextInHeader 3 (λ got. length got + 1) 14 [] s 0) _ (fields-refusals nextInHeader 3 (λ got. length got + 1) 14 [] s 0 (omega arith) (omega arith) (omega arith)) (λ f.
@@ -80,7 +80,7 @@ test-refusals h i [] = tt
 test-refusals h i (z ∷ zs) = both (testHazard h i z) _ (test (not (standsNear h z)) 5 i (omega arith) (omega arith) (omega arith)) (λ _. test-refusals h (i + 1) zs)
 
 pub accept-refusals : (s : List ℕ) → OneToSeven (acceptJob s)
-unfolding acceptJob
+unfolding acceptJobBy
 accept-refusals s = both (readJob s) _ (read-refusals s) (λ j. both (testHazards (j .header) 0 (j .hazards)) _ (test-refusals (j .header) 0 (j .hazards)) (λ _. tt))
 
 -- Plan
@@ -101,7 +101,7 @@ module _ (s : List ℕ) (side room : ℕ) where
     written : side ≤ 1 → (j : Job) → acceptJob s ≡ accepted j → length (sideSchedule j side) ≤ room → plan s side room ≡ accepted (sidePlanned j side) → PlanVerdict
 
   by-job : side ≤ 1 → plan s side room ≡ (acceptJob s >>= λ j. fitted (sideSchedule j side) (sideOverhangs j side) room)
-  unfolding plan
+  unfolding planBy
   by-job h = rw (le-leb side 1 h)
 
   pub plan-verdict : PlanVerdict

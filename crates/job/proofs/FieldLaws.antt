@@ -16,7 +16,7 @@ use Rattle.number.specs.Number.{Reading, numberAt}
 use Rattle.job.specs.declared.field.Reading.{Reading as Numbered}
 use Rattle.job.specs.declared.field.Field.{Field}
 use Rattle.job.specs.declared.field.Field.the-variants as Field
-use Rattle.job.specs.Job.{Range, within, readFields}
+use Rattle.job.specs.Job.{Range, within, readFieldsBy, readFields}
 use Rattle.job.specs.Reply.{fieldAt, fieldAnswer}
 
 -- An array's part in use, after a store behind it.
@@ -54,7 +54,7 @@ module _ (rangeOf : List ℕ → Range) (valueAt : List ℕ → ℕ) (outside : 
     (value : valueAt got ≡ valueOf outside) (read : fieldAnswer f ≡ fieldAt (rangeOf got) outside s at) where
   fields-step : readFields rangeOf (numberOf outside) valueAt (suc k) got s at
       ≡ fieldAnswer f >>= λ x. readFields rangeOf (numberOf outside) valueAt k (got ++ x .value ∷ []) s (x .next)
-  unfolding readFields fieldAt
+  unfolding readFieldsBy fieldAt
   fields-step =
       rw (read, value)
       (bind-tested (numberAt s at) (λ x. unless-refuse (within (rangeOf got) (x .value)) (numberOf outside) (valueOf outside))

@@ -11,7 +11,7 @@ use Rattle.job.specs.declared.Header.{Header}
 use Rattle.job.specs.declared.field.Reading.{Reading}
 use Rattle.job.specs.declared.field.Field.{Field}
 use Rattle.job.specs.declared.field.Field.the-variants as Field
-use Rattle.job.specs.Job.{hazardOf, nextInHazard, readFields}
+use Rattle.job.specs.Job.{hazardOf, nextInHazard, readFieldsBy, readFields}
 use Rattle.job.specs.Reply.{fieldAt, fieldAnswer, hazardAt}
 use Rattle.job.proofs.FieldLaws.{fields-more, fields-refused}
 
@@ -33,5 +33,5 @@ module _ {h : Header} {index : ℕ} {s : List ℕ} {first : ℕ} where
         rw (left .same ∙ fields-refused (nextInHazard h) (λ _. index) (HazardRange index) k got s at f refl read r e)
 
   pub hazard-read : {got : List ℕ} {at : ℕ} → FieldsLeft h index s first 0 got at → accepted (record { hazard = hazardOf got; next = at }) ≡ hazardAt h index s first
-  unfolding hazardAt readFields
+  unfolding hazardAt readFieldsBy
   hazard-read left = rw (left .same)

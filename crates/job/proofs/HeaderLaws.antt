@@ -12,6 +12,7 @@ use lib.Dec.{eqb}
 use borrow.Author.Tests.{eq-eqb, ne-eqb}
 use Rattle.refusal.specs.Choice.{if_then_else_}
 use Rattle.refusal.specs.Answer.{Answer, accepted}
+use Rattle.refusal.specs.Limits.{limits}
 use Rattle.refusal.specs.Refusal.{refusal}
 use Rattle.refusal.specs.declared.Refusal.{Refusal}
 use Rattle.refusal.specs.declared.Refusal.the-variants.{HeaderRange}
@@ -19,19 +20,19 @@ use Rattle.job.specs.declared.field.Reading.{Reading}
 use Rattle.job.specs.declared.field.Field.{Field}
 use Rattle.job.specs.declared.field.Field.the-variants as Field
 use Rattle.job.specs.declared.header_fields.Bounds.{Bounds}
-use Rattle.job.specs.Job.{Range, _to_, sharedRanges, lastRanges, headerRanges, headerSize, nextInHeader, Fields, readFields, readHeader, headerWith}
+use Rattle.job.specs.Job.{Range, _to_, sharedRangesBy, sharedRanges, lastRanges, headerRangesBy, headerRanges, headerSize, nextInHeader, Fields, readFieldsBy, readFields, readHeaderBy, headerWith}
 use Rattle.job.specs.Reply.{fieldAt, fieldAnswer, headerAt, headerFrom}
 use Rattle.job.proofs.FieldLaws.{take-stored, field-within, fields-more, fields-refused}
-use Rattle.job.proofs.JobLaws.{within-high, fifteenth, header-more}
+use Rattle.job.proofs.JobLaws.{within-high, roadTop, fifteenth, header-more}
 
 -- Only the third range goes by where the road begins.
 range-elsewhere : (kind A k : ℕ) → (k ≡ 2 → ⊥) → getD (headerRanges kind A) k (0 to 0) ≡ getD (headerRanges kind 0) k (0 to 0)
-unfolding headerRanges sharedRanges
-range-elsewhere kind A k other = getD-set-other (headerRanges kind 0) 2 k ((A + 1) to 2000000000) (0 to 0) other
+unfolding headerRangesBy sharedRangesBy
+range-elsewhere kind A k other = getD-set-other (headerRanges kind 0) 2 k ((A + 1) to roadTop limits A) (0 to 0) other
 
 -- The table has as many rows as a header has numbers.
 pub header-size : (kind A : ℕ) → length (headerRanges kind A) ≡ headerSize kind
-unfolding headerRanges sharedRanges
+unfolding headerRangesBy sharedRangesBy
 header-size kind A = go (eqb kind 2)
   where
     go : (t : Bool) → length (sharedRanges A ++ (if t then 1 to 10000 ∷ 0 to 256 ∷ [] else 0 to 256 ∷ [])) ≡ (if t then 15 else 14)
@@ -40,7 +41,7 @@ header-size kind A = go (eqb kind 2)
 
 -- Only the numbers after the thirteenth go by the kind.
 range-shared : (kind k : ℕ) → k < 13 → getD (headerRanges kind 0) k (0 to 0) ≡ getD (sharedRanges 0) k (0 to 0)
-unfolding headerRanges sharedRanges
+unfolding headerRangesBy sharedRangesBy
 range-shared kind k l = List·getD-append (sharedRanges 0) (lastRanges kind) (0 to 0) k l
 
 -- The ranges of kind 2 where the road begins at 0 as the code's table, and the range at any place but the third up to the thirteenth.
@@ -55,7 +56,7 @@ table-range kind A k l other =
 
 -- The next range goes by the array's first and second number as soon as they count.
 range-first : (j k A B : ℕ) → getD (headerRanges j A) 0 (0 to 0) ≡ getD (headerRanges k B) 0 (0 to 0)
-unfolding headerRanges sharedRanges
+unfolding headerRangesBy sharedRangesBy
 range-first j k A B = refl
 
 next-range : (numbers : List ℕ) (k : ℕ) → k ≤ length numbers → nextInHeader (take k numbers) ≡ getD (headerRanges (getD numbers 0 0) (getD numbers 1 0)) k (0 to 0)
@@ -77,7 +78,7 @@ readFourteen s = readFields nextInHeader 3 (λ got. length got + 1) 14 [] s 0
 pub record HeaderLeft (s numbers : List ℕ) (at k : ℕ) : Type 0 where
   pub most : k ≤ 14
   pub room : length numbers ≡ 14
-  pub begin : getD numbers 1 0 ≤ 1999999999
+  pub begin : getD numbers 1 0 ≤ 999999999999
   pub same : readFourteen s ≡ readFields nextInHeader 3 (λ got. length got + 1) (14 - k) (take k numbers) s at
 
 module _ {s : List ℕ} where
@@ -93,14 +94,14 @@ module _ {s : List ℕ} where
     read-next : fieldAnswer f ≡ fieldAt (nextInHeader (take k numbers)) (HeaderRange (k + 1)) s at
     read-next = rw (next-range numbers k (omega (arith, left .room)) ∙ sym its) read
 
-    begin-kept : (n : Reading) → f ≡ Field.Number n → getD (set numbers k (n .value)) 1 0 ≤ 1999999999
-    unfolding headerRanges sharedRanges
+    begin-kept : (n : Reading) → f ≡ Field.Number n → getD (set numbers k (n .value)) 1 0 ≤ 999999999999
+    unfolding headerRangesBy sharedRangesBy
     begin-kept n e = go (ℕ-discrete 1 k)
       where
-        go : Dec (1 ≡ k) → getD (set numbers k (n .value)) 1 0 ≤ 1999999999
+        go : Dec (1 ≡ k) → getD (set numbers k (n .value)) 1 0 ≤ 999999999999
         go (yes same) =
-            let here : range ≡ 0 to 1999999999 = its ∙ rw (sym same) in
-            let fits = within-high (0 to 1999999999) (n .value) (rw here at (field-within range (HeaderRange (k + 1)) s at f n read e)) in
+            let here : range ≡ 0 to 999999999999 = its ∙ rw (sym same) in
+            let fits = within-high (0 to 999999999999) (n .value) (rw here at (field-within range (HeaderRange (k + 1)) s at f n read e)) in
             rw (sym same, getD-set-same numbers 1 (n .value) 0 (omega (arith, left .room))) fits
         go (no other) = rw (getD-set-other numbers k 1 (n .value) 0 other) (left .begin)
 
@@ -121,25 +122,25 @@ module _ {s : List ℕ} where
         }
 
     pub header-refused : {r : Refusal} → f ≡ Field.Refused r → refusal r ≡ headerAt s
-    unfolding headerAt readHeader
+    unfolding headerAt readHeaderBy
     header-refused {r} e =
         rw (left-next ∙ fields-refused nextInHeader (λ got. length got + 1) (HeaderRange (k + 1)) (14 - (k + 1)) (take k numbers) s at f number-value read-next r e)
 
   -- All fourteen were read. Kind 1 has no more.
   module _ {numbers : List ℕ} {at k : ℕ} (left : HeaderLeft s numbers at k) (done : 14 ≤ k) where
     all-read : readFourteen s ≡ accepted (record { numbers = numbers; next = at })
-    unfolding readFields
+    unfolding readFieldsBy
     all-read =
         let all : k ≡ 14 = omega (arith, left .most) in
         left .same ∙ rw (all, take-all 14 numbers (omega (arith, left .room)))
 
     pub header-plain : (getD numbers 0 0 ≡ 2 → ⊥) → accepted (record { header = headerWith numbers 1 (getD numbers 13 0); next = at }) ≡ headerAt s
-    unfolding headerAt readHeader readFields
+    unfolding headerAt readHeaderBy readFieldsBy
     header-plain other = simp (all-read, ne-eqb (getD numbers 0 0) 2 other)
 
     -- Kind 2 has one more.
     pub header-counted : getD numbers 0 0 ≡ 2 → headerFrom numbers s at ≡ headerAt s
-    unfolding headerAt readHeader headerFrom
+    unfolding headerAt readHeaderBy headerFrom
     header-counted two = rw (all-read, eq-eqb (getD numbers 0 0) 2 two)
 
 -- The fifteenth number of a kind 2 header, which is `f`.
@@ -153,7 +154,7 @@ module _ (s numbers : List ℕ) (at : ℕ) (f : Field) (long : length numbers �
 
   pub count-read : {n : Reading} → f ≡ Field.Number n
       → accepted (record { header = headerWith numbers (getD numbers 13 0) (n .value); next = n .next }) ≡ headerFrom numbers s at
-  unfolding headerFrom readFields
+  unfolding headerFrom readFieldsBy
   count-read {n} e =
       rw (fields-more nextInHeader (λ got. length got + 1) (HeaderRange 15) 0 numbers s at f number-fifteen read-fifteenth n e, header-more numbers (n .value) long two)
 

@@ -1,6 +1,6 @@
 -- What a job that could be read is known to satisfy: each number lies in its range, and there are as many hazards as the header says.
 -- Assumes nothing.
-use Prim.Native.Nat.{ℕ, zero, suc, _+_, _-_, _≤_, _<_}
+use Prim.Native.Nat.{ℕ, zero, suc, _+_, _-_, _≤_, _<_, min}
 use native.Mathlib.Omega.{arith}
 use native.Mathlib.Nat.{zero-add}
 use mathlib.Core.Path.{_≡_, refl, sym, subst, ap, _∙_}
@@ -12,17 +12,18 @@ use lib.Dec.{leb, eqb}
 use borrow.Author.Tests.{leb-true, eqb-true, eq-eqb}
 use Rattle.refusal.specs.Choice.{if_then_else_}
 use Rattle.refusal.specs.Answer.{accepted, unless-refuse}
+use Rattle.refusal.specs.Limits.{Limits, limits}
 use Rattle.refusal.specs.Refusal.{refusal}
 use Rattle.refusal.specs.declared.Refusal.{Refusal}
 use Rattle.refusal.proofs.TestLaws.{and-left, and-right}
 use Rattle.refusal.proofs.AnswerLaws.{bound, tested}
 use Rattle.refusal.proofs.EachLaws.{snoc-each}
-use Rattle.number.specs.Number.{numberAt}
+use Rattle.number.specs.Number.{numberAtBy}
 use Rattle.job.specs.declared.Header.{Header}
 use Rattle.job.specs.declared.Hazard.{Hazard}
 use Rattle.refusal.specs.declared.Outcome.the-variants.{Done, Refused}
 use Rattle.job.specs.declared.read.JobRead.{JobRead}
-use Rattle.job.specs.Job.{Job, jobOf, Range, within, _to_, sharedRanges, lastRanges, headerRanges, hazardRanges, nextInHeader, nextInHazard, Fields, readFields, moreNumbers, readHeader, headerWith, headerOf, hazardOf, Hazards, readHazards, readJob, readRest}
+use Rattle.job.specs.Job.{Job, jobOf, Range, within, _to_, sharedRangesBy, lastRanges, headerRangesBy, hazardRanges, nextInHeader, nextInHazard, Fields, readFieldsBy, readFields, moreNumbers, readHeaderBy, readHeader, headerWith, headerOf, hazardOf, Hazards, readHazardsBy, readHazards, readJobBy, readJob, readRestBy}
 use Rattle.job.specs.Reply.{HeaderReading, headerReading, headerAt, jobAnswer}
 
 -- The numbers read after `got`: each in its range.
@@ -30,13 +31,13 @@ abbrev pub FieldsIn : (List ℕ → Range) → ℕ → List ℕ → List ℕ →
 FieldsIn rangeOf zero got numbers = got ≡ numbers
 FieldsIn rangeOf (suc k) got numbers = (x : ℕ) × (within (rangeOf got) x ≡ true) × FieldsIn rangeOf k (got ++ x ∷ []) numbers
 
-pub fields-in : (rangeOf : List ℕ → Range) (number : ℕ) (valueOf : List ℕ → ℕ) (k : ℕ) (got s : List ℕ) (at : ℕ) (f : Fields) → readFields rangeOf number valueOf k got s at ≡ accepted f → FieldsIn rangeOf k got (f .numbers)
-unfolding readFields
-fields-in rangeOf number valueOf zero got s at f e = let w : record { numbers = got; next = at } ≡ f = cc in ap (λ (z : Fields). z .numbers) w
-fields-in rangeOf number valueOf (suc k) got s at f e =
-    let b1 = bound (numberAt s at) _ f e in
+pub fields-in : (L : Limits) (rangeOf : List ℕ → Range) (number : ℕ) (valueOf : List ℕ → ℕ) (k : ℕ) (got s : List ℕ) (at : ℕ) (f : Fields) → readFieldsBy L rangeOf number valueOf k got s at ≡ accepted f → FieldsIn rangeOf k got (f .numbers)
+unfolding readFieldsBy
+fields-in L rangeOf number valueOf zero got s at f e = let w : record { numbers = got; next = at } ≡ f = cc in ap (λ (z : Fields). z .numbers) w
+fields-in L rangeOf number valueOf (suc k) got s at f e =
+    let b1 = bound (numberAtBy L s at) _ f e in
     let b2 = bound (unless-refuse (within (rangeOf got) (b1 .first .value)) number (valueOf got)) _ f (b1 .rest) in
-    (b1 .first .value, tested _ number (valueOf got) _ (b2 .taken), fields-in rangeOf number valueOf k (got ++ b1 .first .value ∷ []) s (b1 .first .next) f (b2 .rest))
+    (b1 .first .value, tested _ number (valueOf got) _ (b2 .taken), fields-in L rangeOf number valueOf k (got ++ b1 .first .value ∷ []) s (b1 .first .next) f (b2 .rest))
 
 pub within-low : (r : Range) (x : ℕ) → within r x ≡ true → r .low ≤ x
 within-low r x h = leb-true _ _ (and-left _ (leb x (r .high)) h)
@@ -44,12 +45,17 @@ within-low r x h = leb-true _ _ (and-left _ (leb x (r .high)) h)
 pub within-high : (r : Range) (x : ℕ) → within r x ≡ true → x ≤ r .high
 within-high r x h = leb-true _ _ (and-right (leb (r .low) x) _ h)
 
+-- Where a road that begins at A may end at most.
+abbrev pub roadTop : (L : Limits) (A : ℕ) → ℕ
+roadTop L A = min (L .lastStation) (A + L .longestRoad)
+
 -- A header's ranges.
 pub record HeaderFits (h : Header) : Type 0 where
   pub kind-low : 1 ≤ h .kind
   pub kind-top : h .kind ≤ 2
   pub road : h .begin < h .end
-  pub road-end : h .end ≤ 2000000000
+  pub road-end : h .end ≤ limits .lastStation
+  pub road-length : h .end ≤ h .begin + limits .longestRoad
   pub forward-low : 1 ≤ h .forward
   pub forward-top : h .forward ≤ 200000
   pub opposite-top : h .opposite ≤ 200000
@@ -73,7 +79,7 @@ pub record HeaderFits (h : Header) : Type 0 where
 -- The thirteen numbers of every kind, with a panel length and a hazard count in their ranges.
 shared-fits : (numbers : List ℕ) → FieldsIn nextInHeader 14 [] numbers → (panel count : ℕ) → (getD numbers 0 0 ≡ 1 → panel ≡ 1) → 1 ≤ panel → panel ≤ 10000 → count ≤ 256
     → HeaderFits (headerWith numbers panel count)
-unfolding headerRanges sharedRanges
+unfolding headerRangesBy sharedRangesBy
 shared-fits numbers f1 panel count plain low top few =
     let f2 = f1 .2 in let f3 = f2 .2 in let f4 = f3 .2 in let f5 = f4 .2 in let f6 = f5 .2 in let f7 = f6 .2 in let f8 = f7 .2 in
     let f9 = f8 .2 in let f10 = f9 .2 in let f11 = f10 .2 in let f12 = f11 .2 in let f13 = f12 .2 in let f14 = f13 .2 in
@@ -82,8 +88,9 @@ shared-fits numbers f1 panel count plain low top few =
     record {
       kind-low = within-low (1 to 2) _ (f1 .1);
       kind-top = within-high (1 to 2) _ (f1 .1);
-      road = omega (arith, within-low ((f2 .0 + 1) to 2000000000) (f3 .0) (f3 .1));
-      road-end = within-high ((f2 .0 + 1) to 2000000000) _ (f3 .1);
+      road = omega (arith, within-low ((f2 .0 + 1) to roadTop limits (f2 .0)) (f3 .0) (f3 .1));
+      road-end = omega (arith, within-high ((f2 .0 + 1) to roadTop limits (f2 .0)) _ (f3 .1));
+      road-length = omega (arith, within-high ((f2 .0 + 1) to roadTop limits (f2 .0)) _ (f3 .1));
       forward-low = within-low (1 to 200000) _ (f4 .1);
       forward-top = within-high (1 to 200000) _ (f4 .1);
       opposite-top = within-high (0 to 200000) _ (f5 .1);
@@ -112,7 +119,7 @@ pub record HeaderIn (numbers : List ℕ) : Type 0 where
 
 -- The fourteenth number, and of kind 2 the fifteenth.
 pub fourteenth : (first : List ℕ) → FieldsIn nextInHeader 14 [] first → within (getD (lastRanges (getD first 0 0)) 0 (0 to 0)) (getD first 13 0) ≡ true
-unfolding headerRanges sharedRanges
+unfolding headerRangesBy sharedRangesBy
 fourteenth first f =
     let f13 = f .2 .2 .2 .2 .2 .2 .2 .2 .2 .2 .2 .2 in
     subst (λ (l : List ℕ). within (getD (lastRanges (getD l 0 0)) 0 (0 to 0)) (getD l 13 0) ≡ true) (f13 .2 .2) (f13 .2 .1)
@@ -120,6 +127,12 @@ fourteenth first f =
 pub fields-length : (rangeOf : List ℕ → Range) (k : ℕ) (got numbers : List ℕ) → FieldsIn rangeOf k got numbers → length numbers ≡ length got + k
 fields-length rangeOf zero got numbers f = rw (sym f) (omega arith)
 fields-length rangeOf (suc k) got numbers f = fields-length rangeOf k (got ++ f .0 ∷ []) numbers (f .2) ∙ rw (length-append got (f .0 ∷ [])) (omega arith)
+
+-- Numbers that stand stay as more are read.
+pub fields-kept : (rangeOf : List ℕ → Range) (k : ℕ) (got numbers : List ℕ) → FieldsIn rangeOf k got numbers → (i : ℕ) → i < length got → getD numbers i 0 ≡ getD got i 0
+fields-kept rangeOf zero got numbers f i l = rw f
+fields-kept rangeOf (suc k) got numbers f i l =
+    fields-kept rangeOf k (got ++ f .0 ∷ []) numbers (f .2) i (omega (arith, length-append got (f .0 ∷ []))) ∙ List·getD-append got (f .0 ∷ []) 0 i l
 
 -- A kind 2 header has the numbers of its first fourteen.
 pub header-more : (first : List ℕ) (x : ℕ) → length first ≡ 14 → getD first 0 0 ≡ 2 → headerOf (first ++ x ∷ []) ≡ headerWith first (getD first 13 0) x
@@ -151,7 +164,7 @@ header-more first x long kind =
 
 -- The range of the fifteenth number.
 pub fifteenth : (first : List ℕ) → length first ≡ 14 → eqb (getD first 0 0) 2 ≡ true → nextInHeader first ≡ 0 to 256
-unfolding headerRanges sharedRanges
+unfolding headerRangesBy sharedRangesBy
 fifteenth first long e = rw (long, e)
 
 header-fits : (numbers : List ℕ) → HeaderIn numbers → HeaderFits (headerOf numbers)
@@ -177,13 +190,13 @@ header-fits numbers h = go (eqb (getD (h .first) 0 0) 2) refl (h .more) (fourtee
 
 -- A header that was read has numbers in their ranges.
 pub header-read-in : (s : List ℕ) (f : Fields) → readHeader s ≡ accepted f → HeaderIn (f .numbers)
-unfolding readHeader
+unfolding readHeaderBy
 header-read-in s f e =
     let b = bound (readFields nextInHeader 3 (λ got. length got + 1) 14 [] s 0) _ f e in
     record {
       first = b .first .numbers;
-      fourteen = fields-in nextInHeader 3 (λ got. length got + 1) 14 [] s 0 (b .first) (b .taken);
-      more = fields-in nextInHeader 3 (λ got. length got + 1) (moreNumbers (b .first .numbers)) (b .first .numbers) s (b .first .next) f (b .rest);
+      fourteen = fields-in limits nextInHeader 3 (λ got. length got + 1) 14 [] s 0 (b .first) (b .taken);
+      more = fields-in limits nextInHeader 3 (λ got. length got + 1) (moreNumbers (b .first .numbers)) (b .first .numbers) s (b .first .next) f (b .rest);
     }
 
 -- Of a hazard, its ranges.
@@ -218,13 +231,13 @@ pub record HazardsFit (h : Header) (k : ℕ) (zs : List Hazard) : Type 0 where
   pub each : (z : Hazard) → List·Memᴰ z zs → HazardFits h z
 
 pub hazards-fit : (h : Header) (k : ℕ) (got : List Hazard) (s : List ℕ) (at : ℕ) (r : Hazards) → ((z : Hazard) → List·Memᴰ z got → HazardFits h z) → readHazards h k got s at ≡ accepted r → HazardsFit h (length got + k) (r .list)
-unfolding readHazards
+unfolding readHazardsBy
 hazards-fit h zero got s at r all e =
     let w : record { list = got; next = at } ≡ r = cc in
     subst (λ (x : Hazards). HazardsFit h (length got + 0) (x .list)) w (record { count = omega arith; each = all })
 hazards-fit h (suc k) got s at r all e =
     let b1 = bound (readFields (nextInHazard h) 4 (λ _. length got) 6 [] s at) _ r e in
-    let fit = hazard-fits h (b1 .first .numbers) (fields-in (nextInHazard h) 4 (λ _. length got) 6 [] s at (b1 .first) (b1 .taken)) in
+    let fit = hazard-fits h (b1 .first .numbers) (fields-in limits (nextInHazard h) 4 (λ _. length got) 6 [] s at (b1 .first) (b1 .taken)) in
     let rest = hazards-fit h k (got ++ hazardOf (b1 .first .numbers) ∷ []) s (b1 .first .next) r (snoc-each (HazardFits h) got all fit) (b1 .rest) in
     subst (λ (n : ℕ). HazardsFit h n (r .list)) (count (hazardOf (b1 .first .numbers))) rest
   where
@@ -245,7 +258,7 @@ pub record JobFits (j : Job) : Type 0 where
   pub hazards : HazardsFit (j .header) (j .header .count) (j .hazards)
 
 pub job-fits : (s : List ℕ) (j : Job) → readJob s ≡ accepted j → JobFits j
-unfolding readJob readRest
+unfolding readJobBy readRestBy
 job-fits s j e =
     let b1 = bound (readHeader s) _ j e in
     let b2 = bound (readHazards (headerOf (b1 .first .numbers)) (headerOf (b1 .first .numbers) .count) [] s (b1 .first .next)) _ j (b1 .rest) in

@@ -7,3 +7,4 @@ pub mod WritingLaws
 pub mod StandLaws
 pub mod RowLaws
 pub mod OpeningLaws
+pub mod LimitLaws

@@ -17,14 +17,15 @@ use Rattle.refusal.specs.declared.Refusal.{Refusal}
 use Rattle.refusal.specs.declared.Refusal.the-variants as row
 use Rattle.refusal.proofs.EachLaws.{snoc-each}
 use Rattle.refusal.proofs.RowLaws.{same-row}
+use Rattle.refusal.specs.Limits.{limits}
 use Rattle.number.specs.declared.Read.{Read}
 use Rattle.number.specs.declared.Read.the-variants.{Number, Ended, Malformed}
-use Rattle.number.specs.Number.{writeNumber, greatest, readNumber, readingOf, numberAt}
+use Rattle.number.specs.Number.{writeNumber, greatest, readNumber, readingOf, numberAtBy}
 use Rattle.number.proofs.NumberLaws.{Bytes, read-stands}
 use Rattle.number.proofs.FormLaws.{read-ended, read-malformed}
 use Rattle.job.specs.declared.Header.{Header}
 use Rattle.job.specs.declared.Hazard.{Hazard}
-use Rattle.job.specs.Job.{Job, Range, within, nextInHeader, nextInHazard, Fields, readFields, moreNumbers, readHeader, headerOf, hazardOf, Hazards, readHazards, readRest, readJob}
+use Rattle.job.specs.Job.{Job, Range, within, nextInHeader, nextInHazard, Fields, readFieldsBy, readFields, moreNumbers, readHeaderBy, readHeader, headerOf, hazardOf, Hazards, readHazardsBy, readHazards, readRestBy, readRest, readJobBy, readJob}
 use Rattle.job.specs.Writing.{headerNumbers, hazardNumbers, hazardsNumbers, numbersOf, writeNumbers, writeJob}
 use Rattle.job.specs.Rows.{Group, ofHeader, ofHazard, HasGroup, sizeOf, nextIn, numbersBefore, InRanges, BeforeInRanges, Stands, behind, Next, OutOfRange, ReadRow}
 use Rattle.job.proofs.JobLaws.{FieldsIn, fields-in, fields-length, HeaderIn, header-read-in, header-more}
@@ -137,7 +138,7 @@ module _ {s : List ℕ} (b : Bytes s) where
   -- k numbers more behind `got`, for which the group has room.
   group-read : (g : Group) → HasGroup g → (k : ℕ) (got : List ℕ) (at : ℕ) → Room g k got → At s g got at
       → GroupRead s g (readFields (nextIn g) (outNumber g) (outValue g) k got s at)
-  unfolding readFields numberAt
+  unfolding readFieldsBy numberAtBy
   group-read g has zero got at room here = here
   group-read g has (suc k) got at room here = go (readNumber s at) refl (group-read g has k)
     where
@@ -158,7 +159,7 @@ module _ {s : List ℕ} (b : Bytes s) where
           → GroupRead s g (readingOf at c >>= λ x. unless-refuse (within (nextIn g got) (x .value)) (outNumber g) (outValue g got) >>= λ _. readFields (nextIn g) (outNumber g) (outValue g) k (got ++ x .value ∷ []) s (x .next))
       go (Number x n) e later = tested x n e (within (nextIn g got) x) refl later
       go Ended e later = record { which = row.Ended at; number = refl; value = refl; row = record { group = g; got = got; rest = drop at s; next = next; fault = read-ended s at .0 e; begins = here .index } }
-      go Malformed e later = record { which = row.Malformed at; number = refl; value = refl; row = record { group = g; got = got; rest = drop at s; next = next; fault = read-malformed s at .0 e; begins = here .index } }
+      go Malformed e later = record { which = row.Malformed at; number = refl; value = refl; row = record { group = g; got = got; rest = drop at s; next = next; fault = read-malformed s at b .0 e; begins = here .index } }
 
   -- The same numbers, taken to another group.
   at-group : {g q : Group} {got own : List ℕ} {at : ℕ} → numbersBefore g ++ got ≡ numbersBefore q ++ own → BeforeInRanges q → InRanges (nextIn q) [] own → At s g got at → At s q own at
@@ -182,7 +183,7 @@ module _ {s : List ℕ} (b : Bytes s) where
       (here .stands .before .0, here .stands .before .1, snoc-each (λ z. InRanges (nextInHazard h) [] (hazardNumbers z)) zs (here .stands .before .2) fit) tt here
 
   hazards-read : (h : Header) (k : ℕ) (zs : List Hazard) (at : ℕ) → length zs + k ≡ h .count → At s (ofHazard h zs) [] at → HazardsRead s h (readHazards h k zs s at)
-  unfolding readHazards
+  unfolding readHazardsBy
   hazards-read h zero zs at size here = (here, omega arith)
   hazards-read h (suc k) zs at size here =
       go (readFields (nextInHazard h) 4 (λ _. length zs) 6 [] s at) refl (group-read (ofHazard h zs) (omega arith) 6 [] at (λ ys l. l) here) (hazards-read h k)
@@ -191,12 +192,12 @@ module _ {s : List ℕ} (b : Bytes s) where
           → ((ys : List Hazard) (i : ℕ) → length ys + k ≡ h .count → At s (ofHazard h ys) [] i → HazardsRead s h (readHazards h k ys s i))
           → HazardsRead s h (a >>= λ f. readHazards h k (zs ++ hazardOf (f .numbers) ∷ []) s (f .next))
       go (accepted f) e r later =
-          let own = hazard-own h (f .numbers) (fields-in (nextInHazard h) 4 (λ _. length zs) 6 [] s at f e) in
+          let own = hazard-own h (f .numbers) (fields-in limits (nextInHazard h) 4 (λ _. length zs) 6 [] s at f e) in
           later (zs ++ hazardOf (f .numbers) ∷ []) (f .next) (rw length-append (omega arith)) (at-next own r)
       go (refused n v) e r later = r
 
   header-group : GroupRead s ofHeader (readHeader s)
-  unfolding readHeader writeNumbers
+  unfolding readHeaderBy writeNumbers
   header-group =
       go (readFields nextInHeader 3 (λ l. length l + 1) 14 [] s 0) refl
       (group-read ofHeader tt 14 [] 0 first-room (record { stands = record { before = tt; own = tt; bytes = refl }; index = refl }))
@@ -205,11 +206,11 @@ module _ {s : List ℕ} (b : Bytes s) where
           → GroupRead s ofHeader (a >>= λ f. readFields nextInHeader 3 (λ l. length l + 1) (moreNumbers (f .numbers)) (f .numbers) s (f .next))
       go (accepted f) e w =
           group-read ofHeader tt (moreNumbers (f .numbers)) (f .numbers) (f .next)
-          (more-room (f .numbers) (fields-length nextInHeader 14 [] (f .numbers) (fields-in nextInHeader 3 (λ l. length l + 1) 14 [] s 0 f e))) w
+          (more-room (f .numbers) (fields-length nextInHeader 14 [] (f .numbers) (fields-in limits nextInHeader 3 (λ l. length l + 1) 14 [] s 0 f e))) w
       go (refused n v) e w = w
 
   job-read : JobRead s (readJob s)
-  unfolding readJob readRest writeJob
+  unfolding readJobBy readRestBy writeJob
   job-read = header (readHeader s) refl header-group
     where
       over : (h : Header) (r : Hazards) → At s (ofHazard h (r .list)) [] (r .next) → length (r .list) ≡ h .count → (t : Bool) → leb (length s) (r .next) ≡ t

@@ -18,12 +18,12 @@ use Rattle.refusal.specs.declared.Refusal.{Refusal}
 use Rattle.refusal.specs.declared.Refusal.the-variants as row
 use Rattle.number.specs.declared.Read.{Read}
 use Rattle.number.specs.declared.Read.the-variants.{Ended, Malformed}
-use Rattle.number.specs.Number.{writeNumber, readNumber, readingOf, numberAt}
+use Rattle.number.specs.Number.{writeNumber, readNumber, readingOf, numberAtBy}
 use Rattle.number.proofs.NumberLaws.{read-number, after-number}
-use Rattle.number.proofs.FormLaws.{read-ended, read-malformed}
+use Rattle.number.proofs.FormLaws.{read-ended, ill-formed}
 use Rattle.job.specs.declared.Header.{Header}
 use Rattle.job.specs.declared.Hazard.{Hazard}
-use Rattle.job.specs.Job.{Range, nextInHeader, nextInHazard, readFields, moreNumbers, readHeader, readHazards, readRest, readJob}
+use Rattle.job.specs.Job.{Range, nextInHeader, nextInHazard, readFieldsBy, readFields, moreNumbers, readHeaderBy, readHeader, readHazardsBy, readHazards, readRestBy, readRest, readJobBy, readJob}
 use Rattle.job.specs.Writing.{sharedNumbers, headerNumbers, hazardNumbers, hazardsNumbers, numbersOf, writeNumbers}
 use Rattle.job.specs.Rows.{Group, ofHeader, ofHazard, nextIn, numbersBefore, InRanges, Stands, behind, Next, Unread, OutOfRange, BytesAfter, ReadRow}
 
@@ -40,7 +40,7 @@ after-part s at w rest e = sym (drop-drop (length w) at s) ∙ rw e (drop-append
 fields-behind : (rangeOf : List ℕ → Range) (number : ℕ) (valueOf : List ℕ → ℕ) (m k : ℕ) (xs got s : List ℕ) (at : ℕ) (rest : List ℕ)
     → m ≡ length xs + k → InRanges rangeOf got xs → drop at s ≡ writeNumbers xs ++ rest
     → readFields rangeOf number valueOf m got s at ≡ readFields rangeOf number valueOf k (got ++ xs) s (at + length (writeNumbers xs))
-unfolding readFields writeNumbers
+unfolding readFieldsBy writeNumbers
 fields-behind rangeOf number valueOf m k [] got s at rest size fit e =
     rw (append-nil got, (let z : at + 0 ≡ at = omega arith in z), (let z : m ≡ k = omega arith in z))
 fields-behind rangeOf number valueOf zero k (x ∷ xs) got s at rest size fit e = absurd (omega arith)
@@ -53,13 +53,13 @@ fields-behind rangeOf number valueOf (suc m) k (x ∷ xs) got s at rest size fit
 fields-written : (rangeOf : List ℕ → Range) (number : ℕ) (valueOf : List ℕ → ℕ) (xs s : List ℕ) (at : ℕ) (rest : List ℕ)
     → InRanges rangeOf [] xs → drop at s ≡ writeNumbers xs ++ rest
     → readFields rangeOf number valueOf (length xs) [] s at ≡ accepted (record { numbers = xs; next = at + length (writeNumbers xs) })
-unfolding readFields
+unfolding readFieldsBy
 fields-written rangeOf number valueOf xs s at rest fit e = fields-behind rangeOf number valueOf (length xs) 0 xs [] s at rest (omega arith) fit e
 
 -- A header: fourteen numbers, and as many more as its kind has.
 header-behind : (first more s rest : List ℕ) → InRanges nextInHeader [] first → InRanges nextInHeader first more → length first ≡ 14 → moreNumbers first ≡ length more
     → s ≡ writeNumbers (first ++ more) ++ rest → readHeader s ≡ accepted (record { numbers = first ++ more; next = length (writeNumbers (first ++ more)) })
-unfolding readHeader readFields
+unfolding readHeaderBy readFieldsBy
 header-behind first more s rest fit later long count e =
     let one = writeNumbers first in
     let two = writeNumbers more in
@@ -91,7 +91,7 @@ header-written h s rest fit e = go (eqb (h .kind) 2) refl fit e
 hazards-behind : (h : Header) (m k : ℕ) (zs got : List Hazard) (s : List ℕ) (at : ℕ) (rest : List ℕ)
     → m ≡ length zs + k → ((z : Hazard) → List·Memᴰ z zs → InRanges (nextInHazard h) [] (hazardNumbers z)) → drop at s ≡ writeNumbers (hazardsNumbers zs) ++ rest
     → readHazards h m got s at ≡ readHazards h k (got ++ zs) s (at + length (writeNumbers (hazardsNumbers zs)))
-unfolding readHazards hazardsNumbers writeNumbers
+unfolding readHazardsBy hazardsNumbers writeNumbers
 hazards-behind h m k [] got s at rest size fit e =
     rw (append-nil got, (let z : at + 0 ≡ at = omega arith in z), (let z : m ≡ k = omega arith in z))
 hazards-behind h zero k (z ∷ zs) got s at rest size fit e = absurd (omega arith)
@@ -117,7 +117,7 @@ bytes-behind {s} {g} {got} {rest} stands =
 
 pub job-behind : {s : List ℕ} {h : Header} {zs : List Hazard} {got rest : List ℕ} (k : ℕ) → Stands s (ofHazard h zs) got rest → h .count ≡ length zs + k
     → readJob s ≡ readRest h k zs s (behind (ofHazard h zs) [])
-unfolding readJob readRest numbersOf
+unfolding readJobBy readRestBy numbersOf
 job-behind {s} {h} {zs} {got} {rest} k stands count =
     let one = writeNumbers (headerNumbers h) in
     let others = writeNumbers (hazardsNumbers zs) in
@@ -151,7 +151,7 @@ module _ {s : List ℕ} where
   -- Of the header, among its first fourteen numbers or behind them.
   header-refused : {got rest : List ℕ} (n v : ℕ) → Next s ofHeader got rest
       → ((k : ℕ) → readFields nextInHeader 3 (λ l. length l + 1) (suc k) got s (behind ofHeader got) ≡ refused n v) → readHeader s ≡ refused n v
-  unfolding readHeader readFields writeNumbers
+  unfolding readHeaderBy readFieldsBy writeNumbers
   header-refused {got} {rest} n v next e = go (decLt (length got) 14)
     where
       fifteenth : (t : Bool) → eqb (getD got 0 0) 2 ≡ t → length got < (if t then 15 else 14) → (length got < 14 → ⊥) → readHeader s ≡ refused n v
@@ -166,7 +166,7 @@ module _ {s : List ℕ} where
 
   next-refused : (g : Group) {got rest : List ℕ} (n v : ℕ) → Next s g got rest
       → ((k : ℕ) → readFields (nextIn g) (outNumber g) (outValue g) (suc k) got s (behind g got) ≡ refused n v) → readJob s ≡ refused n v
-  unfolding readJob readRest readHazards
+  unfolding readJobBy readRestBy readHazardsBy
   next-refused ofHeader n v next e = rw (header-refused n v next e)
   next-refused (ofHazard h zs) n v next e =
       job-behind (suc (h .count - suc (length zs))) (next .stands) (omega (arith, next .has)) ∙ rw (own-refused n v 6 (next .more) (next .stands) e)
@@ -176,17 +176,17 @@ module _ {s : List ℕ} where
 
   unread-refused : {Fault : List ℕ → Type 0} {at : ℕ} (n : ℕ) (c : Read) → ((i : ℕ) → readingOf i c ≡ refused n i) → ((i : ℕ) → Fault (drop i s) → readNumber s i ≡ c)
       → Unread Fault s at → readJob s ≡ refused n at
-  unfolding readFields numberAt
+  unfolding readFieldsBy numberAtBy
   unread-refused n c number fault w =
       next-refused (w .group) n _ (w .next) (λ k. rw (fault (behind (w .group) (w .got)) (rw (rest-behind (w .next .stands)) (w .fault)), number (behind (w .group) (w .got))) (ap (refused n) (sym (w .begins))))
 
   outside-refused : {g : Group} {got : List ℕ} → OutOfRange s g got → readJob s ≡ refused (outNumber g) (outValue g got)
-  unfolding readFields
+  unfolding readFieldsBy
   outside-refused {g} {got} w =
       next-refused g (outNumber g) (outValue g got) (w .next) (λ k. rw (read-number s (behind g got) (w .number) (w .rest) (w .fits) (rest-behind (w .next .stands)), w .outside))
 
   after-refused : {at : ℕ} → BytesAfter s at → readJob s ≡ refused 7 at
-  unfolding readRest readHazards
+  unfolding readRestBy readHazardsBy
   after-refused w =
       let g = ofHazard (w .job .header) (w .job .hazards) in
       let longer : behind g [] < length s = rw (w .stands .bytes, length-append) (omega (arith, w .some)) in
@@ -194,7 +194,7 @@ module _ {s : List ℕ} where
 
 pub row-refused : (s : List ℕ) (r : Refusal) → ReadRow r s → readJob s ≡ refusal r
 row-refused s (row.Ended at) w = unread-refused 1 Ended (λ i. refl) (λ i. read-ended s i .1) w
-row-refused s (row.Malformed at) w = unread-refused 2 Malformed (λ i. refl) (λ i. read-malformed s i .1) w
+row-refused s (row.Malformed at) w = unread-refused 2 Malformed (λ i. refl) (λ i. ill-formed s i) w
 row-refused s (row.HeaderRange number) w = outside-refused (w .1) ∙ ap (refused 3) (sym (w .2))
 row-refused s (row.HazardRange index) w = outside-refused (w .3) ∙ ap (refused 4) (sym (w .4))
 row-refused s (row.NearBarrier index) w = absurd w

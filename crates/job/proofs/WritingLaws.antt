@@ -11,17 +11,18 @@ use borrow.Author.Tests.{le-leb, eqb-false}
 use Rattle.refusal.specs.Choice.{if_then_else_}
 use Rattle.refusal.specs.Answer.{accepted}
 use Rattle.refusal.proofs.TestLaws.{and-intro}
-use Rattle.number.specs.Number.{writeNumber, greatest}
+use Rattle.refusal.specs.Limits.{limits}
+use Rattle.number.specs.Number.{writeNumberBy, writeNumber, greatest}
 use Rattle.number.proofs.NumberLaws.{length-below}
 pub use Rattle.number.proofs.NumberLaws.{Bytes}
 use Rattle.job.specs.declared.Header.{Header}
 use Rattle.job.specs.declared.Hazard.{Hazard}
-use Rattle.job.specs.Job.{Job, within, _to_, sharedRanges, headerRanges, hazardRanges, headerWith, headerOf, nextInHeader, nextInHazard, readHazards, readJob, readRest}
+use Rattle.job.specs.Job.{Job, within, _to_, sharedRangesBy, headerRangesBy, hazardRanges, headerWith, headerOf, nextInHeader, nextInHazard, readHazardsBy, readJob, readRestBy}
 use Rattle.job.specs.Writing.{sharedNumbers, lastNumbers, headerNumbers, hazardNumbers, hazardsNumbers, numbersOf, writeNumbers, writeJob}
 use Rattle.job.specs.Rows.{ofHazard, InRanges, Stands, behind}
 use Rattle.job.proofs.StandLaws.{numbers-append, job-behind}
 pub use Rattle.job.proofs.RowLaws.{job-is-written}
-use Rattle.job.proofs.JobLaws.{HeaderFits, HazardFits, JobFits, job-fits}
+use Rattle.job.proofs.JobLaws.{roadTop, HeaderFits, HazardFits, JobFits, job-fits}
 
 -- The tables
 
@@ -29,7 +30,7 @@ in-range : (low high x : ℕ) → low ≤ x → x ≤ high → high ≤ greatest
 in-range low high x l h top = (and-intro (le-leb low x l) (le-leb x high h), omega arith)
 
 last-in : (h : Header) → HeaderFits h → InRanges nextInHeader (sharedNumbers h) (lastNumbers h)
-unfolding headerRanges sharedRanges
+unfolding headerRangesBy sharedRangesBy
 last-in h f = go (eqb (h .kind) 2) refl
   where
     go : (t : Bool) → eqb (h .kind) 2 ≡ t → InRanges nextInHeader (sharedNumbers h) (if t then h .panel ∷ h .count ∷ [] else h .count ∷ [])
@@ -37,13 +38,13 @@ last-in h f = go (eqb (h .kind) 2) refl
     go false e = rw e (in-range 0 256 (h .count) (omega arith) (f .count) (omega arith), tt)
 
 pub header-in : (h : Header) → HeaderFits h → InRanges nextInHeader [] (headerNumbers h)
-unfolding headerRanges sharedRanges
+unfolding headerRangesBy sharedRangesBy
 header-in h f = (
   in-range 1 2 (h .kind) (f .kind-low) (f .kind-top) (omega arith),
   (
-    in-range 0 1999999999 (h .begin) (omega arith) (omega (arith, f .road, f .road-end)) (omega arith),
+    in-range 0 (limits .lastStation - 1) (h .begin) (omega arith) (omega (arith, f .road, f .road-end)) (omega arith),
     (
-      in-range (h .begin + 1) 2000000000 (h .end) (omega (arith, f .road)) (f .road-end) (omega arith),
+      in-range (h .begin + 1) (roadTop limits (h .begin)) (h .end) (omega (arith, f .road)) (omega (arith, f .road-end, f .road-length)) (omega arith),
       (
         in-range 1 200000 (h .forward) (f .forward-low) (f .forward-top) (omega arith),
         (
@@ -76,7 +77,7 @@ header-in h f = (
   ),
 )
 
-hazard-in : (h : Header) (z : Hazard) → h .end ≤ 2000000000 → HazardFits h z → InRanges (nextInHazard h) [] (hazardNumbers z)
+hazard-in : (h : Header) (z : Hazard) → h .end ≤ limits .lastStation → HazardFits h z → InRanges (nextInHazard h) [] (hazardNumbers z)
 unfolding hazardRanges
 hazard-in h z road f = (
   in-range 0 1 (z .side) (omega arith) (f .side) (omega arith),
@@ -108,7 +109,7 @@ header-again h f = go (eqb (h .kind) 2) refl
 
 -- A job that fits reads back from its writing.
 pub job-written : (j : Job) → JobFits j → readJob (writeJob j) ≡ accepted j
-unfolding readRest readHazards writeJob
+unfolding readRestBy readHazardsBy writeJob
 job-written j fits =
     let g = ofHazard (j .header) (j .hazards) in
     let each : (z : Hazard) → List·Memᴰ z (j .hazards) → InRanges (nextInHazard (j .header)) [] (hazardNumbers z) = λ z m. hazard-in (j .header) z (fits .header .road-end) (fits .hazards .each z m) in
@@ -119,8 +120,8 @@ job-written j fits =
 
 -- A number below 128 ^ (g + 1) takes at most g + 1 bytes.
 number-within : (g n : ℕ) → n < 128 ^ suc g → length (writeNumber n) ≤ suc g
-unfolding writeNumber
-number-within g n h = length-below 5 g n h
+unfolding writeNumberBy
+number-within g n h = length-below 6 g n h
 
 last-length : (h : Header) → HeaderFits h → length (writeNumbers (lastNumbers h)) ≤ 4
 unfolding writeNumbers
@@ -136,12 +137,12 @@ last-length h f = go (eqb (h .kind) 2)
     go true = simp length-append (omega (arith, panel, count))
     go false = simp length-append (omega (arith, count))
 
-header-length : (h : Header) → HeaderFits h → length (writeNumbers (headerNumbers h)) ≤ 40
+header-length : (h : Header) → HeaderFits h → length (writeNumbers (headerNumbers h)) ≤ 42
 unfolding writeNumbers
 header-length h f =
     let kind = number-within 0 (h .kind) (omega (arith, f .kind-top)) in
-    let begin = number-within 4 (h .begin) (omega (arith, f .road, f .road-end)) in
-    let end = number-within 4 (h .end) (omega (arith, f .road-end)) in
+    let begin = number-within 5 (h .begin) (omega (arith, f .road, f .road-end)) in
+    let end = number-within 5 (h .end) (omega (arith, f .road-end)) in
     let forward = number-within 2 (h .forward) (omega (arith, f .forward-top)) in
     let opposite = number-within 2 (h .opposite) (omega (arith, f .opposite-top)) in
     let zone = number-within 2 (h .zone) (omega (arith, f .clear-top)) in
@@ -154,18 +155,18 @@ header-length h f =
     let continuity = number-within 2 (h .continuity) (omega (arith, f .continuity-top)) in
     simp length-append (omega (arith, last-length h f))
 
-hazard-length : (h : Header) (z : Hazard) → h .end ≤ 2000000000 → HazardFits h z → length (writeNumbers (hazardNumbers z)) ≤ 18
+hazard-length : (h : Header) (z : Hazard) → h .end ≤ limits .lastStation → HazardFits h z → length (writeNumbers (hazardNumbers z)) ≤ 20
 unfolding writeNumbers
 hazard-length h z road f =
     let side = number-within 0 (z .side) (omega (arith, f .side)) in
-    let start = number-within 4 (z .start) (omega (arith, f .long, f .ends)) in
-    let end = number-within 4 (z .end) (omega (arith, f .ends)) in
+    let start = number-within 5 (z .start) (omega (arith, f .long, f .ends)) in
+    let end = number-within 5 (z .end) (omega (arith, f .ends)) in
     let near = number-within 2 (z .near) (omega (arith, f .offsets, f .far-top)) in
     let far = number-within 2 (z .far) (omega (arith, f .far-top)) in
     let level = number-within 0 (z .level) (omega (arith, f .level-top)) in
     simp length-append (omega arith)
 
-hazards-length : (h : Header) (zs : List Hazard) → h .end ≤ 2000000000 → ((z : Hazard) → List·Memᴰ z zs → HazardFits h z) → length (writeNumbers (hazardsNumbers zs)) ≤ 18 * length zs
+hazards-length : (h : Header) (zs : List Hazard) → h .end ≤ limits .lastStation → ((z : Hazard) → List·Memᴰ z zs → HazardFits h z) → length (writeNumbers (hazardsNumbers zs)) ≤ 20 * length zs
 unfolding hazardsNumbers writeNumbers
 hazards-length h [] road fits = omega arith
 hazards-length h (z ∷ zs) road fits =
@@ -173,12 +174,12 @@ hazards-length h (z ∷ zs) road fits =
     let others = hazards-length h zs road (λ y m. fits y (List·Memᴰ·tail m)) in
     rw (numbers-append (hazardNumbers z) (hazardsNumbers zs), length-append (writeNumbers (hazardNumbers z)) (writeNumbers (hazardsNumbers zs))) (omega arith)
 
--- "No accepted job is that long": 40 bytes of header and 18 of each hazard at most.
-pub written-length : (j : Job) → JobFits j → length (writeJob j) ≤ 4648
+-- "No accepted job is that long": 42 bytes of header and 20 of each hazard at most.
+pub written-length : (j : Job) → JobFits j → length (writeJob j) ≤ 5162
 unfolding writeJob numbersOf
 written-length j fits =
     rw (numbers-append (headerNumbers (j .header)) (hazardsNumbers (j .hazards)), length-append (writeNumbers (headerNumbers (j .header))) (writeNumbers (hazardsNumbers (j .hazards))))
     (omega (arith, header-length (j .header) (fits .header), hazards-length (j .header) (j .hazards) (fits .header .road-end) (fits .hazards .each), fits .hazards .count, fits .header .count))
 
-pub read-length : (s : List ℕ) (j : Job) → Bytes s → readJob s ≡ accepted j → length s ≤ 4648
+pub read-length : (s : List ℕ) (j : Job) → Bytes s → readJob s ≡ accepted j → length s ≤ 5162
 read-length s j b e = omega (arith, ap length (job-is-written s j b e), written-length j (job-fits s j e))

@@ -1,13 +1,14 @@
 -- The job in bytes: its header and hazards, and its reading with refusals 1 to 4 and 7 in their order.
 -- Assumes nothing.
-use Prim.Native.Nat.{ℕ, zero, suc, _+_, _-_}
+use Prim.Native.Nat.{ℕ, zero, suc, _+_, _-_, min}
 use mathlib.Core.Bool.{Bool, _&&_}
 use mathlib.Core.List.{List, [], _∷_, _++_, map}
 use lib.ListN.{length, getD, take}
 use lib.Dec.{leb, eqb}
 use Rattle.refusal.specs.Choice.{if_then_else_}
 use Rattle.refusal.specs.Answer.{Answer, accepted, _>>=_, unless-refuse}
-use Rattle.number.specs.Number.{numberAt}
+use Rattle.refusal.specs.Limits.{Limits, limits}
+use Rattle.number.specs.Number.{numberAtBy}
 use Rattle.job.specs.declared.Header.{Header}
 use Rattle.job.specs.declared.Hazard.{Hazard}
 use Rattle.job.specs.declared.NamedHazard.{NamedHazard}
@@ -43,14 +44,14 @@ abbrev pub within : Range → ℕ → Bool
 within r x = leb (r .low) x && leb x (r .high)
 
 -- The header table's ranges, in order, where the road begins at A: the thirteen numbers that every kind has.
-unfoldable pub sharedRanges : (A : ℕ) → List Range
-sharedRanges A =
+unfoldable pub sharedRangesBy : Limits → (A : ℕ) → List Range
+sharedRangesBy L A =
     -- 1: kind; 2 by document 02, request 4
     1 to 2
-    -- 2: A, road begin
-    ∷ 0 to 1999999999
-    -- 3: B, road end
-    ∷ (A + 1) to 2000000000
+    -- 2: A, road begin: "may now reach 999,999,999,999"
+    ∷ 0 to (L .lastStation - 1)
+    -- 3: B, road end: "1,000,000,000,000, B − A at most 2,000,000,000"
+    ∷ (A + 1) to min (L .lastStation) (A + L .longestRoad)
     -- 4: LF, runout length of forward traffic (rising stations)
     ∷ 1 to 200000
     -- 5: LO, runout length of opposite traffic; 0 means one-way or separated
@@ -72,13 +73,19 @@ sharedRanges A =
     ∷ 0 to 200000
     ∷ []
 
+abbrev pub sharedRanges : (A : ℕ) → List Range
+sharedRanges = sharedRangesBy limits
+
 -- And those after G, by kind. Of kind 1, 14: h, hazard count. Document 02, request 4: "A kind 2 job has one more header number after G: panel
 -- length, 1 to 10,000. .. Number 15 is then the hazard count."
 abbrev pub lastRanges : (kind : ℕ) → List Range
 lastRanges kind = if eqb kind 2 then 1 to 10000 ∷ 0 to 256 ∷ [] else 0 to 256 ∷ []
 
-unfoldable pub headerRanges : (kind A : ℕ) → List Range
-headerRanges kind A = sharedRanges A ++ lastRanges kind
+unfoldable pub headerRangesBy : Limits → (kind A : ℕ) → List Range
+headerRangesBy L kind A = sharedRangesBy L A ++ lastRanges kind
+
+abbrev pub headerRanges : (kind A : ℕ) → List Range
+headerRanges = headerRangesBy limits
 
 -- "Header, 14 numbers"; of a kind 2 job 15 (law header-size). The last is the hazard count.
 abbrev pub headerSize : (kind : ℕ) → ℕ
@@ -89,8 +96,11 @@ unfoldable pub hazardRanges : (A B s n : ℕ) → List Range
 hazardRanges A B s n = 0 to 1 ∷ A to (B - 1) ∷ (s + 1) to B ∷ 0 to 60000 ∷ n to 60000 ∷ 1 to 6 ∷ []
 
 -- The range of the next number, after the numbers `got`.
+abbrev pub nextInHeaderBy : Limits → (got : List ℕ) → Range
+nextInHeaderBy L got = getD (headerRangesBy L (getD got 0 0) (getD got 1 0)) (length got) (0 to 0)
+
 abbrev pub nextInHeader : (got : List ℕ) → Range
-nextInHeader got = getD (headerRanges (getD got 0 0) (getD got 1 0)) (length got) (0 to 0)
+nextInHeader = nextInHeaderBy limits
 
 abbrev pub nextInHazard : Header → (got : List ℕ) → Range
 nextInHazard h got = getD (hazardRanges (h .begin) (h .end) (getD got 1 0) (getD got 3 0)) (length got) (0 to 0)
@@ -103,22 +113,28 @@ pub record Fields : Type 0 where
   pub next : ℕ
 
 -- "Numbers as they stand, each for 1, 2 and its range": k more after `got`. Out of range is the refusal `number`, with a value that the numbers before it give.
-unfoldable pub readFields : (rangeOf : List ℕ → Range) (number : ℕ) (valueOf : List ℕ → ℕ) (k : ℕ) (got s : List ℕ) (at : ℕ) → Answer Fields
-readFields rangeOf number valueOf zero got s at = accepted (record { numbers = got; next = at })
-readFields rangeOf number valueOf (suc k) got s at =
-    numberAt s at >>= λ x.
+unfoldable pub readFieldsBy : Limits → (rangeOf : List ℕ → Range) (number : ℕ) (valueOf : List ℕ → ℕ) (k : ℕ) (got s : List ℕ) (at : ℕ) → Answer Fields
+readFieldsBy L rangeOf number valueOf zero got s at = accepted (record { numbers = got; next = at })
+readFieldsBy L rangeOf number valueOf (suc k) got s at =
+    numberAtBy L s at >>= λ x.
     unless-refuse (within (rangeOf got) (x .value)) number (valueOf got) >>= λ _.
-    readFields rangeOf number valueOf k (got ++ x .value ∷ []) s (x .next)
+    readFieldsBy L rangeOf number valueOf k (got ++ x .value ∷ []) s (x .next)
+
+abbrev pub readFields : (rangeOf : List ℕ → Range) (number : ℕ) (valueOf : List ℕ → ℕ) (k : ℕ) (got s : List ℕ) (at : ℕ) → Answer Fields
+readFields = readFieldsBy limits
 
 -- How many header numbers are still to come after the first fourteen, `got`, of which the first is the kind.
 abbrev pub moreNumbers : (got : List ℕ) → ℕ
 moreNumbers got = headerSize (getD got 0 0) - 14
 
 -- Refusal 3 returns the header number, 1 to 14, of a kind 2 job to 15.
-unfoldable pub readHeader : (s : List ℕ) → Answer Fields
-readHeader s =
-    readFields nextInHeader 3 (λ got. length got + 1) 14 [] s 0 >>= λ f.
-    readFields nextInHeader 3 (λ got. length got + 1) (moreNumbers (f .numbers)) (f .numbers) s (f .next)
+unfoldable pub readHeaderBy : Limits → (s : List ℕ) → Answer Fields
+readHeaderBy L s =
+    readFieldsBy L (nextInHeaderBy L) 3 (λ got. length got + 1) 14 [] s 0 >>= λ f.
+    readFieldsBy L (nextInHeaderBy L) 3 (λ got. length got + 1) (moreNumbers (f .numbers)) (f .numbers) s (f .next)
+
+abbrev pub readHeader : (s : List ℕ) → Answer Fields
+readHeader = readHeaderBy limits
 
 -- The thirteen numbers that every kind has, a panel length and a hazard count.
 abbrev pub headerWith : List ℕ → (panel count : ℕ) → Header
@@ -172,19 +188,28 @@ pub record Hazards : Type 0 where
   pub next : ℕ
 
 -- k more hazards after those in `got`. Refusal 4 returns the hazard's index from 0.
-unfoldable pub readHazards : Header → (k : ℕ) (got : List Hazard) (s : List ℕ) (at : ℕ) → Answer Hazards
-readHazards h zero got s at = accepted (record { list = got; next = at })
-readHazards h (suc k) got s at =
-    readFields (nextInHazard h) 4 (λ _. length got) 6 [] s at >>= λ z.
-    readHazards h k (got ++ hazardOf (z .numbers) ∷ []) s (z .next)
+unfoldable pub readHazardsBy : Limits → Header → (k : ℕ) (got : List Hazard) (s : List ℕ) (at : ℕ) → Answer Hazards
+readHazardsBy L h zero got s at = accepted (record { list = got; next = at })
+readHazardsBy L h (suc k) got s at =
+    readFieldsBy L (nextInHazard h) 4 (λ _. length got) 6 [] s at >>= λ z.
+    readHazardsBy L h k (got ++ hazardOf (z .numbers) ∷ []) s (z .next)
+
+abbrev pub readHazards : Header → (k : ℕ) (got : List Hazard) (s : List ℕ) (at : ℕ) → Answer Hazards
+readHazards = readHazardsBy limits
 
 -- What follows the header: k more hazards after those in `got`. "No field may be missing. Nothing follows": refusal 7 returns the index
 -- of the first byte left over.
-unfoldable pub readRest : Header → (k : ℕ) (got : List Hazard) (s : List ℕ) (at : ℕ) → Answer Job
-readRest h k got s at =
-    readHazards h k got s at >>= λ r.
+unfoldable pub readRestBy : Limits → Header → (k : ℕ) (got : List Hazard) (s : List ℕ) (at : ℕ) → Answer Job
+readRestBy L h k got s at =
+    readHazardsBy L h k got s at >>= λ r.
     unless-refuse (leb (length s) (r .next)) 7 (r .next) >>= λ _.
     accepted (record { header = h; hazards = r .list })
 
-unfoldable pub readJob : (s : List ℕ) → Answer Job
-readJob s = readHeader s >>= λ f. let h = headerOf (f .numbers) in readRest h (h .count) [] s (f .next)
+abbrev pub readRest : Header → (k : ℕ) (got : List Hazard) (s : List ℕ) (at : ℕ) → Answer Job
+readRest = readRestBy limits
+
+unfoldable pub readJobBy : Limits → (s : List ℕ) → Answer Job
+readJobBy L s = readHeaderBy L s >>= λ f. let h = headerOf (f .numbers) in readRestBy L h (h .count) [] s (f .next)
+
+abbrev pub readJob : (s : List ℕ) → Answer Job
+readJob = readJobBy limits

@@ -99,11 +99,11 @@ pub record BytesAfter (s : List ℕ) (at : ℕ) : Type 0 where
 abbrev pub ReadRow : Refusal → (s : List ℕ) → Type 0
 -- 1: "byte index where that number begins"; "job bytes end before or inside a number".
 ReadRow (Ended at) s = Unread EndsInside s at
--- 2: "byte index where it begins"; "its fifth byte has the top bit set, or its value is too great, or it isn't in shortest form".
+-- 2: "byte index where it begins"; its sixth byte has the top bit set, "or it isn't in shortest form".
 ReadRow (Malformed at) s = Unread IllFormed s at
 -- 3: "header number 1 to 14", of a kind 2 job to 15; "header number outside its range".
 ReadRow (HeaderRange number) s = (got : List ℕ) × OutOfRange s ofHeader got × (number ≡ length got + 1)
--- 4: "hazard index from 0"; "hazard field outside its range".
+-- 4: "hazard index from 0"; "hazard field outside its range". "A value too great for its field is 3 or 4."
 ReadRow (HazardRange index) s = (h : Header) × (before : List Hazard) × (got : List ℕ) × OutOfRange s (ofHazard h before) got × (index ≡ length before)
 -- 7: "index of first byte left over"; "bytes after the last hazard".
 ReadRow (LeftOver at) s = BytesAfter s at

@@ -7,7 +7,7 @@ ghost use Rattle.job.specs.Reply.{fieldAt, fieldAnswer};
 
 // A number that was read, and the index behind it.
 pub struct Reading {
-    pub value: u32,
+    pub value: u64,
     pub next: usize,
 }
 
@@ -17,7 +17,7 @@ pub enum Field {
 }
 
 // The number at an index, from low to high; `outside` is the refusal of one that is not.
-pub fn read_field(s: &[u8], at: usize, low: u32, high: u32, outside: Refusal) -> Field
+pub fn read_field(s: &[u8], at: usize, low: u64, high: u64, outside: Refusal) -> Field
     ensures { λ r. ⌜ fieldAnswer r ≡ fieldAt (low to high) outside (now (s .entry)) at ⌝ }
 {
     match number::read_number(s, at) {

@@ -2,6 +2,7 @@
 use super::Header;
 use super::field::Field;
 use super::field::read_field;
+use super::road_top;
 use refusal::Refusal;
 ghost use mathlib.Core.Path.{_≡_};
 ghost use Prim.Native.Nat.{_<_, _≤_};
@@ -16,12 +17,12 @@ pub enum HeaderRead {
 }
 
 // The ends of a range, both included: low, then high.
-pub struct Bounds(pub u32, pub u32);
+pub struct Bounds(pub u64, pub u64);
 
 // The header table's ranges of kind 2, where the road begins at 0. Kind 1 has no panel length, and its hazard count is number 14.
 const RANGES: [Bounds; 15] = [
     Bounds(1, 2), // 1: kind
-    Bounds(0, 1999999999), // 2: A
+    Bounds(0, 999999999999), // 2: A
     Bounds(1, 2000000000), // 3: B, here above A = 0
     Bounds(1, 200000), // 4: LF
     Bounds(0, 200000), // 5: LO
@@ -38,21 +39,21 @@ const RANGES: [Bounds; 15] = [
 ];
 
 // How many numbers a header has.
-pub fn header_size(kind: u32) -> usize
+pub fn header_size(kind: u64) -> usize
     ensures { λ r. ⌜ r ≡ headerSize kind ⌝ }
 {
     if kind == 2 { 15 } else { 14 }
 }
 
 // The range of the header number behind k others, where the road begins at begin; the road's end lies behind that.
-fn header_range(k: usize, kind: u32, begin: u32) -> Bounds
+fn header_range(k: usize, kind: u64, begin: u64) -> Bounds
     requires { ⌜ k < 14 ⌝ }
-    requires { ⌜ begin ≤ 1999999999 ⌝ }
+    requires { ⌜ begin ≤ 999999999999 ⌝ }
     ensures { λ r. ⌜ (r .0) to (r .1) ≡ getD (headerRanges kind begin) k (0 to 0) ⌝ }
 {
     let range = RANGES[k];
     if k == 2 {
-        return Bounds(begin + 1, range.1);
+        return Bounds(begin + 1, road_top(begin));
     }
     if k == 13 {
         if kind == 2 {
@@ -64,7 +65,7 @@ fn header_range(k: usize, kind: u32, begin: u32) -> Bounds
 }
 
 // The numbers by their names.
-pub fn header_with(numbers: [u32; 14], panel: u32, count: u32) -> Header
+pub fn header_with(numbers: [u64; 14], panel: u64, count: u64) -> Header
     ensures { λ r. ⌜ r ≡ headerWith numbers panel count ⌝ }
 {
     Header {
@@ -87,7 +88,7 @@ pub fn header_with(numbers: [u32; 14], panel: u32, count: u32) -> Header
 }
 
 // The fifteenth number of a kind 2 header, behind the fourteen before it.
-fn read_count(s: &[u8], numbers: [u32; 14], at: usize) -> HeaderRead
+fn read_count(s: &[u8], numbers: [u64; 14], at: usize) -> HeaderRead
     requires { ⌜ length numbers ≡ 14 ⌝ }
     requires { ⌜ getD numbers 0 0 ≡ 2 ⌝ }
     ensures { λ r. ⌜ headerAnswer r ≡ headerFrom numbers (now (s .entry)) at ⌝ }
@@ -105,7 +106,7 @@ fn read_count(s: &[u8], numbers: [u32; 14], at: usize) -> HeaderRead
 pub fn read_header(s: &[u8]) -> HeaderRead
     ensures { λ r. ⌜ headerAnswer r ≡ headerAt (now (s .entry)) ⌝ }
 {
-    let mut numbers = [0u32; 14];
+    let mut numbers = [0u64; 14];
     let mut at: usize = 0;
     let mut k: usize = 0;
     while k < 14 {

@@ -5,56 +5,57 @@ mod hazard_fields; // a hazard
 pub mod read; // the job
 
 ghost use mathlib.Core.Path.{_≡_};
+ghost use Prim.Native.Nat.{_+_, _≤_, min};
 ghost use Rattle.job.specs.Job as specs;
 
 // The header, in the paper's order.
 #[repr(C)]
 pub struct Header {
-    pub kind: u32,
+    pub kind: u64,
     // A and B: the road is [begin, end).
-    pub begin: u32,
-    pub end: u32,
+    pub begin: u64,
+    pub end: u64,
     // LF and LO: the runout lengths of forward and of opposite traffic; LO = 0 means one-way or separated.
-    pub forward: u32,
-    pub opposite: u32,
+    pub forward: u64,
+    pub opposite: u64,
     // C: the clear-zone width.
-    pub zone: u32,
+    pub zone: u64,
     // W: from the travelled-way edge to the centreline.
-    pub way: u32,
+    pub way: u64,
     // M: the barrier's offset from that edge.
-    pub offset: u32,
+    pub offset: u64,
     // D: the deflection allowance.
-    pub deflection: u32,
+    pub deflection: u64,
     // The flare, b across for a along: a, then b.
-    pub along: u32,
-    pub across: u32,
+    pub along: u64,
+    pub across: u64,
     // T: the straight barrier before the flare.
-    pub straight: u32,
+    pub straight: u64,
     // G: the continuity limit.
-    pub continuity: u32,
+    pub continuity: u64,
     // The panel length; 1 in a job of kind 1.
-    pub panel: u32,
+    pub panel: u64,
     // h: the hazard count.
-    pub count: u32,
+    pub count: u64,
 }
 
 // A hazard [start, end) between a near and a far offset, on a side (0 right, 1 left), with its containment level.
 pub struct Hazard {
-    pub start: u32,
-    pub end: u32,
-    pub near: u32,
-    pub far: u32,
+    pub start: u64,
+    pub end: u64,
+    pub near: u16,
+    pub far: u16,
     pub side: u8,
     pub level: u8,
 }
 
-// A hazard as it is stored, with a name: 20 bytes without a gap. In a job that was read from bytes every name is 0.
+// A hazard as it is stored, with a name: 24 bytes without a gap. In a job that was read from bytes every name is 0.
 #[repr(C)]
 pub struct NamedHazard {
-    pub start: u32,
-    pub end: u32,
-    pub near: u32,
-    pub far: u32,
+    pub start: u64,
+    pub end: u64,
+    pub near: u16,
+    pub far: u16,
     pub name: u16,
     pub side: u8,
     pub level: u8,
@@ -65,6 +66,19 @@ pub struct NamedHazard {
 pub struct StoredJob {
     pub header: Header,
     pub hazards: [NamedHazard; 256],
+}
+
+// Where a road that begins there may end at most.
+pub fn road_top(begin: u64) -> u64
+    requires { ⌜ begin ≤ 999999999999 ⌝ }
+    ensures { λ r. ⌜ r ≡ min 1000000000000 (begin + 2000000000) ⌝ }
+{
+    let longest = begin + 2000000000;
+    if longest < 1000000000000 {
+        longest
+    } else {
+        1000000000000
+    }
 }
 
 pub fn named(name: u16, z: Hazard) -> NamedHazard

@@ -15,7 +15,7 @@ use Rattle.job.specs.declared.NamedHazard.{NamedHazard}
 use Rattle.job.specs.Reply.{unused}
 use Rattle.open_memory.specs.Memory.{isUnused}
 use Rattle.open_memory.proofs.RangeLaws.{and-assoc}
-use Rattle.kept_states.specs.Parts.{wordsUnused, restOf}
+use Rattle.kept_states.specs.Parts.{restOf}
 
 -- Sums that are 0
 
@@ -36,52 +36,36 @@ zero-same x a to from = go (ℕ-discrete a 0)
 
 -- One place
 
-place-unused : (p : NamedHazard) → isUnused p ≡ (wordsUnused p && eqb (restOf p) 0)
+pub place-unused : (p : NamedHazard) → (eqb (p .start) 0 && eqb (p .end) 0 && eqb (restOf p) 0) ≡ isUnused p
 unfolding isUnused
 place-unused p =
-    let side : eqb (p .side * 65536) 0 ≡ eqb (p .side) 0 = zero-same (p .side * 65536) (p .side) (λ e. omega arith) (λ e. omega arith) in
-    let level : eqb (p .level * 16777216) 0 ≡ eqb (p .level) 0 = zero-same (p .level * 16777216) (p .level) (λ e. omega arith) (λ e. omega arith) in
-    let rest : eqb (restOf p) 0 ≡ (eqb (p .name) 0 && eqb (p .side) 0 && eqb (p .level) 0) =
-    sum-zero (p .name + p .side * 65536) (p .level * 16777216) ∙ ap₂ _&&_ (sum-zero (p .name) (p .side * 65536) ∙ ap (λ (b : Bool). eqb (p .name) 0 && b) side) level in
-    rw rest (four (wordsUnused p) (eqb (p .name) 0) (eqb (p .side) 0) (eqb (p .level) 0))
+    let near = p .near in
+    let far = p .far * 65536 in
+    let name = p .name * 4294967296 in
+    let side = p .side * 281474976710656 in
+    let level = p .level * 72057594037927936 in
+    rw (
+      sum-zero (near + far + name + side) level,
+      sum-zero (near + far + name) side,
+      sum-zero (near + far) name,
+      sum-zero near far,
+      zero-same far (p .far) (λ e. omega arith) (λ e. omega arith),
+      zero-same name (p .name) (λ e. omega arith) (λ e. omega arith),
+      zero-same side (p .side) (λ e. omega arith) (λ e. omega arith),
+      zero-same level (p .level) (λ e. omega arith) (λ e. omega arith),
+    )
+    (five (eqb (p .start) 0 && eqb (p .end) 0) (eqb (p .near) 0) (eqb (p .far) 0) (eqb (p .name) 0) (eqb (p .side) 0) (eqb (p .level) 0))
   where
-    four : (w a b c : Bool) → (((w && a) && b) && c) ≡ (w && ((a && b) && c))
-    four true a b c = refl
-    four false a b c = refl
+    five : (w a b c d e : Bool) → (w && ((((a && b) && c) && d) && e)) ≡ (((((w && a) && b) && c) && d) && e)
+    five true a b c d e = refl
+    five false a b c d e = refl
 
 -- Several
 
-restOfAll : List NamedHazard → ℕ
-restOfAll [] = 0
-restOfAll (p ∷ ps) = restOf p + restOfAll ps
-
-places-unused : (ps : List NamedHazard) → (allOf wordsUnused ps && eqb (restOfAll ps) 0) ≡ allOf isUnused ps
-unfolding allOf restOfAll
-places-unused [] = refl
-places-unused (p ∷ ps) =
-    ap (λ (b : Bool). wordsUnused p && allOf wordsUnused ps && b) (sum-zero (restOf p) (restOfAll ps))
-    ∙ across (wordsUnused p) (allOf wordsUnused ps) (eqb (restOf p) 0) (eqb (restOfAll ps) 0)
-    ∙ ap₂ _&&_ (sym (place-unused p)) (places-unused ps)
-  where
-    across : (a b c d : Bool) → ((a && b) && (c && d)) ≡ ((a && c) && (b && d))
-    across true true c d = refl
-    across true false true d = refl
-    across true false false d = refl
-    across false b c d = refl
-
-module _ (a b c d e f g h : NamedHazard) where
-  abbrev eight : List NamedHazard
-  eight = a ∷ b ∷ c ∷ d ∷ e ∷ f ∷ g ∷ h ∷ []
-
-  pub eight-unused :
-      (wordsUnused a && wordsUnused b && wordsUnused c && wordsUnused d && wordsUnused e && wordsUnused f && wordsUnused g && wordsUnused h
-      && eqb (restOf a + restOf b + restOf c + restOf d + restOf e + restOf f + restOf g + restOf h) 0)
-      ≡ allOf isUnused eight
-  unfolding allOf restOfAll
-  eight-unused =
-      let words : (wordsUnused a && wordsUnused b && wordsUnused c && wordsUnused d && wordsUnused e && wordsUnused f && wordsUnused g && wordsUnused h) ≡ allOf wordsUnused eight = simp (and-assoc, and-true) in
-      let rest : restOf a + restOf b + restOf c + restOf d + restOf e + restOf f + restOf g + restOf h ≡ restOfAll eight = omega arith in
-      ap₂ (λ (w : Bool) (r : ℕ). w && eqb r 0) words rest ∙ places-unused eight
+pub eight-unused : (a b c d e f g h : NamedHazard)
+    → (isUnused a && isUnused b && isUnused c && isUnused d && isUnused e && isUnused f && isUnused g && isUnused h) ≡ allOf isUnused (a ∷ b ∷ c ∷ d ∷ e ∷ f ∷ g ∷ h ∷ [])
+unfolding allOf
+eight-unused a b c d e f g h = simp (and-assoc, and-true)
 
 -- The places passed are unused, or not; those from index 8 k on are left.
 pub record PlacesLeft (l : List NamedHazard) (unused? : Bool) (k : ℕ) : Type 0 where

@@ -21,7 +21,7 @@ use Rattle.open_job.proofs.CallLaws.{add-bad, withdraw-bad, schedule-bad}
 use Rattle.schedule.specs.Plan.{PlannedSide}
 use Rattle.kept_states.specs.declared.KeptState.{KeptState}
 use Rattle.kept_states.specs.declared.OpenStates.{OpenStates}
-use Rattle.kept_states.specs.States.{mostKept, greatestStateNumber, nothingKept, keptFrom, stateOf, isUsed, keptSound, keptStates, keptUnder, statesFrom, areOpenStates, openStates, addIn, withdrawIn, scheduleIn, keepIn, returnIn}
+use Rattle.kept_states.specs.States.{mostKept, greatestStateNumber, nothingKept, keptFrom, stateOf, isUsed, keptSound, keptStates, keptUnder, statesFrom, areOpenStates, openStatesBy, openStates, addIn, withdrawIn, scheduleIn, keepIn, returnIn}
 use Rattle.kept_states.specs.Parts.{alsoSound, chosen, emptied, addPart, withdrawPart, schedulePart, testNumber, returnPart}
 
 -- The kept states, tested one after the other.
@@ -177,7 +177,7 @@ module _ (m : OpenStates) where
   }
 
   pub open-whole : (s : List ℕ) → (eachEmptied (isAccepted (openJob s)) (memoryAfter (openJob s) (m .now)) ≡ memoryAfter (openStates s) m) × (replied (openJob s) ≡ replied (openStates s))
-  unfolding openStates emptied
+  unfolding openStatesBy emptied
   open-whole s = go (openJob s)
     where
       go : (a : Answer StoredJob)

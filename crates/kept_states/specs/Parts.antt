@@ -17,12 +17,9 @@ use Rattle.kept_states.specs.States.{greatestStateNumber, nothingKept, s
 
 -- A place, as it is compared with 0
 
--- The four numbers of 32 bits, and the others side by side.
-abbrev pub wordsUnused : NamedHazard → Bool
-wordsUnused p = eqb (p .start) 0 && eqb (p .end) 0 && eqb (p .near) 0 && eqb (p .far) 0
-
+-- A place's numbers of fewer than 64 bits side by side, as they lie in memory: the offsets in the lower 32 bits, then name, side and level.
 abbrev pub restOf : NamedHazard → ℕ
-restOf p = p .name + p .side * 65536 + p .level * 16777216
+restOf p = p .near + p .far * 65536 + p .name * 4294967296 + p .side * 281474976710656 + p .level * 72057594037927936
 
 -- One kept state
 

@@ -7,13 +7,14 @@ use lib.ListN.{replicate, getD, set}
 use lib.Dec.{leb, eqb}
 use Rattle.refusal.specs.Choice.{allOf}
 use Rattle.refusal.specs.Answer.{Answer, accepted, _>>=_, unless-refuse}
+use Rattle.refusal.specs.Limits.{Limits, limits}
 use Rattle.job.specs.declared.Header.{Header}
 use Rattle.job.specs.declared.Hazard.{Hazard}
 use Rattle.job.specs.declared.StoredJob.{StoredJob}
 use Rattle.job.specs.Reply.{unused}
 use Rattle.schedule.specs.Plan.{PlannedSide}
 use Rattle.open_memory.specs.Memory.{mostStanding, counted, isUnused, isOpenJob}
-use Rattle.open_job.specs.Open.{openJob, addTo, withdrawFrom, scheduleOf}
+use Rattle.open_job.specs.Open.{openJobBy, addTo, withdrawFrom, scheduleOf}
 use Rattle.kept_states.specs.declared.KeptState.{KeptState}
 use Rattle.kept_states.specs.declared.OpenStates.{OpenStates}
 
@@ -79,8 +80,11 @@ areOpenStates m = isOpenJob (m .now) && allOf (keptSound (m .now .header)) (kept
 -- The calls
 
 -- "Opening empties all eight."
-unfoldable pub openStates : (s : List ℕ) → Answer OpenStates
-openStates s = openJob s >>= λ a. accepted (statesFrom a (replicate mostKept nothingKept))
+unfoldable pub openStatesBy : Limits → (s : List ℕ) → Answer OpenStates
+openStatesBy L s = openJobBy L s >>= λ a. accepted (statesFrom a (replicate mostKept nothingKept))
+
+abbrev pub openStates : (s : List ℕ) → Answer OpenStates
+openStates = openStatesBy limits
 
 -- Add, withdraw and schedule are calls on the state now; what is kept stays. (Their own test of the state now is met here.)
 unfoldable pub addIn : OpenStates → (name : ℕ) → Hazard → Answer OpenStates

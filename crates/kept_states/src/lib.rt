@@ -10,8 +10,8 @@ mod unused; // are all places of a kept state 0
 // that of the state now.
 #[repr(C)]
 pub struct KeptState {
-    pub used: u32,
-    pub count: u32,
+    pub used: u64,
+    pub count: u64,
     pub hazards: [NamedHazard; 256],
 }
 

@@ -4,24 +4,25 @@ use super::KeptState;
 use job::NamedHazard;
 ghost use mathlib.Core.Path.{_≡_};
 ghost use mathlib.Core.List.{[], _∷_};
-ghost use Prim.Native.Nat.{_≤_};
 ghost use Rattle.refusal.specs.Choice.{allOf};
 ghost use Rattle.open_memory.specs.Memory.{isUnused};
-ghost use Rattle.kept_states.specs.Parts.{wordsUnused, restOf};
+ghost use Rattle.kept_states.specs.Parts.{restOf};
 
-// The four numbers of 32 bits are 0.
-fn words_unused(p: NamedHazard) -> bool
-    ensures { λ r. ⌜ r ≡ wordsUnused p ⌝ }
-{
-    (p.start == 0) & (p.end == 0) & (p.near == 0) & (p.far == 0)
-}
-
-// The others side by side, as they lie in memory: name in the lower 16 bits, then side, then level.
+// The numbers of fewer than 64 bits side by side, as they lie in memory: the offsets in the lower 32 bits, then name, side and level.
 fn rest_of(p: NamedHazard) -> u64
     ensures { λ r. ⌜ r ≡ restOf p ⌝ }
-    ensures { λ r. ⌜ r ≤ 4294967295 ⌝ }
 {
-    p.name as u64 + p.side as u64 * 65536 + p.level as u64 * 16777216
+    p.near as u64
+        + p.far as u64 * 65536
+        + p.name as u64 * 4294967296
+        + p.side as u64 * 281474976710656
+        + p.level as u64 * 72057594037927936
+}
+
+fn place_unused(p: NamedHazard) -> bool
+    ensures { λ r. ⌜ r ≡ isUnused p ⌝ }
+{
+    (p.start == 0) & (p.end == 0) & (rest_of(p) == 0)
 }
 
 fn eight_unused(
@@ -36,23 +37,14 @@ fn eight_unused(
 ) -> bool
     ensures { λ r. ⌜ r ≡ allOf isUnused (a ∷ b ∷ c ∷ d ∷ e ∷ f ∷ g ∷ h ∷ []) ⌝ }
 {
-    let words = words_unused(a)
-        & words_unused(b)
-        & words_unused(c)
-        & words_unused(d)
-        & words_unused(e)
-        & words_unused(f)
-        & words_unused(g)
-        & words_unused(h);
-    let rest = rest_of(a)
-        + rest_of(b)
-        + rest_of(c)
-        + rest_of(d)
-        + rest_of(e)
-        + rest_of(f)
-        + rest_of(g)
-        + rest_of(h);
-    words & (rest == 0)
+    place_unused(a)
+        & place_unused(b)
+        & place_unused(c)
+        & place_unused(d)
+        & place_unused(e)
+        & place_unused(f)
+        & place_unused(g)
+        & place_unused(h)
 }
 
 pub fn all_unused(kept: KeptState) -> bool

@@ -1,24 +1,23 @@
--- Exactly which bytes are ended inside a number, and which are malformed; 32 bits hold every value that is read.
+-- Exactly which bytes are ended inside a number, and which are malformed; 64 bits hold every value that is read.
 -- Assumes nothing.
 use Prim.Native.Nat.{ℕ, zero, suc, _+_, _-_, _*_, _^_, _≤_, _<_}
-use native.Mathlib.Nat.{mul-assoc, pow-succ'}
+use native.Mathlib.Nat.{pow-le-pow-right, pow-succ'}
 use native.Mathlib.Omega.{arith}
 use native.Mathlib.Decide.{decLt, decLe}
 use mathlib.Core.Path.{_≡_, refl, sym, ap, _∙_}
 use mathlib.Core.Logic.{_↔_, _⊎_, inl, inr}
 use mathlib.Core.Bool.{Bool, true, false, _&&_}
-use mathlib.Core.List.{List, [], _∷_, _++_, append-assoc, List·Memᴰ·head, List·Memᴰ·tail, List·Memᴰ·not-nil}
-use lib.ListN.{length, drop, length-append}
-use lib.Dec.{leb, eqb}
-use borrow.Author.Tests.{lt-leb, le-leb, eqb-false, ne-eqb}
+use mathlib.Core.List.{List, [], _∷_, _++_, List·Memᴰ·head, List·Memᴰ·tail, List·Memᴰ·not-nil}
+use lib.ListN.{length, drop}
+use lib.Dec.{ltb, leb, eqb}
+use borrow.Author.Tests.{ltb-true, lt-leb, le-leb, eqb-false, ne-eqb}
 use Rattle.refusal.specs.Choice.{if_then_else_}
-use Rattle.refusal.specs.Answer.{refused}
-use Rattle.refusal.proofs.EachLaws.{cons-each, snoc-each}
+use Rattle.refusal.proofs.EachLaws.{cons-each}
 use Rattle.number.specs.declared.Read.{Read}
 use Rattle.number.specs.declared.Read.the-variants.{Number, Ended, Malformed}
-use Rattle.number.specs.Number.{writeNumber, mostGroups, greatest, groupCount, Scan, cut, overlong, whole, prefixed, scan, judged, readNumber, readingOf, numberAt}
-use Rattle.number.specs.Form.{TopBits, EndsInside, IllFormed, fifth, great, long}
-use Rattle.number.proofs.NumberLaws.{scan-last, scan-more, group-count, read-bounds}
+use Rattle.number.specs.Number.{writeNumber, mostGroups, greatest, groupCount, Scan, cut, overlong, whole, prefixed, scan, judged, readNumberBy, readNumber}
+use Rattle.number.specs.Form.{TopBits, EndsInside, IllFormed, sixth, long}
+use Rattle.number.proofs.NumberLaws.{scan-last, scan-more, group-count, read-bounds, Bytes, tail-bytes, drop-bytes}
 
 -- Scans
 
@@ -35,21 +34,24 @@ scan-overlong [] rest t = refl
 scan-overlong (x ∷ xs) rest t =
     scan-more (length xs) x (xs ++ rest) (t x (List·Memᴰ·head refl)) ∙ ap (prefixed (x - 128)) (scan-overlong xs rest (λ y m. t y (List·Memᴰ·tail m)))
 
--- A group without the top bit ends the number, which is no less than what that group makes.
-record Ends (head : List ℕ) (last : ℕ) (rest : List ℕ) : Type 0 where
-  value : ℕ
-  ends : scan (suc (length head)) (head ++ last ∷ rest) ≡ whole value (suc (length head))
-  least : 128 ^ length head * last ≤ value
+-- Groups that are bytes make a value that as many groups hold.
+scan-most : (k : ℕ) (s : List ℕ) (v n : ℕ) → Bytes s → scan k s ≡ whole v n → v < 128 ^ k
+unfolding scan
+scan-most zero s v n b e = let z : _≡_ {A = ℕ} 0 1 = cc in absurd (omega arith)
+scan-most (suc k) [] v n b e = let z : _≡_ {A = ℕ} 0 1 = cc in absurd (omega arith)
+scan-most (suc k) (x ∷ xs) v n b e = go (ltb x 128) refl e (λ w m. scan-most k xs w m (tail-bytes b))
+  where
+    some : 1 ≤ 128 ^ k
+    some = pow-le-pow-right {n = 128} (omega arith) {i = 0} {j = k} (omega arith)
 
-scan-ends : (head : List ℕ) (last : ℕ) (rest : List ℕ) → TopBits head → last < 128 → Ends head last rest
-scan-ends [] last rest t h = record { value = last; ends = scan-last 0 last rest h; least = omega arith }
-scan-ends (x ∷ xs) last rest t h =
-    let r = scan-ends xs last rest (λ y m. t y (List·Memᴰ·tail m)) h in
-    record {
-      value = x - 128 + 128 * r .value;
-      ends = scan-more (suc (length xs)) x (xs ++ last ∷ rest) (t x (List·Memᴰ·head refl)) ∙ ap (prefixed (x - 128)) (r .ends);
-      least = rw (pow-succ' 128 (length xs), mul-assoc 128 (128 ^ length xs) last) (omega (arith, r .least));
-    }
+    inner : (c : Scan) → scan k xs ≡ c → prefixed (x - 128) c ≡ whole v n → ((w m : ℕ) → scan k xs ≡ whole w m → w < 128 ^ k) → v < 128 ^ suc k
+    inner cut p q r = let z : _≡_ {A = ℕ} 0 1 = cc in absurd (omega arith)
+    inner overlong p q r = let z : _≡_ {A = ℕ} 0 1 = cc in absurd (omega arith)
+    inner (whole w m) p q r = let z : x - 128 + 128 * w ≡ v = cc in omega (arith, r w m p, b x (List·Memᴰ·head refl), pow-succ' 128 k)
+
+    go : (t : Bool) → ltb x 128 ≡ t → (if t then whole x 1 else prefixed (x - 128) (scan k xs)) ≡ whole v n → ((w m : ℕ) → scan k xs ≡ whole w m → w < 128 ^ k) → v < 128 ^ suc k
+    go true l q r = let z : x ≡ v = cc in omega (arith, ltb-true x 128 l, some, pow-succ' 128 k)
+    go false l q r = inner (scan k xs) refl q r
 
 -- What a scan that does not end says of the bytes.
 abbrev Scanned : (k : ℕ) → List ℕ → Scan → Type 0
@@ -89,14 +91,15 @@ unfit value groups = (to (decLe value greatest), back (decLe value greatest))
 abbrev Formed : Read → List ℕ → Type 0
 Formed (Number value next) s = Unit {0}
 Formed Ended s = EndsInside s
-Formed Malformed s = IllFormed s
+Formed Malformed s = Bytes s → IllFormed s
 
 formed : (at : ℕ) (s : List ℕ) → Formed (judged at (scan mostGroups s)) s
 formed at s = go (scan mostGroups s) refl (scanned mostGroups s)
   where
-    why : (value groups : ℕ) → scan mostGroups s ≡ whole value groups → (greatest < value) ⊎ (groups ≡ groupCount value → ⊥) → IllFormed s
-    why value groups p (inl h) = great value groups p h
-    why value groups p (inr h) = long value groups p h
+    -- "No longer at the value": no six bytes make one that is too great.
+    why : (value groups : ℕ) → scan mostGroups s ≡ whole value groups → (greatest < value) ⊎ (groups ≡ groupCount value → ⊥) → Bytes s → IllFormed s
+    why value groups p (inl h) b = absurd (omega (arith, scan-most mostGroups s value groups b p))
+    why value groups p (inr h) b = long value groups p h
 
     judge : (value groups : ℕ) → scan mostGroups s ≡ whole value groups → (t : Bool) → (leb value greatest && eqb groups (length (writeNumber value))) ≡ t
         → Formed (if t then Number value (at + groups) else Malformed) s
@@ -105,38 +108,25 @@ formed at s = go (scan mostGroups s) refl (scanned mostGroups s)
 
     go : (c : Scan) → scan mostGroups s ≡ c → Scanned mostGroups s c → Formed (judged at c) s
     go cut p t = record { few = t .0; unended = t .1 }
-    go overlong p t = fifth (t .0) (t .1) (t .2) (t .3) (t .4)
+    go overlong p t = λ b. sixth (t .0) (t .1) (t .2) (t .3) (t .4)
     go (whole value groups) p t = judge value groups p (leb value greatest && eqb groups (length (writeNumber value))) refl
 
 module _ (s : List ℕ) (at : ℕ) where
   -- 1: "job bytes end before or inside a number", and no other.
   pub read-ended : (readNumber s at ≡ Ended) ↔ EndsInside (drop at s)
-  unfolding readNumber
+  unfolding readNumberBy
   read-ended = (λ e. rw e at (formed at (drop at s)), λ i. rw (scan-cut mostGroups (drop at s) (i .few) (i .unended)))
 
-  -- 2: "its fifth byte has the top bit set, or its value is too great, or it isn't in shortest form", and no other.
-  pub read-malformed : (readNumber s at ≡ Malformed) ↔ IllFormed (drop at s)
-  unfolding readNumber
-  read-malformed = (λ e. rw e at (formed at (drop at s)), back)
-    where
-      back : IllFormed (drop at s) → readNumber s at ≡ Malformed
-      back (fifth five rest e size t) = rw (e, sym size, scan-overlong five rest t)
-      back (great value groups e h) = rw (e, unfit value groups .1 (inl h))
-      back (long value groups e h) = rw (e, unfit value groups .1 (inr h))
+  pub ill-formed : IllFormed (drop at s) → readNumber s at ≡ Malformed
+  unfolding readNumberBy
+  ill-formed (sixth six rest e size t) = rw (e, sym size, scan-overlong six rest t)
+  ill-formed (long value groups e h) = rw (e, unfit value groups .1 (inr h))
 
-  -- Document 02, request 6: "a fifth byte above hex 0F is still refused", whatever four bytes with the top bit stand before it.
-  pub fifth-byte : (four : List ℕ) (byte : ℕ) (rest : List ℕ) → drop at s ≡ four ++ byte ∷ rest → length four ≡ 4 → TopBits four → 15 < byte → numberAt s at ≡ refused 2 at
-  unfolding numberAt
-  fifth-byte four byte rest e size t h = ap (readingOf at) (read-malformed .1 (rw e (why (decLt byte 128))))
-    where
-      why : Dec (byte < 128) → IllFormed (four ++ byte ∷ rest)
-      why (yes l) =
-          let r = scan-ends four byte rest t l in
-          let counts : 128 ^ length four ≡ 128 ^ 4 = ap (λ (k : ℕ). 128 ^ k) size in
-          great (r .value) 5 (rw size at (r .ends)) (omega (arith, rw counts at (r .least)))
-      why (no l) =
-          fifth (four ++ byte ∷ []) rest (sym (append-assoc four (byte ∷ []) rest)) (length-append four (byte ∷ []) ∙ omega arith) (snoc-each (λ y. 128 ≤ y) four t (omega arith))
+  -- 2: the sixth byte has the top bit set, "or it isn't in shortest form", and no other: "no longer at the value".
+  pub read-malformed : Bytes s → (readNumber s at ≡ Malformed) ↔ IllFormed (drop at s)
+  unfolding readNumberBy
+  read-malformed b = (λ e. (rw e at (formed at (drop at s))) (drop-bytes at s b), ill-formed)
 
-  -- "As none needs more": no value that is read passes 4,294,967,295, the greatest that 32 bits hold.
-  pub value-most : (value next : ℕ) → readNumber s at ≡ Number value next → value ≤ 4294967295
+  -- "The reader gathers in 64 bits": no value that is read passes what six groups make, 42 bits.
+  pub value-most : (value next : ℕ) → readNumber s at ≡ Number value next → value ≤ 4398046511103
   value-most value next e = read-bounds s at value next e .fits

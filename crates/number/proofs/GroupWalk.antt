@@ -11,7 +11,7 @@ use lib.ListN.{length, getD, drop, drop-of-length-le}
 use lib.Seq.{drop-cons}
 use borrow.Author.Tests.{le-leb, lt-leb, eq-eqb, ne-eqb}
 use Rattle.number.specs.declared.Read.the-variants.{Number, Ended, Malformed}
-use Rattle.number.specs.Number.{writeIn, writeNumber, greatest, Scan, cut, overlong, whole, prefixed, scan, judged, readNumber}
+use Rattle.number.specs.Number.{writeIn, writeNumberBy, greatest, Scan, cut, overlong, whole, prefixed, scan, judged, readNumberBy, readNumber}
 use Rattle.number.specs.Groups.{behind, readBehind}
 use Rattle.number.proofs.NumberLaws.{scan-last, scan-more, small-length, length-below, length-above}
 
@@ -46,71 +46,65 @@ module _ (left i : ℕ) (s : List ℕ) (some : 0 < left) (there : i < length s) 
       at-left zero p = absurd (omega arith)
       at-left (suc k) p = let one : suc k - 1 ≡ k = omega arith in rw one (scan-more k (getD s i 0) (drop (suc i) s) h)
 
--- The last group, behind others: too great, needless, or all is well.
-pub last-great : (at low weight passed b : ℕ) → greatest < low + weight * b → judged at (behind low weight passed (whole b 1)) ≡ Malformed
-last-great at low weight passed b h = rw (lt-leb (low + weight * b) greatest h)
-
-module _ (at low weight passed : ℕ) (some : 0 < passed) (most : passed < 5) (counts : weight ≡ 128 ^ passed) (under : low < weight) where
+-- The last group, behind others: needless, or all is well.
+module _ (at low weight passed : ℕ) (some : 0 < passed) (most : passed < 6) (counts : weight ≡ 128 ^ passed) (under : low < weight) where
   -- Where it is 0, fewer groups were enough.
   pub last-needless : judged at (behind low weight passed (whole 0 1)) ≡ Malformed
-  unfolding writeNumber
+  unfolding writeNumberBy
   last-needless =
       let one : suc (passed - 1) ≡ passed = omega arith in
-      let short = length-below 5 (passed - 1) (low + weight * 0) (rw one (omega arith)) in
-      let great = pow-le-pow-right {n = 128} (omega arith) {i = passed} {j = 4} (omega arith) in
-      simp (le-leb (low + weight * 0) greatest (omega arith), ne-eqb (passed + 1) (length (writeIn 5 (low + weight * 0))) (λ e. omega arith))
+      let short = length-below 6 (passed - 1) (low + weight * 0) (rw one (omega arith)) in
+      let great = pow-le-pow-right {n = 128} (omega arith) {i = passed} {j = 5} (omega arith) in
+      simp (le-leb (low + weight * 0) greatest (omega arith), ne-eqb (passed + 1) (length (writeIn 6 (low + weight * 0))) (λ e. omega arith))
 
   pub last-whole : (b : ℕ) → 0 < b → b < 128 → low + weight * b ≤ greatest → judged at (behind low weight passed (whole b 1)) ≡ Number (low + weight * b) (at + (passed + 1))
-  unfolding writeNumber
+  unfolding writeNumberBy
   last-whole b pos h fits =
       let least = mul-le-mul-left {m = 1} {n = b} weight pos in
       let under-next = mul-le-mul-left {m = b} {n = 127} weight (omega arith) in
-      let below = length-below 5 passed (low + weight * b) (omega (arith, pow-suc 128 passed)) in
-      let above = length-above 5 passed (low + weight * b) (omega arith) (omega arith) in
-      simp (le-leb (low + weight * b) greatest fits, eq-eqb (passed + 1) (length (writeIn 5 (low + weight * b))) (omega arith))
+      let below = length-below 6 passed (low + weight * b) (omega (arith, pow-suc 128 passed)) in
+      let above = length-above 6 passed (low + weight * b) (omega arith) (omega arith) in
+      simp (le-leb (low + weight * b) greatest fits, eq-eqb (passed + 1) (length (writeIn 6 (low + weight * b))) (omega arith))
 
 -- A number read group by group
 
 pub read-none : (s : List ℕ) (at : ℕ) → length s ≤ at → readNumber s at ≡ Ended
-unfolding readNumber
-read-none s at h = rw (scan-ended 5 at s (omega arith) h)
+unfolding readNumberBy
+read-none s at h = rw (scan-ended 6 at s (omega arith) h)
 
 -- The first group is the last.
 pub read-one : (s : List ℕ) (at : ℕ) → at < length s → getD s at 0 < 128 → readNumber s at ≡ Number (getD s at 0) (at + 1)
-unfolding readNumber
-read-one s at there h = rw (scan-last-at 5 at s (omega arith) there h, le-leb (getD s at 0) greatest (omega arith), small-length (getD s at 0) h)
+unfolding readNumberBy
+read-one s at there h = rw (scan-last-at 6 at s (omega arith) there h, le-leb (getD s at 0) greatest (omega arith), small-length (getD s at 0) h)
 
 -- The first group has others behind it.
 pub read-first : (s : List ℕ) (at : ℕ) → at < length s → 128 ≤ getD s at 0 → readNumber s at ≡ readBehind (getD s at 0 - 128) 128 1 s at
-unfolding readNumber readBehind
-read-first s at there h = ap (judged at) (scan-more-at 5 at s (omega arith) there h ∙ behind-first (getD s at 0 - 128) (scan 4 (drop (at + 1) s)))
+unfolding readNumberBy readBehind
+read-first s at there h = ap (judged at) (scan-more-at 6 at s (omega arith) there h ∙ behind-first (getD s at 0 - 128) (scan 5 (drop (at + 1) s)))
 
--- Behind five groups nothing is a number.
-read-overlong : (low weight : ℕ) (s : List ℕ) (at : ℕ) → readBehind low weight 5 s at ≡ Malformed
+-- Behind six groups nothing is a number.
+pub read-overlong : (low weight : ℕ) (s : List ℕ) (at : ℕ) → readBehind low weight 6 s at ≡ Malformed
 unfolding readBehind scan
 read-overlong low weight s at = refl
 
-module _ (low weight passed : ℕ) (s : List ℕ) (at : ℕ) (most : passed < 5) where
+module _ (low weight passed : ℕ) (s : List ℕ) (at : ℕ) (most : passed < 6) where
   pub read-ended : length s ≤ at + passed → readBehind low weight passed s at ≡ Ended
   unfolding readBehind
-  read-ended h = rw (scan-ended (5 - passed) (at + passed) s (omega arith) h)
+  read-ended h = rw (scan-ended (6 - passed) (at + passed) s (omega arith) h)
 
   module _ (there : at + passed < length s) where
     pub read-more : 128 ≤ getD s (at + passed) 0 → readBehind low weight passed s at ≡ readBehind (low + weight * (getD s (at + passed) 0 - 128)) (weight * 128) (passed + 1) s at
     unfolding readBehind
     read-more h =
-        let left : 5 - passed - 1 ≡ 5 - (passed + 1) = omega arith in
+        let left : 6 - passed - 1 ≡ 6 - (passed + 1) = omega arith in
         let next : at + passed + 1 ≡ at + (passed + 1) = omega arith in
-        ap (λ (r : Scan). judged at (behind low weight passed r)) (scan-more-at (5 - passed) (at + passed) s (omega arith) there h)
-        ∙ ap (judged at) (behind-more low weight passed (getD s (at + passed) 0 - 128) (scan (5 - passed - 1) (drop (at + passed + 1) s)))
+        ap (λ (r : Scan). judged at (behind low weight passed r)) (scan-more-at (6 - passed) (at + passed) s (omega arith) there h)
+        ∙ ap (judged at) (behind-more low weight passed (getD s (at + passed) 0 - 128) (scan (6 - passed - 1) (drop (at + passed + 1) s)))
         ∙ rw (left, next)
 
     read-last : getD s (at + passed) 0 < 128 → readBehind low weight passed s at ≡ judged at (behind low weight passed (whole (getD s (at + passed) 0) 1))
     unfolding readBehind
-    read-last h = ap (λ (r : Scan). judged at (behind low weight passed r)) (scan-last-at (5 - passed) (at + passed) s (omega arith) there h)
-
-    read-great : getD s (at + passed) 0 < 128 → greatest < low + weight * getD s (at + passed) 0 → readBehind low weight passed s at ≡ Malformed
-    read-great h great = read-last h ∙ last-great at low weight passed (getD s (at + passed) 0) great
+    read-last h = ap (λ (r : Scan). judged at (behind low weight passed r)) (scan-last-at (6 - passed) (at + passed) s (omega arith) there h)
 
     module _ (some : 0 < passed) (counts : weight ≡ 128 ^ passed) (under : low < weight) where
       pub read-needless : getD s (at + passed) 0 ≡ 0 → readBehind low weight passed s at ≡ Malformed
@@ -125,13 +119,3 @@ group-less low weight b h =
     let parts : b ≡ (b - 128) + 128 = omega arith in
     let split : weight * b ≡ weight * (b - 128) + weight * 128 = ap (λ (m : ℕ). weight * m) parts ∙ mul-add weight (b - 128) 128 in
     omega arith
-
--- The fifth group has four bits.
-pub read-fifth-great : (low : ℕ) (s : List ℕ) (at : ℕ) → at + 4 < length s → 15 < getD s (at + 4) 0 → readBehind low (128 ^ 4) 4 s at ≡ Malformed
-read-fifth-great low s at there h = go (decLt (getD s (at + 4) 0) 128)
-  where
-    go : Dec (getD s (at + 4) 0 < 128) → readBehind low (128 ^ 4) 4 s at ≡ Malformed
-    go (yes l) = read-great low (128 ^ 4) 4 s at (omega arith) there l (omega arith)
-    go (no l) =
-        read-more low (128 ^ 4) 4 s at (omega arith) there (omega arith)
-        ∙ read-overlong (low + 128 ^ 4 * (getD s (at + 4) 0 - 128)) (128 ^ 5) s at

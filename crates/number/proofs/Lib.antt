@@ -1,3 +1,4 @@
 pub mod NumberLaws
 pub mod GroupWalk
 pub mod FormLaws
+pub mod LimitLaws

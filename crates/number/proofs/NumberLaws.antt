@@ -19,15 +19,15 @@ use Rattle.refusal.specs.Answer.{accepted}
 use Rattle.refusal.proofs.TestLaws.{and-left, and-right}
 use Rattle.number.specs.declared.Read.{Read}
 use Rattle.number.specs.declared.Read.the-variants.{Number, Ended, Malformed}
-use Rattle.number.specs.Number.{writeIn, writeNumber, greatest, groupCount, Scan, cut, overlong, whole, prefixed, scan, judged, readNumber, Reading, readingOf, numberAt, placed}
+use Rattle.number.specs.Number.{writeIn, writeNumberBy, writeNumber, greatest, groupCount, Scan, cut, overlong, whole, prefixed, scan, judged, readNumberBy, readNumber, Reading, readingOf, numberAtBy, numberAt, placed}
 
 -- One group
 
-write-last : (k n : ℕ) → n < 128 → writeIn (suc k) n ≡ n ∷ []
+pub write-last : (k n : ℕ) → n < 128 → writeIn (suc k) n ≡ n ∷ []
 unfolding writeIn
 write-last k n h = rw (lt-ltb n 128 h)
 
-write-more : (k n : ℕ) → 128 ≤ n → writeIn (suc k) n ≡ (n % 128 + 128) ∷ writeIn k (n / 128)
+pub write-more : (k n : ℕ) → 128 ≤ n → writeIn (suc k) n ≡ (n % 128 + 128) ∷ writeIn k (n / 128)
 unfolding writeIn
 write-more k n h = rw (le-ltb n 128 h)
 
@@ -46,12 +46,12 @@ write-enough zero n h = rw (lt-ltb n 128 (omega arith))
 write-enough (suc k) n h = rw (write-enough k (n / 128) (omega arith))
 
 pub write-one : (n : ℕ) → n < 128 → writeNumber n ≡ n ∷ []
-unfolding writeNumber
-write-one n h = write-last 4 n h
+unfolding writeNumberBy
+write-one n h = write-last 5 n h
 
 pub write-step : (n : ℕ) → 128 ≤ n → n ≤ greatest → writeNumber n ≡ (n % 128 + 128) ∷ writeNumber (n / 128)
-unfolding writeNumber
-write-step n h fit = write-more 4 n h ∙ ap (λ (l : List ℕ). (n % 128 + 128) ∷ l) (write-enough 3 (n / 128) (omega arith))
+unfolding writeNumberBy
+write-step n h fit = write-more 5 n h ∙ ap (λ (l : List ℕ). (n % 128 + 128) ∷ l) (write-enough 4 (n / 128) (omega arith))
 
 -- The length of a writing
 
@@ -78,9 +78,9 @@ length-above (suc k) (suc g) n few h =
     let some : 1 ≤ 128 ^ g = pow-le-pow-right {n = 128} (omega arith) {i = 0} {j = g} (omega arith) in
     omega (arith, ap length (write-more k n (omega arith)), length-above k g (n / 128) (omega arith) (omega arith))
 
-pub number-length : (n : ℕ) → length (writeNumber n) ≤ 5
-unfolding writeNumber writeIn
-number-length n = write-length 5 n
+pub number-length : (n : ℕ) → length (writeNumber n) ≤ 6
+unfolding writeNumberBy writeIn
+number-length n = write-length 6 n
   where
     write-length : (k m : ℕ) → length (writeIn k m) ≤ k
     write-length zero m = omega arith
@@ -94,29 +94,42 @@ pub small-length : (n : ℕ) → n < 128 → length (writeNumber n) ≡ 1
 small-length n h = ap length (write-one n h)
 
 pub middle-length : (n : ℕ) → n < 16384 → length (writeNumber n) ≤ 2
-unfolding writeNumber
-middle-length n h = length-below 5 1 n (omega arith)
+unfolding writeNumberBy
+middle-length n h = length-below 6 1 n (omega arith)
+
+-- Only from 2 to the 35th on does a number take a sixth byte.
+pub long-length : (n : ℕ) → length (writeNumber n) ≤ 5 + n / 34359738368
+unfolding writeNumberBy
+long-length n = go (decLt n 34359738368)
+  where
+    go : Dec (n < 34359738368) → length (writeNumber n) ≤ 5 + n / 34359738368
+    go (yes l) = omega (arith, length-below 6 4 n (omega arith))
+    go (no l) = omega (arith, number-length n)
 
 -- The groups of a number by its bits: j + 1 bits take j / 7 + 1 groups.
 seven-bits : (g : ℕ) → 128 ^ g ≡ 2 ^ (7 * g)
 seven-bits zero = refl
 seven-bits (suc g) = pow-succ' 128 g ∙ ap (λ (m : ℕ). 128 * m) (seven-bits g) ∙ sym (pow-add 2 7 (7 * g)) ∙ ap (λ (m : ℕ). 2 ^ m) (omega arith)
 
-groups-of-bits : (n j : ℕ) → 2 ^ j ≤ n → n < 2 ^ suc j → j < 35 → length (writeNumber n) ≡ j / 7 + 1
-unfolding writeNumber
+groups-of-bits : (n j : ℕ) → 2 ^ j ≤ n → n < 2 ^ suc j → j < 42 → length (writeNumber n) ≡ j / 7 + 1
+unfolding writeNumberBy
 groups-of-bits n j lo hi few =
     let g = j / 7 in
     let low : 2 ^ (7 * g) ≤ 2 ^ j = pow-mono (omega arith) in
     let high : 2 ^ suc j ≤ 2 ^ (7 * suc g) = pow-mono (omega arith) in
-    omega (arith, seven-bits g, seven-bits (suc g), length-below 5 g n (omega (arith, seven-bits (suc g))), length-above 5 g n (omega arith) (omega (arith, seven-bits g)))
+    omega (arith, seven-bits g, seven-bits (suc g), length-below 6 g n (omega (arith, seven-bits (suc g))), length-above 6 g n (omega arith) (omega (arith, seven-bits g)))
 
 -- "A number takes as many groups as its bits need, and 0 takes one."
 pub group-count : (n : ℕ) → n ≤ greatest → length (writeNumber n) ≡ groupCount n
 unfolding groupCount
-group-count zero h = small-length 0 (omega arith) ∙ rw (leading-of-zero 32)
+group-count zero h = small-length 0 (omega arith) ∙ rw (leading-of-zero 64)
 group-count (suc n) h =
-    let (j, top, lo, hi) = leading-top 32 (suc n) (omega arith) (omega arith) in
-    groups-of-bits (suc n) j lo hi (omega arith) ∙ omega arith
+    let (j, top, lo, hi) = leading-top 64 (suc n) (omega arith) (omega arith) in
+    groups-of-bits (suc n) j lo hi (few j lo (decLt j 42)) ∙ omega arith
+  where
+    few : (j : ℕ) → 2 ^ j ≤ suc n → Dec (j < 42) → j < 42
+    few j lo (yes l) = l
+    few j lo (no l) = let big : 2 ^ 42 ≤ 2 ^ j = pow-mono {i = 42} {j = j} (omega arith) in absurd (omega arith)
 
 -- Reading what was written
 
@@ -134,12 +147,12 @@ scan-write (suc k) n rest h = go (decLt n 128) (scan-write k (n / 128) rest)
 
 -- The writing of n, whatever stands behind it, reads as n.
 pub read-writing : (s : List ℕ) (at n : ℕ) (rest : List ℕ) → n ≤ greatest → drop at s ≡ writeNumber n ++ rest → readNumber s at ≡ Number n (at + length (writeNumber n))
-unfolding readNumber writeNumber
+unfolding readNumberBy writeNumberBy
 read-writing s at n rest h e =
-    rw (e, scan-write 4 n rest (omega arith), le-leb n greatest h, eq-eqb (length (writeIn 5 n)) (length (writeIn 5 n)) refl)
+    rw (e, scan-write 5 n rest (omega arith), le-leb n greatest h, eq-eqb (length (writeIn 6 n)) (length (writeIn 6 n)) refl)
 
 pub read-number : (s : List ℕ) (at n : ℕ) (rest : List ℕ) → n ≤ greatest → drop at s ≡ writeNumber n ++ rest → numberAt s at ≡ accepted (record { value = n; next = at + length (writeNumber n) })
-unfolding numberAt
+unfolding numberAtBy
 read-number s at n rest h e = rw (read-writing s at n rest h e)
 
 -- What stands behind a writing.
@@ -180,13 +193,13 @@ scan-groups (suc k) (x ∷ xs) v n e = go (ltb x 128) e (scan-groups k xs)
 record Found (s : List ℕ) (at v n : ℕ) : Type 0 where
   fits : v ≤ greatest
   next : n ≡ at + length (writeNumber v)
-  ends : scan 5 (drop at s) ≡ whole v (length (writeNumber v))
+  ends : scan 6 (drop at s) ≡ whole v (length (writeNumber v))
 
 found : (s : List ℕ) (at v n : ℕ) → readNumber s at ≡ Number v n → Found s at v n
-unfolding readNumber
-found s at v n e = go (scan 5 (drop at s)) refl e
+unfolding readNumberBy
+found s at v n e = go (scan 6 (drop at s)) refl e
   where
-    pick : (w m : ℕ) (t : Bool) → scan 5 (drop at s) ≡ whole w m → (leb w greatest && eqb m (length (writeNumber w))) ≡ t → (if t then Number w (at + m) else Malformed) ≡ Number v n → Found s at v n
+    pick : (w m : ℕ) (t : Bool) → scan 6 (drop at s) ≡ whole w m → (leb w greatest && eqb m (length (writeNumber w))) ≡ t → (if t then Number w (at + m) else Malformed) ≡ Number v n → Found s at v n
     pick w m false p h k = let z : _≡_ {A = ℕ} 0 1 = cc in absurd (omega arith)
     pick w m true p h k =
         let value : w ≡ v = cc in
@@ -195,7 +208,7 @@ found s at v n e = go (scan 5 (drop at s)) refl e
         let fits : w ≤ greatest = leb-true _ _ (and-left _ (eqb m (length (writeNumber w))) h) in
         subst (λ (u : ℕ). Found s at u n) value (record { fits = fits; next = sym next ∙ ap (λ (l : ℕ). at + l) shortest; ends = p ∙ ap (whole w) shortest })
 
-    go : (c : Scan) → scan 5 (drop at s) ≡ c → judged at c ≡ Number v n → Found s at v n
+    go : (c : Scan) → scan 6 (drop at s) ≡ c → judged at c ≡ Number v n → Found s at v n
     go cut p q = let z : _≡_ {A = ℕ} 0 1 = cc in absurd (omega arith)
     go overlong p q = let z : _≡_ {A = ℕ} 0 1 = cc in absurd (omega arith)
     go (whole w m) p q = pick w m (leb w greatest && eqb m (length (writeNumber w))) p refl q
@@ -204,12 +217,12 @@ pub record Bounds (s : List ℕ) (at value next : ℕ) : Type 0 where
   pub fits : value ≤ greatest
   pub rises : at < next
   pub there : next ≤ length s
-  pub near : next ≤ at + 5
+  pub near : next ≤ at + 6
 
 pub read-bounds : (s : List ℕ) (at v n : ℕ) → readNumber s at ≡ Number v n → Bounds s at v n
 read-bounds s at v n e =
     let f = found s at v n e in
-    let g = scan-groups 5 (drop at s) v (length (writeNumber v)) (f .ends) in
+    let g = scan-groups 6 (drop at s) v (length (writeNumber v)) (f .ends) in
     record { fits = f .fits; rises = omega arith; there = omega (arith, length-drop at s); near = omega arith }
 
 -- What was read is a writing
@@ -252,8 +265,8 @@ writeIn-bytes (suc k) n = go (decLt n 128) (writeIn-bytes k (n / 128))
     go (no l) r = rw (write-more k n (omega arith)) (cons-bytes (n % 128 + 128) (writeIn k (n / 128)) (omega arith) r)
 
 pub write-bytes : (n : ℕ) → Bytes (writeNumber n)
-unfolding writeNumber
-write-bytes n = writeIn-bytes 5 n
+unfolding writeNumberBy
+write-bytes n = writeIn-bytes 6 n
 
 -- A scan in as many groups as the value needs was of the value's writing.
 pub record Taken (s w : List ℕ) (n : ℕ) : Type 0 where
@@ -307,15 +320,15 @@ pub record Stands (s : List ℕ) (at : ℕ) (r : Reading) : Type 0 where
   pub split : drop at s ≡ writeNumber (r .value) ++ drop (r .next) s
 
 pub read-stands : (s : List ℕ) (at v n : ℕ) → Bytes s → readNumber s at ≡ Number v n → Stands s at (record { value = v; next = n })
-unfolding writeNumber
+unfolding writeNumberBy
 read-stands s at v n b e =
     let f = found s at v n e in
-    let t = scan-read 5 (drop at s) v (length (writeNumber v)) (drop-bytes at s b) (f .ends) refl in
+    let t = scan-read 6 (drop at s) v (length (writeNumber v)) (drop-bytes at s b) (f .ends) refl in
     let behind : drop n s ≡ t .rest = ap (λ (m : ℕ). drop m s) (f .next) ∙ after-number s at v (t .rest) (t .split) in
     record { fits = f .fits; next = f .next; split = t .split ∙ ap (λ (z : List ℕ). writeNumber v ++ z) (sym behind) }
 
 pub number-read : (s : List ℕ) (at : ℕ) (r : Reading) → Bytes s → numberAt s at ≡ accepted r → Stands s at r
-unfolding numberAt
+unfolding numberAtBy
 number-read s at r b e = go (readNumber s at) refl e
   where
     go : (c : Read) → readNumber s at ≡ c → readingOf at c ≡ accepted r → Stands s at r

@@ -4,7 +4,7 @@ use Prim.Native.Nat.{ℕ, _≤_, _<_}
 use mathlib.Core.Path.{_≡_}
 use mathlib.Core.List.{List, _++_, List·Memᴰ}
 use lib.ListN.{length}
-use Rattle.number.specs.Number.{mostGroups, greatest, groupCount, whole, scan}
+use Rattle.number.specs.Number.{mostGroups, groupCount, whole, scan}
 
 -- Bytes that all have the top bit: none of them ends a number.
 abbrev pub TopBits : List ℕ → Type 0
@@ -15,8 +15,8 @@ pub record EndsInside (s : List ℕ) : Type 0 where
   pub few : length s < mostGroups
   pub unended : TopBits s
 
--- 2: "its fifth byte has the top bit set, or its value is too great, or it isn't in shortest form": its groups are not as many as its bits need.
+-- 2: "refusal 2 now looks at the sixth byte and no longer at the value": its sixth byte has the top bit set, or "it isn't in shortest form": its
+-- groups are not as many as its bits need.
 pub data IllFormed (s : List ℕ) : Type 0 where
-  fifth : (five rest : List ℕ) → s ≡ five ++ rest → length five ≡ mostGroups → TopBits five → IllFormed s
-  great : (value groups : ℕ) → scan mostGroups s ≡ whole value groups → greatest < value → IllFormed s
+  sixth : (six rest : List ℕ) → s ≡ six ++ rest → length six ≡ mostGroups → TopBits six → IllFormed s
   long : (value groups : ℕ) → scan mostGroups s ≡ whole value groups → (groups ≡ groupCount value → ⊥) → IllFormed s

@@ -1,4 +1,4 @@
--- The number form of document 01: groups of seven bits, lowest group first, one group a byte; the top bit is set on all but the last byte.
+-- The number form of document 01, with six bytes since document 02's request 11: groups of seven bits, lowest group first, one group a byte; the top bit is set on all but the last byte.
 -- Assumes nothing.
 use Prim.Native.Nat.{ℕ, zero, suc, _+_, _-_, _*_, _/_, _%_, max}
 use mathlib.Core.Bool.{_&&_}
@@ -8,6 +8,7 @@ use lib.Count.{leadingZeros}
 use lib.Dec.{ltb, leb, eqb}
 use Rattle.refusal.specs.Choice.{if_then_else_}
 use Rattle.refusal.specs.Answer.{Answer, accepted, refused}
+use Rattle.refusal.specs.Limits.{Limits, limits}
 use Rattle.number.specs.declared.Read.{Read}
 use Rattle.number.specs.declared.Read.the-variants.{Number, Ended, Malformed}
 
@@ -18,19 +19,23 @@ unfoldable pub writeIn : (k n : ℕ) → List ℕ
 writeIn zero n = []
 writeIn (suc k) n = let rest = writeIn k (n / 128) in if ltb n 128 then n ∷ [] else (n % 128 + 128) ∷ rest
 
--- "At most five bytes, value at most 4,294,967,295."
+-- "Numbers may take six bytes", and six groups are 42 bits. ("The reader gathers in 64 bits" is said of the code.)
 abbrev pub mostGroups : ℕ
-mostGroups = 5
+mostGroups = limits .mostGroups
 
+-- The greatest value that so many groups make (law groups-hold).
 abbrev pub greatest : ℕ
-greatest = 4294967295
+greatest = limits .greatest
 
-unfoldable pub writeNumber : ℕ → List ℕ
-writeNumber n = writeIn mostGroups n
+unfoldable pub writeNumberBy : Limits → (n : ℕ) → List ℕ
+writeNumberBy L n = writeIn (L .mostGroups) n
 
--- "A number takes as many groups as its bits need, and 0 takes one." The bits are the 32 of the value less its leading zeros.
+abbrev pub writeNumber : (n : ℕ) → List ℕ
+writeNumber = writeNumberBy limits
+
+-- "A number takes as many groups as its bits need, and 0 takes one." The bits are the 64 of the value less its leading zeros.
 unfoldable pub groupCount : ℕ → ℕ
-groupCount n = (max 1 (32 - leadingZeros 32 n) + 6) / 7
+groupCount n = (max 1 (64 - leadingZeros 64 n) + 6) / 7
 
 -- Reading
 
@@ -54,16 +59,22 @@ scan zero s = overlong
 scan (suc k) [] = cut
 scan (suc k) (x ∷ xs) = let rest = scan k xs in if ltb x 128 then whole x 1 else prefixed (x - 128) rest
 
--- A number must be within the greatest value and in its shortest form.
-abbrev pub judged : ℕ → Scan → Read
-judged at cut = Ended
-judged at overlong = Malformed
-judged at (whole value groups) =
-    if leb value greatest && eqb groups (length (writeNumber value)) then Number value (at + groups) else Malformed
+-- A number must be in its shortest form, and before request 11 within the greatest value: of six bytes none is above it (law read-malformed).
+abbrev pub judgedBy : Limits → (at : ℕ) → Scan → Read
+judgedBy L at cut = Ended
+judgedBy L at overlong = Malformed
+judgedBy L at (whole value groups) =
+    if leb value (L .greatest) && eqb groups (length (writeNumberBy L value)) then Number value (at + groups) else Malformed
+
+abbrev pub judged : (at : ℕ) → Scan → Read
+judged = judgedBy limits
 
 -- The number that begins at index `at`, with the index behind it.
-unfoldable pub readNumber : List ℕ → (at : ℕ) → Read
-readNumber s at = judged at (scan mostGroups (drop at s))
+unfoldable pub readNumberBy : Limits → List ℕ → (at : ℕ) → Read
+readNumberBy L s at = judgedBy L at (scan (L .mostGroups) (drop at s))
+
+abbrev pub readNumber : List ℕ → (at : ℕ) → Read
+readNumber = readNumberBy limits
 
 -- A number read, and the index behind it.
 pub record Reading : Type 0 where
@@ -76,8 +87,11 @@ readingOf at (Number value next) = accepted (record { value = value; next = next
 readingOf at Ended = refused 1 at
 readingOf at Malformed = refused 2 at
 
-unfoldable pub numberAt : List ℕ → (at : ℕ) → Answer Reading
-numberAt s at = readingOf at (readNumber s at)
+unfoldable pub numberAtBy : Limits → List ℕ → (at : ℕ) → Answer Reading
+numberAtBy L s at = readingOf at (readNumberBy L s at)
+
+abbrev pub numberAt : List ℕ → (at : ℕ) → Answer Reading
+numberAt = numberAtBy limits
 
 -- Lent memory
 

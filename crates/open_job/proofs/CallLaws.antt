@@ -24,7 +24,7 @@ use Rattle.job.proofs.OpeningLaws.{job-header}
 use Rattle.runs.specs.RunList.{envelopesOf}
 use Rattle.runs.specs.Required.{requiredRuns}
 use Rattle.runs.specs.Stored.{StoredEnvelopes}
-use Rattle.planning.specs.Envelope.{sideOverhangs, standsNear, testHazard, testHazards, acceptJob}
+use Rattle.planning.specs.Envelope.{sideOverhangs, standsNear, testHazard, testHazards, acceptJobBy}
 use Rattle.planning.specs.Required.{jobRuns}
 use Rattle.planning.specs.Reply.{Cuts, cutsOf, testedEnvelopes}
 use Rattle.planning.specs.declared.accept.SideEnvelopes.{SideEnvelopes}
@@ -33,11 +33,11 @@ use Rattle.planning.proofs.EnvelopeLaws.{AcceptedFits}
 use Rattle.planning.proofs.SideLaws.{envelopes-done, outcome-done, stored-envelopes}
 use Rattle.planning.proofs.AcceptedLaws.{hazards-pass, fitting-accepted}
 use Rattle.schedule.specs.Schedule.{writeSchedule}
-use Rattle.schedule.specs.Plan.{fitted, plan}
-use Rattle.schedule.proofs.PlanLaws.{plan-bad-side}
+use Rattle.schedule.specs.Plan.{fitted, planBy, plan}
+use Rattle.schedule.proofs.PlanLaws.{plan-bad-side, tested-bytes}
 use Rattle.open_job.specs.declared.Change.{Change}
 use Rattle.open_memory.specs.Memory.{greatestName, standing, laidOut, stands, inserted, hazardInRange, admit, isOpenJob}
-use Rattle.open_job.specs.Open.{openJob, addTo, withdrawFrom, scheduleOf, Changes}
+use Rattle.open_job.specs.Open.{openJobBy, openJob, addTo, withdrawFrom, scheduleOf, Changes}
 use Rattle.open_memory.specs.Steps.{rank, putAt, takenAt}
 use Rattle.open_memory.proofs.RuleLaws.{admitted, admit-ranged, stand-few, open-header, open-standing, open-accepted}
 use Rattle.open_memory.proofs.PlaceLaws.{inserted-at, inserted-stand, inserted-length, without-at}
@@ -67,7 +67,7 @@ module _ (s : List ℕ) where
       empty (z ∷ zs) q = absurd (omega arith)
 
   pub opening-read : openJob s ≡ (readOpening s >>= λ h. accepted (laidOut h []))
-  unfolding openJob readOpening headerAt jobHeader acceptJob testHazards
+  unfolding openJobBy readOpening headerAt jobHeader acceptJobBy testHazards
   opening-read = header (readHeader s) refl
     where
       job : (a : Answer Job) → ((j : Job) → a ≡ accepted j → j .hazards ≡ [])
@@ -154,7 +154,7 @@ module _ (m : StoredJob) where
 
 -- Plan, of the writing of a job that is accepted.
 pub plan-written : (j : Job) → AcceptedFits j → (side room : ℕ) → plan (writeJob j) side room ≡ (unless-refuse (leb side 1) 8 0 >>= λ _. fitted (writeSchedule (jobRuns j side)) (sideOverhangs j side) room)
-unfolding plan
+unfolding planBy
 plan-written j f side room = rw (fitting-accepted j f)
 
 module _ (m : StoredJob) (side : ℕ) where
@@ -178,6 +178,9 @@ module _ (m : StoredJob) (side : ℕ) where
 
       pub schedule-stored : StoredEnvelopes (r .envelopes)
       schedule-stored = stored-envelopes (jobOf m) side r reply (open-accepted m good size .fits) done
+
+      pub schedule-most : length (writeSchedule (requiredRuns (envelopesOf (r .envelopes)) (m .header .continuity))) ≤ 5624
+      schedule-most = tested-bytes (jobOf m) side r reply (open-accepted m good size .fits) done
 
       own : cutsOf (m .header) side (jobOf m .hazards) ≡ record { envelopes = envelopesOf (r .envelopes); overhangs = r .overhangs }
       own = let e = sym passes ∙ envelopes-done (jobOf m) side r reply done in cc

@@ -7,23 +7,27 @@ use mathlib.Core.List.{List, []}
 use lib.Dec.{eqb}
 use Rattle.refusal.specs.Answer.{Answer, accepted, refused, _>>=_, unless-refuse}
 use Rattle.refusal.specs.Refusal.{outcome}
+use Rattle.refusal.specs.Limits.{Limits, limits}
 use Rattle.job.specs.declared.Hazard.{Hazard}
 use Rattle.job.specs.declared.StoredJob.{StoredJob}
-use Rattle.job.specs.Job.{named, jobOf, headerSize, readHeader, headerOf}
+use Rattle.job.specs.Job.{named, jobOf, headerSize, readHeaderBy, headerOf}
 use Rattle.job.specs.Writing.{writeJob}
-use Rattle.planning.specs.Envelope.{acceptJob}
+use Rattle.planning.specs.Envelope.{acceptJobBy}
 use Rattle.schedule.specs.Plan.{PlannedSide, plan}
 use Rattle.open_memory.specs.Memory.{standing, laidOut, stands, inserted, without, admit, isOpenJob}
 use Rattle.open_job.specs.declared.Change.{Change}
 
 -- "Opening takes job bytes that carry no hazard; it refuses as plan does without 9, and a hazard count above 0 is 3": at that number, which is
 -- returned, 14, of a kind 2 job 15.
-unfoldable pub openJob : (s : List ℕ) → Answer StoredJob
-openJob s =
-    readHeader s >>= λ f.
+unfoldable pub openJobBy : Limits → (s : List ℕ) → Answer StoredJob
+openJobBy L s =
+    readHeaderBy L s >>= λ f.
     unless-refuse (eqb (headerOf (f .numbers) .count) 0) 3 (headerSize (headerOf (f .numbers) .kind)) >>= λ _.
-    acceptJob s >>= λ j.
+    acceptJobBy L s >>= λ j.
     accepted (laidOut (j .header) [])
+
+abbrev pub openJob : (s : List ℕ) → Answer StoredJob
+openJob = openJobBy limits
 
 -- "Any call but opening, on memory whose header, names or hazards break these rules, is refused 3 with 0 before any other test."
 -- "A name already standing (add) or not standing (withdraw) is 12, before 4, and returns the name." The name is a byte by the call's type.

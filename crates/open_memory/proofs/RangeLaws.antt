@@ -13,7 +13,7 @@ use Rattle.refusal.specs.Choice.{if_then_else_}
 use Rattle.refusal.proofs.TestLaws.{and-left, and-right, and-intro}
 use Rattle.job.specs.declared.Header.{Header}
 use Rattle.job.specs.declared.Hazard.{Hazard}
-use Rattle.job.specs.Job.{Range, within, _to_, sharedRanges, lastRanges, headerRanges, hazardRanges}
+use Rattle.job.specs.Job.{Range, within, _to_, sharedRangesBy, sharedRanges, lastRanges, headerRangesBy, hazardRanges}
 use Rattle.job.specs.Writing.{sharedNumbers, lastNumbers, hazardNumbers}
 use Rattle.job.proofs.JobLaws.{HeaderFits, HazardFits}
 use Rattle.open_memory.specs.Memory.{counted, inRanges, headerInRange, hazardInRange}
@@ -110,12 +110,21 @@ ranges-parts (r ∷ rs) qs (x ∷ xs) ys long =
 
 -- The thirteen numbers that every kind has, and then the others.
 pub header-parts : (h : Header) → headerInRange h ≡ (inRanges (sharedRanges (h .begin)) (sharedNumbers h) && lastInRange h)
-unfolding headerInRange lastInRange headerRanges sharedRanges
+unfolding headerInRange lastInRange headerRangesBy sharedRangesBy
 header-parts h =
     let shared = inRanges (sharedRanges (h .begin)) (sharedNumbers h) in
     let last = inRanges (lastRanges (h .kind)) (lastNumbers h) in
     let plain = eqb (h .kind) 2 || eqb (h .panel) 1 in
     ap (λ (b : Bool). b && plain) (ranges-parts (sharedRanges (h .begin)) (lastRanges (h .kind)) (sharedNumbers h) (lastNumbers h) refl) ∙ and-assoc shared last plain
+
+-- A road that begins behind the last station but one is out of range.
+pub begin-out : (h : Header) → 999999999999 < h .begin → inRanges (sharedRanges (h .begin)) (sharedNumbers h) ≡ false
+unfolding sharedRangesBy
+begin-out h l = go (inRanges (sharedRanges (h .begin)) (sharedNumbers h)) refl
+  where
+    go : (b : Bool) → inRanges (sharedRanges (h .begin)) (sharedNumbers h) ≡ b → b ≡ false
+    go true e = absurd (omega (arith, in-all (sharedRanges (h .begin)) (sharedNumbers h) e .1 .0 .1))
+    go false e = refl
 
 -- The last numbers of a header, by kind.
 pub record LastFits (h : Header) : Type 0 where
@@ -159,7 +168,7 @@ unfolding lastInRange inRanges
 last-of-one h other = simp (ne-eqb (h .kind) 2 other, from-zero, and-true)
 
 pub header-fits : (h : Header) → headerInRange h ≡ true → HeaderFits h
-unfolding sharedRanges
+unfolding sharedRangesBy
 header-fits h e =
     let both : (inRanges (sharedRanges (h .begin)) (sharedNumbers h) && lastInRange h) ≡ true = sym (header-parts h) ∙ e in
     let last = last-fits h (and-right (inRanges (sharedRanges (h .begin)) (sharedNumbers h)) (lastInRange h) both) in
@@ -170,7 +179,8 @@ header-fits h e =
       kind-low = t1 .0 .0;
       kind-top = t1 .0 .1;
       road = omega (arith, t3 .0 .0);
-      road-end = t3 .0 .1;
+      road-end = omega (arith, t3 .0 .1);
+      road-length = omega (arith, t3 .0 .1);
       forward-low = t4 .0 .0;
       forward-top = t4 .0 .1;
       opposite-top = t5 .0 .1;
@@ -192,7 +202,7 @@ header-fits h e =
     }
 
 shared-ranged : (h : Header) → HeaderFits h → inRanges (sharedRanges (h .begin)) (sharedNumbers h) ≡ true
-unfolding sharedRanges
+unfolding sharedRangesBy
 shared-ranged h f =
     all-in (sharedRanges (h .begin)) (sharedNumbers h)
     ((
@@ -200,7 +210,7 @@ shared-ranged h f =
       (
         (omega arith, omega (arith, f .road, f .road-end)),
         (
-          (omega (arith, f .road), f .road-end),
+          (omega (arith, f .road), omega (arith, f .road-end, f .road-length)),
           (
             (f .forward-low, f .forward-top),
             (
@@ -245,6 +255,7 @@ counted-fits h n f few = record {
   kind-top = f .kind-top;
   road = f .road;
   road-end = f .road-end;
+  road-length = f .road-length;
   forward-low = f .forward-low;
   forward-top = f .forward-top;
   opposite-top = f .opposite-top;

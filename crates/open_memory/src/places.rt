@@ -23,7 +23,7 @@ const UNUSED: NamedHazard = NamedHazard {
 };
 
 // The header with another hazard count.
-pub fn with_count(h: Header, n: u32) -> Header
+pub fn with_count(h: Header, n: u64) -> Header
     ensures { λ r. ⌜ r ≡ counted h n ⌝ }
 {
     let mut next = h;
@@ -48,10 +48,10 @@ pub fn under_name(header: Header, name: u16, z: GivenHazard) -> NamedHazard
     ensures { λ r. ⌜ r ≡ named name (hazardGiven z) ⌝ }
 {
     NamedHazard {
-        start: z.start as u32,
-        end: z.end as u32,
-        near: z.near as u32,
-        far: z.far as u32,
+        start: z.start,
+        end: z.end,
+        near: z.near as u16,
+        far: z.far as u16,
         name,
         side: z.side as u8,
         level: z.level as u8,

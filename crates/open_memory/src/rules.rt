@@ -3,6 +3,7 @@ use super::GivenHazard;
 use job::Header;
 use job::NamedHazard;
 use job::StoredJob;
+use job::road_top;
 use job::unnamed;
 use planning::near::stands_near;
 ghost use mathlib.Core.Path.{_≡_};
@@ -20,12 +21,17 @@ ghost use Rattle.open_memory.specs.Steps.{lastInRange, inOrderFrom, allI
 fn shared_in_range(h: Header) -> bool
     ensures { λ r. ⌜ r ≡ inRanges (sharedRanges (h .begin)) (sharedNumbers h) ⌝ }
 {
+    // So that no sum below leaves 64 bits.
+    if 999999999999 < h.begin {
+        return false;
+    }
+    let top = road_top(h.begin);
     (1 <= h.kind)
         & (h.kind <= 2)
         & (0 <= h.begin)
-        & (h.begin <= 1999999999)
-        & (h.begin as u64 + 1 <= h.end as u64)
-        & (h.end <= 2000000000)
+        & (h.begin <= 999999999999)
+        & (h.begin + 1 <= h.end)
+        & (h.end <= top)
         & (1 <= h.forward)
         & (h.forward <= 200000)
         & (0 <= h.opposite)
@@ -71,10 +77,10 @@ pub fn hazard_in_range(h: Header, z: GivenHazard) -> bool
     ensures { λ r. ⌜ r ≡ hazardInRange h (hazardGiven z) ⌝ }
 {
     (z.side <= 1)
-        & (h.begin as u64 <= z.start)
-        & (z.start < h.end as u64)
+        & (h.begin <= z.start)
+        & (z.start < h.end)
         & (z.start < z.end)
-        & (z.end <= h.end as u64)
+        & (z.end <= h.end)
         & (z.near <= 60000)
         & (z.near <= z.far)
         & (z.far <= 60000)
@@ -88,8 +94,8 @@ fn given(p: NamedHazard) -> GivenHazard
 {
     GivenHazard {
         side: p.side as u64,
-        start: p.start as u64,
-        end: p.end as u64,
+        start: p.start,
+        end: p.end,
         near: p.near as u64,
         far: p.far as u64,
         level: p.level as u64,

@@ -1,22 +1,30 @@
--- Bytes that are not of kind 2 are opened as before document 02's request 4.
+-- Job bytes that were taken before document 02's request 11 are opened as then; bytes that are not of kind 2 as before its request 4.
 -- Assumes nothing.
 use mathlib.Core.Path.{_≡_, refl, ap, _∙_}
 use mathlib.Core.Bool.{Bool, true, false}
 use mathlib.Core.List.{[]}
 use lib.Dec.{eqb}
 use Rattle.refusal.specs.Answer.{Answer, accepted, refused, _>>=_, unless-refuse}
+use Rattle.refusal.proofs.LimitLaws.{limits-wider}
 use Rattle.job.specs.declared.StoredJob.{StoredJob}
 use Rattle.job.specs.Job.{Job, headerSize, Fields, readHeader, headerOf, readJob}
-use Rattle.planning.specs.Envelope.{lengthening, testHazards, acceptJob}
+use Rattle.job.proofs.LimitLaws.{header-of-job}
+use Rattle.planning.specs.Envelope.{lengthening, testHazards, acceptJobBy, acceptJob}
 use Rattle.planning.specs.Before.{headerBefore, readJobBefore, lengtheningBefore, testHazardsBefore, acceptBefore}
+use Rattle.planning.proofs.LimitLaws.{accepts-alike}
 use Rattle.planning.proofs.BeforeLaws.{header-alike, first-number, accept-alike}
 use Rattle.open_memory.specs.Memory.{laidOut}
-use Rattle.open_job.specs.Open.{openJob}
+use Rattle.open_job.specs.Open.{openJobBy}
 use Rattle.open_job.proofs.CallLaws.{none-read}
-use Rattle.open_promises.specs.Before.{openJobBefore, Opening-before}
+use Rattle.kept_states.specs.States.{openStatesBy}
+use Rattle.open_promises.specs.Before.{Opening-before-11, openJobBefore, Opening-before}
+
+pub opening-before-11 : Opening-before-11
+unfolding openStatesBy openJobBy
+opening-before-11 s j e = rw (header-of-job limits-wider s j e, accepts-alike limits-wider s j e)
 
 pub opening-before : Opening-before
-unfolding openJob openJobBefore acceptJob acceptBefore testHazards testHazardsBefore
+unfolding openJobBy openJobBefore acceptJobBy acceptBefore testHazards testHazardsBefore
 opening-before s plain = go (readHeader s) refl ∙ ap (λ (a : Answer Fields). a >>= λ f. rest f) (header-alike s plain)
   where
     rest : Fields → Answer StoredJob

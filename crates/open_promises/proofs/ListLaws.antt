@@ -22,7 +22,7 @@ use Rattle.job.specs.Reply.{headerAt}
 use Rattle.job.proofs.JobLaws.{HeaderFits}
 use Rattle.job.proofs.RestLaws.{job-step}
 use Rattle.job.proofs.OpeningLaws.{job-header, header-done, opening-empty}
-use Rattle.planning.specs.Envelope.{testHazards, acceptJob}
+use Rattle.planning.specs.Envelope.{testHazards, acceptJobBy, acceptJob}
 use Rattle.planning.proofs.EnvelopeLaws.{accepted-fits}
 use Rattle.planning.proofs.AcceptedLaws.{fitting-accepted}
 use Rattle.open_memory.specs.Memory.{standing, counted, laidOut, madeFrom, stands, inserted, without, admit, isOpenJob}
@@ -33,7 +33,7 @@ use Rattle.open_job.proofs.CallLaws.{opening-read}
 use Rattle.open_job.proofs.LayoutLaws.{laid-standing, laid-few, laid-open, add-laid, withdraw-laid, schedule-laid}
 use Rattle.kept_states.specs.declared.KeptState.{KeptState}
 use Rattle.kept_states.specs.declared.OpenStates.{OpenStates}
-use Rattle.kept_states.specs.States.{mostKept, greatestStateNumber, nothingKept, keptFrom, stateOf, isUsed, keptSound, keptStates, keptUnder, statesFrom, areOpenStates, openStates, addIn, withdrawIn, scheduleIn, keepIn, returnIn}
+use Rattle.kept_states.specs.States.{mostKept, greatestStateNumber, nothingKept, keptFrom, stateOf, isUsed, keptSound, keptStates, keptUnder, statesFrom, areOpenStates, openStatesBy, openStates, addIn, withdrawIn, scheduleIn, keepIn, returnIn}
 use Rattle.kept_states.proofs.StateLaws.{kept-under, none-above, states-sound, now-open, each-sound}
 use Rattle.open_promises.specs.Lists.{add, withdraw, Call, edit, schedule, keepAs, returnTo, Kept, nothing, state, States, isKept, opened, statesAfterAll, hazardsAfter, addedSince, afterCall, afterCalls, CallsFrom, AnswersAs, SchedulePromise, Holds, HoldsKept, Standing, StandingPromise, AgainPromise, ReturnPromise, UntouchedPromise, KeepPromise}
 use Rattle.open_promises.proofs.SameLaws.{made-fits, same-plans}
@@ -44,7 +44,7 @@ use Rattle.open_promises.proofs.MemoryLaws.{AgreeKept, laidKept, agree-
 -- An empty job with an accepted header opens, and nothing stands.
 
 accepted-read : (s : List ℕ) (j : Job) → acceptJob s ≡ accepted j → readJob s ≡ accepted j
-unfolding acceptJob
+unfolding acceptJobBy
 accepted-read s j e =
     let b1 = bound (readJob s) _ j e in
     let b2 = bound (testHazards (b1 .first .header) 0 (b1 .first .hazards)) _ j (b1 .rest) in
@@ -59,7 +59,7 @@ opened-empty s j e none =
     opening-read s ∙ rw (opening-empty s (b .taken) count, header-done s read)
 
 pub states-empty : (s : List ℕ) (j : Job) → acceptJob s ≡ accepted j → j .hazards ≡ [] → openStates s ≡ accepted (statesFrom (laidOut (j .header) []) (replicate mostKept nothingKept))
-unfolding openStates
+unfolding openStatesBy
 states-empty s j e none = rw (opened-empty s j e none)
 
 -- The replies on memory that is laid out.

@@ -7,8 +7,8 @@ use native.Mathlib.Nat.{le-of-suc-le-suc, not-suc-le-zero}
 use mathlib.Core.Path.{_≡_, refl, sym, ap, _∙_}
 use mathlib.Core.Bool.{Bool, true, false, _&&_}
 use mathlib.Core.List.{List, [], _∷_, _++_, map, append-assoc, append-nil, List·Memᴰ, List·Memᴰ·head, List·Memᴰ·tail}
-use lib.ListN.{length, getD, set, take, drop, replicate, length-append, length-set, drop-of-length-le, List·getD-map}
-use lib.Seq.{drop-cons, getD-take, take-append-seam}
+use lib.ListN.{length, getD, set, take, drop, length-append, length-set, drop-of-length-le, List·getD-map}
+use lib.Seq.{drop-cons, getD-take}
 use lib.Dec.{eqb}
 use Rattle.refusal.specs.Choice.{if_then_else_}
 use Rattle.refusal.specs.Answer.{Answer, accepted, refused, _>>=_}
@@ -16,7 +16,6 @@ use Rattle.refusal.specs.Refusal.{refusal}
 use Rattle.refusal.specs.Stored.{acceptedOr}
 use Rattle.refusal.specs.declared.Refusal.{Refusal}
 use Rattle.refusal.specs.declared.Outcome.the-variants.{Done, Refused}
-use Rattle.refusal.proofs.StoredLaws.{padded-more}
 use Rattle.job.specs.declared.Header.{Header}
 use Rattle.job.specs.declared.Hazard.{Hazard}
 use Rattle.job.specs.declared.NamedHazard.{NamedHazard}
@@ -25,10 +24,11 @@ use Rattle.job.specs.Job.{unnamed, jobOf}
 use Rattle.job.proofs.JobLaws.{HazardFits, JobFits}
 use Rattle.runs.specs.declared.Stretch.{Stretch}
 use Rattle.runs.specs.declared.Envelopes.{Envelopes}
+use Rattle.runs.proofs.StoredLaws.{noStretch, column-more, columns-stored}
 use Rattle.planning.specs.declared.Overhangs.{Overhangs}
 use Rattle.planning.specs.declared.accept.SideEnvelopes.{SideEnvelopes}
 use Rattle.planning.specs.Envelope.{reached, envelope, envelopes, cutToRoad, overhang, noOverhang, greater, overhangs, testHazard, testHazards}
-use Rattle.planning.specs.Reply.{Cuts, noCuts, cutsOf, _followedBy_, testedHazard, testedEnvelopes, sideFrom, noStretch, storedEnvelopes, storedCuts, sideAnswer}
+use Rattle.planning.specs.Reply.{Cuts, noCuts, cutsOf, _followedBy_, testedHazard, testedEnvelopes, sideFrom, storedEnvelopes, storedCuts, sideAnswer}
 use Rattle.planning.proofs.OverhangLaws.{greater-assoc, greater-none, none-greater}
 
 -- The turn
@@ -74,6 +74,19 @@ side-turn h side i taken zs d l =
     ap (sideFrom h side i taken) (drop-cons zs i d l ∙ ap (λ (n : ℕ). getD zs i d ∷ drop n zs) (sym (add-one i)))
     ∙ turn h side i taken (getD zs i d) (drop (i + 1) zs)
 
+-- The envelope that a hazard gives has no higher level than the hazard.
+pub level-given : (h : Header) (side i : ℕ) (z : Hazard) (e : Stretch) (o : Overhangs) → accepted (record { envelopes = e ∷ []; overhangs = o }) ≡ testedHazard h side i z → e .level ≤ z .level
+unfolding testedHazard envelopes cutToRoad envelope
+level-given h side i z e o p = omega (arith, ap first p, go (testHazard h i z) (eqb (z .side) side && reached h z))
+  where
+    first : Answer Cuts → ℕ
+    first a = getD (acceptedOr noCuts a .envelopes) 0 noStretch .level
+
+    go : (test : Answer (Unit {0})) (b : Bool) → first (test >>= λ _. accepted (record { envelopes = map (cutToRoad h) (if b then envelope h z ∷ [] else []); overhangs = overhangs h side (z ∷ []) })) ≤ z .level
+    go (accepted u) true = omega arith
+    go (accepted u) false = omega arith
+    go (refused k v) b = omega arith
+
 -- The loop
 
 pub getD-member : {A : Type 0} (l : List A) (i : ℕ) (d : A) → i < length l → List·Memᴰ (getD l i d) l
@@ -88,11 +101,20 @@ Replies r answer = (sideAnswer r ≡ answer) × (r ≡ storedCuts (r .outcome) (
 pub replies-refused : {r : SideEnvelopes} (x : Refusal) {answer : Answer Cuts} → r ≡ storedCuts (Refused x) noCuts → refusal x ≡ answer → Replies r answer
 replies-refused x p e = rw (p, sym e) (refl, refl)
 
+-- An envelope put behind those stored.
+abbrev withNext : Envelopes → Stretch → Envelopes
+withNext es e = record { count = es .count + 1; starts = set (es .starts) (es .count) (e .start); ends = set (es .ends) (es .count) (e .end); levels = set (es .levels) (es .count) (e .level) }
+
+next-stored : (es : List Stretch) (e : Stretch) → length es < 256 → withNext (storedEnvelopes es) e ≡ storedEnvelopes (es ++ e ∷ [])
+next-stored es e h = cc (length-append es (e ∷ []), column-more 256 (λ x. x .start) es e h, column-more 256 (λ x. x .end) es e h, column-more 256 (λ x. x .level) es e h)
+
 -- Behind the hazards before an index: the envelopes taken are stored, with their greatest overhangs, and what is left to do gives the answer.
 pub record SoFar (job : StoredJob) (side : ℕ) (envelopes : Envelopes) (overhangs : Overhangs) (index : ℕ) : Type 0 where
   pub within : index ≤ job .header .count
   pub few : envelopes .count ≤ index
-  pub room : length (envelopes .stretches) ≡ 256
+  pub start-places : length (envelopes .starts) ≡ 256
+  pub end-places : length (envelopes .ends) ≡ 256
+  pub level-places : length (envelopes .levels) ≡ 256
   pub taken : List Stretch
   pub whole : envelopes ≡ storedEnvelopes taken
   pub rest : sideFrom (job .header) side index (record { envelopes = taken; overhangs = overhangs }) (drop index (jobOf job .hazards)) ≡ testedEnvelopes (jobOf job) side
@@ -115,7 +137,9 @@ module _ (job : StoredJob) (side : ℕ) (fits : JobFits (jobOf job)) where
   none-yet e = record {
     within = omega arith;
     few = rw e (omega arith);
-    room = rw e refl;
+    start-places = rw e refl;
+    end-places = rw e refl;
+    level-places = rw e refl;
     taken = [];
     whole = e;
     rest = ap (λ (c : Cuts). testHazards (job .header) 0 (jobOf job .hazards) >>= λ _. accepted c) (none-then (cutsOf (job .header) side (jobOf job .hazards)));
@@ -132,15 +156,18 @@ module _ (job : StoredJob) (side : ℕ) (fits : JobFits (jobOf job)) where
         rw here at (sym (side-turn (job .header) side i soFar (jobOf job .hazards) (unnamed d) (inside job fits i d l)) ∙ so .rest)
 
     pub hazard-taken : (e : Stretch) (o new : Overhangs) → accepted (record { envelopes = e ∷ []; overhangs = o }) ≡ testedHazard (job .header) side i z → new ≡ greater overhangs o
-        → SoFar job side (record { count = envelopes .count + 1; stretches = set (envelopes .stretches) (envelopes .count) e }) new (i + 1)
+        → SoFar job side (withNext envelopes e) new (i + 1)
     hazard-taken e o new p q =
         let number : length (so .taken) ≡ envelopes .count = sym (ap (λ (es : Envelopes). es .count) (so .whole)) in
+        let room : length (so .taken) < 256 = omega (arith, so .few, fits .header .count) in
         record {
           within = omega arith;
           few = omega (arith, so .few);
-          room = rw length-set (so .room);
+          start-places = rw length-set (so .start-places);
+          end-places = rw length-set (so .end-places);
+          level-places = rw length-set (so .level-places);
           taken = so .taken ++ e ∷ [];
-          whole = rw (so .whole) (cc (length-append (so .taken) (e ∷ []), padded-more 256 noStretch (so .taken) e (omega (arith, so .few, fits .header .count))));
+          whole = rw (so .whole) (next-stored (so .taken) e room);
           rest = rw q (rw (sym p) at next);
         }
 
@@ -149,7 +176,9 @@ module _ (job : StoredJob) (side : ℕ) (fits : JobFits (jobOf job)) where
         record {
           within = omega arith;
           few = omega (arith, so .few);
-          room = so .room;
+          start-places = so .start-places;
+          end-places = so .end-places;
+          level-places = so .level-places;
           taken = so .taken;
           whole = so .whole;
           rest = rw (sym p, then-none soFar) at next;
@@ -165,5 +194,4 @@ module _ (job : StoredJob) (side : ℕ) (fits : JobFits (jobOf job)) where
       let c : Cuts = record { envelopes = so .taken; overhangs = overhangs } in
       let none : drop i (jobOf job .hazards) ≡ [] = drop-of-length-le (jobOf job .hazards) {i = i} (omega (arith, fits .hazards .count)) in
       let answer : accepted c ≡ testedEnvelopes (jobOf job) side = rw (none, then-none c) at (so .rest) in
-      let own = take-append-seam (so .taken) (replicate (256 - length (so .taken)) noStretch) in
-      rw (sym answer, so .whole) (ap (λ (l : List Stretch). accepted (record { envelopes = l; overhangs = overhangs })) own, refl)
+      rw (sym answer, so .whole) (ap (λ (l : List Stretch). accepted (record { envelopes = l; overhangs = overhangs })) (columns-stored 256 (so .taken)), refl)

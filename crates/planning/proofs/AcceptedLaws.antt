@@ -16,7 +16,7 @@ use Rattle.job.specs.declared.Hazard.{Hazard}
 use Rattle.job.specs.Job.{Job, readJob}
 use Rattle.job.specs.Writing.{writeJob}
 use Rattle.job.proofs.WritingLaws.{Bytes, job-written, job-is-written}
-use Rattle.planning.specs.Envelope.{reached, standsNear, testHazard, testHazards, acceptJob}
+use Rattle.planning.specs.Envelope.{reached, standsNear, testHazard, testHazards, acceptJobBy, acceptJob}
 use Rattle.planning.specs.Rows.{Passed}
 use Rattle.planning.proofs.EnvelopeLaws.{AcceptedFits, accepted-fits}
 
@@ -41,12 +41,12 @@ hazards-pass h i (z ∷ zs) rest p =
 
 -- A job that fits, its hazards passing 5, is accepted from its writing.
 pub fitting-accepted : (j : Job) → AcceptedFits j → acceptJob (writeJob j) ≡ accepted j
-unfolding acceptJob testHazards
+unfolding acceptJobBy testHazards
 fitting-accepted j f = rw (job-written j (f .fits), ← append-nil (j .hazards), hazards-pass (j .header) 0 (j .hazards) [] (f .passed))
 
 -- What was accepted is the writing of its job.
 pub accepted-is-written : (s : List ℕ) (j : Job) → Bytes s → acceptJob s ≡ accepted j → s ≡ writeJob j
-unfolding acceptJob
+unfolding acceptJobBy
 accepted-is-written s j b e =
     let b1 = bound (readJob s) _ j e in
     let b2 = bound (testHazards (b1 .first .header) 0 (b1 .first .hazards)) _ j (b1 .rest) in

@@ -15,14 +15,15 @@ use Rattle.refusal.specs.Choice.{if_then_else_}
 use Rattle.refusal.specs.Answer.{Answer, accepted, refused, _>>=_, unless-refuse}
 use Rattle.refusal.proofs.AnswerLaws.{bound}
 use Rattle.refusal.proofs.EachLaws.{cons-each}
+use Rattle.refusal.specs.Limits.{limits}
 use Rattle.number.specs.Number.{Reading, numberAt}
 use Rattle.approach.specs.Approach.{approachLength}
 use Rattle.approach.specs.Panel.{raisedLength}
 use Rattle.approach.proofs.PanelLaws.{raised-length-one}
 use Rattle.job.specs.declared.Header.{Header}
 use Rattle.job.specs.declared.Hazard.{Hazard}
-use Rattle.job.specs.Job.{Job, Range, within, _to_, sharedRanges, headerRanges, nextInHeader, Fields, readFields, moreNumbers, readHeader, headerOf, readHazards, readRest, readJob}
-use Rattle.job.proofs.JobLaws.{FieldsIn, fields-in, within-high}
+use Rattle.job.specs.Job.{Job, Range, within, _to_, sharedRangesBy, headerRangesBy, nextInHeader, Fields, readFieldsBy, readFields, moreNumbers, readHeaderBy, readHeader, headerOf, readHazards, readRestBy, readRest, readJobBy, readJob}
+use Rattle.job.proofs.JobLaws.{fields-in, fields-kept, within-high}
 use Rattle.planning.specs.Envelope.{Traffic, forward, opposite, runout, reaches, reachOf, offsetOf, lengthening, envelope, envelopes, testHazard, testHazards}
 use Rattle.planning.specs.Before.{leavesRoad, testHazardsBefore, acceptBefore, envelopesBefore, NotKindTwo, nextBefore, readHeaderBefore, headerBefore, readJobBefore, lengtheningBefore}
 
@@ -31,7 +32,7 @@ use Rattle.planning.specs.Before.{leavesRoad, testHazardsBefore, acceptB
 -- Two tables that agree behind the first number.
 fields-alike : (a b : List ℕ → Range) (number : ℕ) (valueOf : List ℕ → ℕ) (x : ℕ) → ((g : List ℕ) → a (x ∷ g) ≡ b (x ∷ g)) → (k : ℕ) (g s : List ℕ) (at : ℕ)
     → readFields a number valueOf k (x ∷ g) s at ≡ readFields b number valueOf k (x ∷ g) s at
-unfolding readFields
+unfolding readFieldsBy
 fields-alike a b number valueOf x same zero g s at = refl
 fields-alike a b number valueOf x same (suc k) g s at = go (numberAt s at) (fields-alike a b number valueOf x same k)
   where
@@ -54,13 +55,8 @@ fields-alike a b number valueOf x same (suc k) g s at = go (numberAt s at) (fiel
 fields-first : (rangeOf : List ℕ → Range) (number : ℕ) (valueOf : List ℕ → ℕ) (k : ℕ) (s : List ℕ) (at : ℕ)
     → readFields rangeOf number valueOf (suc k) [] s at
     ≡ (numberAt s at >>= λ x. unless-refuse (within (rangeOf []) (x .value)) number (valueOf []) >>= λ _. readFields rangeOf number valueOf k (x .value ∷ []) s (x .next))
-unfolding readFields
+unfolding readFieldsBy
 fields-first rangeOf number valueOf k s at = refl
-
--- Numbers read behind a first one keep it.
-first-kept : (rangeOf : List ℕ → Range) (k x : ℕ) (g numbers : List ℕ) → FieldsIn rangeOf k (x ∷ g) numbers → getD numbers 0 0 ≡ x
-first-kept rangeOf zero x g numbers f = ap (λ (l : List ℕ). getD l 0 0) (sym f)
-first-kept rangeOf (suc k) x g numbers f = first-kept rangeOf k x (g ++ f .0 ∷ []) numbers (f .2)
 
 -- A number that is no kind, by either range.
 outside : (high x : ℕ) → (x ≡ 0) ⊎ (high < x) → within (1 to high) x ≡ false
@@ -78,7 +74,7 @@ module _ (s : List ℕ) (plain : NotKindTwo s) where
 
   -- A header of kind 1, behind its first number.
   behind-kind : (at : ℕ) → readFields nextInHeader 3 (λ got. length got + 1) 13 (1 ∷ []) s at ≡ readFields nextBefore 3 (λ got. length got + 1) 13 (1 ∷ []) s at
-  unfolding headerRanges sharedRanges
+  unfolding headerRangesBy sharedRangesBy
   behind-kind at = fields-alike nextInHeader nextBefore 3 (λ got. length got + 1) 1 (λ g. refl) 13 [] s at
 
   abbrev further : Fields → Answer Fields
@@ -86,14 +82,14 @@ module _ (s : List ℕ) (plain : NotKindTwo s) where
 
   -- No number follows its fourteen.
   no-more : (n : ℕ) (a : Answer Fields) → readFields nextInHeader 3 (λ got. length got + 1) 13 (1 ∷ []) s n ≡ a → (a >>= λ f. further f) ≡ a
-  unfolding readFields
+  unfolding readFieldsBy
   no-more n (accepted f) e =
-      let kind = first-kept nextInHeader 13 1 [] (f .numbers) (fields-in nextInHeader 3 (λ got. length got + 1) 13 (1 ∷ []) s n f e) in
+      let kind = fields-kept nextInHeader 13 (1 ∷ []) (f .numbers) (fields-in limits nextInHeader 3 (λ got. length got + 1) 13 (1 ∷ []) s n f e) 0 (omega arith) in
       rw kind
   no-more n (refused k v) e = refl
 
   pub header-alike : readHeader s ≡ readHeaderBefore s
-  unfolding readHeader readHeaderBefore headerRanges sharedRanges
+  unfolding readHeaderBy readHeaderBefore headerRangesBy sharedRangesBy
   header-alike =
       ap (λ (a : Answer Fields). a >>= λ f. further f) (fields-first nextInHeader 3 (λ got. length got + 1) 13 s 0) ∙ go (numberAt s 0) refl
       ∙ sym (fields-first nextBefore 3 (λ got. length got + 1) 13 s 0)
@@ -114,15 +110,15 @@ module _ (s : List ℕ) (plain : NotKindTwo s) where
 
   -- The header that was read has kind 1, and so panel length 1.
   pub first-number : (f : Fields) → readHeader s ≡ accepted f → eqb (getD (f .numbers) 0 0) 2 ≡ false
-  unfolding readHeaderBefore headerRanges sharedRanges
+  unfolding readHeaderBefore headerRangesBy sharedRangesBy
   first-number f e =
-      let in14 = fields-in nextBefore 3 (λ got. length got + 1) 14 [] s 0 f (sym header-alike ∙ e) in
-      let kind = first-kept nextBefore 13 (in14 .0) [] (f .numbers) (in14 .2) in
+      let in14 = fields-in limits nextBefore 3 (λ got. length got + 1) 14 [] s 0 f (sym header-alike ∙ e) in
+      let kind = fields-kept nextBefore 13 (in14 .0 ∷ []) (f .numbers) (in14 .2) 0 (omega arith) in
       let one : in14 .0 ≤ 1 = within-high (1 to 1) (in14 .0) (in14 .1) in
       ne-eqb (getD (f .numbers) 0 0) 2 (λ two. omega arith)
 
   pub read-alike : readJob s ≡ readJobBefore s
-  unfolding readJob readJobBefore
+  unfolding readJobBy readJobBefore
   read-alike = go (readHeader s) refl ∙ ap (λ (a : Answer Fields). a >>= λ f. readRest (headerBefore (f .numbers)) (headerBefore (f .numbers) .count) [] s (f .next)) header-alike
     where
       go : (a : Answer Fields) → readHeader s ≡ a
@@ -156,7 +152,7 @@ module _ (h : Header) (one : h .panel ≡ 1) where
 -- A job that was read has panel length 1.
 module _ (s : List ℕ) (plain : NotKindTwo s) where
   pub panel-one : (j : Job) → readJob s ≡ accepted j → j .header .panel ≡ 1
-  unfolding readJobBefore readRest
+  unfolding readJobBefore readRestBy
   panel-one j e =
       let b1 = bound (readHeaderBefore s) _ j (sym (read-alike s plain) ∙ e) in
       let h = headerBefore (b1 .first .numbers) in

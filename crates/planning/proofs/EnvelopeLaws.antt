@@ -23,7 +23,7 @@ use Rattle.runs.specs.declared.Stretch.{Stretch}
 use Rattle.runs.specs.Level.{Has}
 use Rattle.runs.specs.RunList.{lastStation}
 use Rattle.runs.proofs.LevelLaws.{Proper, Levelled, EndsBy}
-use Rattle.planning.specs.Envelope.{Traffic, forward, opposite, runout, reaches, reached, reachOf, offsetOf, envelope, envelopes, cutToRoad, cutEnvelope, sideEnvelopes, OnRoad, standsNear, testHazard, testHazards, acceptJob}
+use Rattle.planning.specs.Envelope.{Traffic, forward, opposite, runout, reaches, reached, reachOf, offsetOf, envelope, envelopes, cutToRoad, cutEnvelope, sideEnvelopes, OnRoad, standsNear, testHazard, testHazards, acceptJobBy, acceptJob}
 use Rattle.planning.specs.Reply.{Cuts, cutsOf, testedEnvelopes}
 use Rattle.planning.specs.Overhang.{SideHazard}
 use Rattle.planning.specs.Rows.{Passed}
@@ -38,7 +38,7 @@ pub hazard-passed : (h : Header) (i : ℕ) (z : Hazard) (u : Unit {0}) → testH
 unfolding testHazard standsNear
 hazard-passed h i z u e = record { clear = λ r. ltb-false _ _ (not-and (reached h z) _ (tested _ 5 i _ e) r) }
 
-hazards-passed : (h : Header) (i : ℕ) (zs : List Hazard) (u : Unit {0}) → testHazards h i zs ≡ accepted u → (z : Hazard) → List·Memᴰ z zs → Passed h z
+pub hazards-passed : (h : Header) (i : ℕ) (zs : List Hazard) (u : Unit {0}) → testHazards h i zs ≡ accepted u → (z : Hazard) → List·Memᴰ z zs → Passed h z
 unfolding testHazards
 hazards-passed h i [] u e = λ z m. absurd (List·Memᴰ·not-nil m)
 hazards-passed h i (x ∷ xs) u e =
@@ -51,7 +51,7 @@ pub record AcceptedFits (j : Job) : Type 0 where
   pub passed : (z : Hazard) → List·Memᴰ z (j .hazards) → Passed (j .header) z
 
 pub accepted-fits : (s : List ℕ) (j : Job) → acceptJob s ≡ accepted j → AcceptedFits j
-unfolding acceptJob
+unfolding acceptJobBy
 accepted-fits s j e =
     let b1 = bound (readJob s) _ j e in
     let b2 = bound (testHazards (b1 .first .header) 0 (b1 .first .hazards)) _ j (b1 .rest) in

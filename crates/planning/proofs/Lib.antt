@@ -13,3 +13,4 @@ pub mod BeforeLaws
 pub mod AcceptedJobLaws
 pub mod AdjacentLaws
 pub mod ApproachedLaws
+pub mod LimitLaws

@@ -13,11 +13,16 @@ use Rattle.refusal.proofs.TestLaws.{and-right}
 use Rattle.job.specs.declared.Header.{Header}
 use Rattle.job.specs.declared.Hazard.{Hazard}
 use Rattle.job.specs.Job.{Job}
+use Rattle.runs.specs.declared.Stretch.{Stretch}
+use Rattle.runs.specs.Level.{Has}
+use Rattle.runs.specs.RunList.{IsRun}
+use Rattle.runs.proofs.RequiredLaws.{member→run}
 use Rattle.runs.proofs.LevelLaws.{Joined, covered, bridged, level→joined}
 use Rattle.planning.specs.Envelope.{forward, opposite, reached, lengthening, envelope, envelopes, cutToRoad, sideEnvelopes, overhang, noOverhang, greater, overhangs, sideOverhangs, OnRoad}
-use Rattle.planning.specs.Required.{jobLevel}
+use Rattle.planning.specs.Required.{jobLevel, jobRuns}
 use Rattle.planning.specs.Before.{leavesRoad, StaysOnRoad}
 use Rattle.planning.proofs.EnvelopeLaws.{AcceptedFits, side-lies}
+use Rattle.planning.proofs.JobRunLaws.{job-runs}
 
 -- Off the road a job requires nothing.
 pub level-off-road : (j : Job) (side : ℕ) → AcceptedFits j → (t : ℕ) → (OnRoad (j .header) t → ⊥) → jobLevel j side t ≡ 0
@@ -34,6 +39,24 @@ level-off-road j side fits t off = go (decLe (jobLevel j side t) 0)
     go : Dec (jobLevel j side t ≤ 0) → jobLevel j side t ≡ 0
     go (yes l) = omega arith
     go (no l) = absurd (off (on-road (level→joined (sideEnvelopes j side) (j .header .continuity) t 1 (omega arith) (omega arith))))
+
+-- So its runs lie on the road.
+pub runs-on-road : (j : Job) (side : ℕ) → AcceptedFits j → (r : Stretch) → List·Memᴰ r (jobRuns j side) → (j .header .begin ≤ r .start) × (r .end ≤ j .header .end)
+runs-on-road j side fits r m =
+    let first = on (r .start) (omega arith, run .long) (decLe (j .header .begin) (r .start)) (decLe (j .header .end) (r .start)) in
+    let last = on (r .end - 1) (omega (arith, run .long), omega (arith, run .long)) (decLe (j .header .begin) (r .end - 1)) (decLe (j .header .end) (r .end - 1)) in
+    (first .0, omega (arith, last .1))
+  where
+    run : IsRun (jobLevel j side) r
+    run = member→run (jobLevel j side) (jobRuns j side) (job-runs j side fits) r m
+
+    off : (t : ℕ) → Has r t → (OnRoad (j .header) t → ⊥) → ⊥
+    off t h away = omega (arith, run .above, run .one-level t h, level-off-road j side fits t away)
+
+    on : (t : ℕ) → Has r t → Dec (j .header .begin ≤ t) → Dec (j .header .end ≤ t) → OnRoad (j .header) t
+    on t h (yes a) (no b) = (a, omega arith)
+    on t h (yes a) (yes b) = absurd (off t h (λ w. omega (arith, w .1)))
+    on t h (no a) c = absurd (off t h (λ w. a (w .0)))
 
 -- Envelopes that stay on the road
 

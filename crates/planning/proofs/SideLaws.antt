@@ -6,19 +6,18 @@ use mathlib.Core.Path.{_≡_, refl, sym, ap, _∙_}
 use mathlib.Core.List.{List}
 use Rattle.refusal.specs.Answer.{Answer, accepted, refused, _>>=_}
 use Rattle.refusal.specs.Refusal.{refusal, outcome}
-use Rattle.refusal.specs.Stored.{acceptedOr}
 use Rattle.refusal.specs.declared.Refusal.{Refusal}
 use Rattle.refusal.specs.declared.Outcome.{Outcome}
 use Rattle.refusal.specs.declared.Outcome.the-variants.{Done, Refused}
 use Rattle.job.specs.Job.{Job, readJob}
 use Rattle.job.proofs.JobLaws.{JobFits}
-use Rattle.runs.specs.declared.Envelopes.{Envelopes}
 use Rattle.runs.specs.RunList.{envelopesOf}
 use Rattle.runs.specs.Stored.{StoredEnvelopes}
 use Rattle.runs.specs.Required.{requiredRuns}
-use Rattle.planning.specs.Envelope.{sideEnvelopes, testHazards, acceptJob}
+use Rattle.runs.proofs.StoredLaws.{runs-length}
+use Rattle.planning.specs.Envelope.{sideEnvelopes, testHazards, acceptJobBy}
 use Rattle.planning.specs.Required.{jobRuns}
-use Rattle.planning.specs.Reply.{Cuts, noCuts, cutsOf, testedEnvelopes, testedRuns, acceptedRuns, storedEnvelopes}
+use Rattle.planning.specs.Reply.{Cuts, cutsOf, testedEnvelopes, testedRuns, acceptedRuns}
 use Rattle.planning.specs.declared.accept.SideEnvelopes.{SideEnvelopes}
 use Rattle.planning.proofs.EnvelopeLaws.{tested-fit}
 use Rattle.planning.proofs.AcceptLaws.{Replies}
@@ -34,7 +33,7 @@ runs-tested j side = go (testHazards (j .header) 0 (j .hazards))
 
 -- The runs of the job that the bytes are: read, then tested.
 runs-read : (s : List ℕ) (side : ℕ) → acceptedRuns s side ≡ (readJob s >>= λ j. testedRuns j side)
-unfolding acceptedRuns acceptJob testedRuns
+unfolding acceptedRuns acceptJobBy testedRuns
 runs-read s side = job (readJob s)
   where
     test : (j : Job) (t : Answer (Unit {0})) → ((t >>= λ _. accepted j) >>= λ k. accepted (jobRuns k side)) ≡ (t >>= λ _. accepted (jobRuns j side))
@@ -68,8 +67,8 @@ module _ (j : Job) (side : ℕ) (r : SideEnvelopes) (reply : Replies r (testedEn
   pub stored-envelopes : JobFits j → r .outcome ≡ Done → StoredEnvelopes (r .envelopes)
   stored-envelopes fits e =
       let f = tested-fit j side beside fits (envelopes-done e) in
-      let whole : r .envelopes ≡ storedEnvelopes (envelopesOf (r .envelopes)) = ap (λ (x : SideEnvelopes). x .envelopes) (reply .1) ∙ ap (λ (a : Answer Cuts). storedEnvelopes (acceptedOr noCuts a .envelopes)) (envelopes-done e) in
-      record { count = omega (arith, f .few, ap (λ (es : Envelopes). es .count) whole); long = f .proper; levels = f .levelled; ends = f .ends }
+      let es = r .envelopes in
+      record { count = omega (arith, f .few, runs-length (es .starts) (es .ends) (es .levels) (es .count)); long = f .proper; levels = f .levelled; ends = f .ends }
 
   pub runs-done : r .outcome ≡ Done → testedRuns j side ≡ accepted (requiredRuns (envelopesOf (r .envelopes)) (j .header .continuity))
   runs-done e = runs-tested j side ∙ rw (envelopes-done e)

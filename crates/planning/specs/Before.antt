@@ -1,6 +1,6 @@
 -- Reading and planning as they were before two of document 02's requests, for theorems to compare with; what is not here did not change.
 -- Before request 8 an envelope was not cut, and one that left the road was refused 6. Before request 4 there was in addition a header of
--- fourteen numbers alone, of kind 1, and approach lengths were not raised.
+-- fourteen numbers alone, of kind 1, and approach lengths were not raised. The limits are those of request 11: only the rules differ.
 -- Assumes nothing.
 use Prim.Native.Nat.{ℕ, _+_, _-_}
 use mathlib.Core.Path.{_≡_}

@@ -7,10 +7,11 @@ use mathlib.Core.List.{List, [], _∷_, map}
 use lib.Dec.{ltb, eqb}
 use Rattle.refusal.specs.Choice.{if_then_else_}
 use Rattle.refusal.specs.Answer.{Answer, accepted, _>>=_, unless-refuse}
+use Rattle.refusal.specs.Limits.{Limits, limits}
 use Rattle.approach.specs.Panel.{raisedLength, BelowRaised}
 use Rattle.job.specs.declared.Header.{Header}
 use Rattle.job.specs.declared.Hazard.{Hazard}
-use Rattle.job.specs.Job.{Job, readJob}
+use Rattle.job.specs.Job.{Job, readJobBy}
 use Rattle.runs.specs.declared.Stretch.{Stretch}
 use Rattle.planning.specs.declared.Overhangs.{Overhangs}
 
@@ -148,5 +149,8 @@ testHazards h i [] = accepted tt
 testHazards h i (z ∷ zs) = testHazard h i z >>= λ _. testHazards h (i + 1) zs
 
 -- "An accepted job is one to which none of 1 to 7 applies."
-unfoldable pub acceptJob : (s : List ℕ) → Answer Job
-acceptJob s = readJob s >>= λ j. testHazards (j .header) 0 (j .hazards) >>= λ _. accepted j
+unfoldable pub acceptJobBy : Limits → (s : List ℕ) → Answer Job
+acceptJobBy L s = readJobBy L s >>= λ j. testHazards (j .header) 0 (j .hazards) >>= λ _. accepted j
+
+abbrev pub acceptJob : (s : List ℕ) → Answer Job
+acceptJob = acceptJobBy limits

@@ -5,7 +5,6 @@ use mathlib.Core.List.{List, [], _∷_, _++_, map}
 use lib.ListN.{length}
 use Rattle.refusal.specs.Answer.{Answer, accepted, _>>=_}
 use Rattle.refusal.specs.Refusal.{refusal, outcome}
-use Rattle.refusal.specs.Stored.{padded}
 use Rattle.refusal.specs.declared.Outcome.{Outcome}
 use Rattle.job.specs.declared.Header.{Header}
 use Rattle.job.specs.declared.Hazard.{Hazard}
@@ -13,6 +12,7 @@ use Rattle.job.specs.Job.{Job}
 use Rattle.runs.specs.declared.Stretch.{Stretch}
 use Rattle.runs.specs.declared.Envelopes.{Envelopes}
 use Rattle.runs.specs.RunList.{runsOf, envelopesOf}
+use Rattle.runs.specs.Stored.{column}
 use Rattle.planning.specs.declared.Overhangs.{Overhangs}
 use Rattle.planning.specs.declared.envelope.Traffic.{Traffic}
 use Rattle.planning.specs.declared.envelope.Traffic.the-variants.{Forward, Opposite}
@@ -62,11 +62,8 @@ unfoldable pub sideFrom : Header → (side index : ℕ) (taken : Cuts) (left : L
 sideFrom h side i taken left = spec.testHazards h i left >>= λ _. accepted (taken followedBy cutsOf h side left)
 
 -- Envelopes as they are stored: in 256 places, every number behind them 0.
-abbrev pub noStretch : Stretch
-noStretch = record { start = 0; end = 0; level = 0 }
-
 abbrev pub storedEnvelopes : List Stretch → Envelopes
-storedEnvelopes es = record { count = length es; stretches = padded 256 noStretch es }
+storedEnvelopes es = record { count = length es; starts = column 256 (λ e. e .start) es; ends = column 256 (λ e. e .end) es; levels = column 256 (λ e. e .level) es }
 
 -- The envelopes of a side and their overhangs as they are stored, beside an outcome.
 abbrev pub storedCuts : Outcome → Cuts → SideEnvelopes

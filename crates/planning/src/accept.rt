@@ -7,7 +7,6 @@ use job::unnamed;
 use refusal::Outcome;
 use refusal::Refusal;
 use runs::Envelopes;
-use runs::Stretch;
 ghost use mathlib.Core.Path.{_≡_};
 ghost use mathlib.Core.List.{[]};
 ghost use Prim.Native.Nat.{max};
@@ -25,7 +24,7 @@ pub struct SideEnvelopes {
     pub overhangs: Overhangs,
 }
 
-fn larger(a: u32, b: u32) -> u32
+fn larger(a: u64, b: u64) -> u64
     ensures { λ r. ⌜ r ≡ max a b ⌝ }
 {
     if a < b { b } else { a }
@@ -45,14 +44,11 @@ fn greater_of(a: Overhangs, b: Overhangs) -> Overhangs
 fn no_envelopes() -> Envelopes
     ensures { λ r. ⌜ r ≡ storedEnvelopes [] ⌝ }
 {
-    let none = Stretch {
-        start: 0,
-        end: 0,
-        level: 0,
-    };
     Envelopes {
         count: 0,
-        stretches: [none; 256],
+        starts: [0; 256],
+        ends: [0; 256],
+        levels: [0; 256],
     }
 }
 
@@ -78,7 +74,10 @@ pub fn side_envelopes(job: StoredJob, side: u64) -> SideEnvelopes
 {
     let header = job.header;
     let hazard_count = header.count as usize;
-    let mut envelopes = no_envelopes();
+    let mut count: usize = 0;
+    let mut starts: [u64; 256] = [0; 256];
+    let mut ends: [u64; 256] = [0; 256];
+    let mut levels: [u8; 256] = [0; 256];
     let mut overhangs = Overhangs {
         before: 0,
         after: 0,
@@ -90,11 +89,12 @@ pub fn side_envelopes(job: StoredJob, side: u64) -> SideEnvelopes
         index += 1;
         match tested {
             Tested::Envelope(envelope) => {
-                let count = envelopes.count;
                 let stretch = envelope.stretch;
                 let own = envelope.overhangs;
-                envelopes.stretches[count] = stretch;
-                envelopes.count = count + 1;
+                starts[count] = stretch.start;
+                ends[count] = stretch.end;
+                levels[count] = stretch.level as u8;
+                count += 1;
                 overhangs = greater_of(overhangs, own);
             }
             Tested::Without => {}
@@ -103,7 +103,12 @@ pub fn side_envelopes(job: StoredJob, side: u64) -> SideEnvelopes
     }
     SideEnvelopes {
         outcome: Outcome::Done,
-        envelopes,
+        envelopes: Envelopes {
+            count,
+            starts,
+            ends,
+            levels,
+        },
         overhangs,
     }
 }

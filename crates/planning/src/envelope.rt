@@ -32,14 +32,14 @@ pub enum Tested {
     Refused(Refusal),
 }
 
-pub fn lesser(a: u32, b: u32) -> u32
+pub fn lesser(a: u64, b: u64) -> u64
     ensures { λ r. ⌜ r ≡ min a b ⌝ }
 {
     if a < b { a } else { b }
 }
 
 // The runout length of a traffic; 0 where there is none.
-pub fn runout_length(header: Header, traffic: Traffic) -> u32
+pub fn runout_length(header: Header, traffic: Traffic) -> u64
     ensures { λ r. ⌜ r ≡ runout header (trafficOf traffic) ⌝ }
 {
     match traffic {
@@ -69,7 +69,7 @@ pub fn adjacent_traffic(header: Header, side: u8) -> Traffic
 }
 
 // What a traffic adds to the offsets of a side: nothing where it is adjacent, W where it is far.
-fn farther_by(header: Header, side: u8, traffic: Traffic) -> u32
+fn farther_by(header: Header, side: u8, traffic: Traffic) -> u64
     ensures { λ r. ⌜ r ≡ farther header side (trafficOf traffic) ⌝ }
 {
     if is_adjacent(header, side, traffic) {
@@ -80,14 +80,14 @@ fn farther_by(header: Header, side: u8, traffic: Traffic) -> u32
 }
 
 // The hazard reach of adjacent traffic.
-pub fn adjacent_reach(header: Header, hazard: Hazard) -> u32
+pub fn adjacent_reach(header: Header, hazard: Hazard) -> u64
     ensures { λ r. ⌜ r ≡ min (hazard .far) (header .zone) ⌝ }
 {
-    lesser(hazard.far, header.zone)
+    lesser(hazard.far as u64, header.zone)
 }
 
 // By how much a traffic lengthens the envelope of a hazard that stands clear of the barrier.
-fn lengthened_by(header: Header, hazard: Hazard, traffic: Traffic) -> u32
+fn lengthened_by(header: Header, hazard: Hazard, traffic: Traffic) -> u64
     requires { ⌜ HeaderFits header ⌝ }
     requires { ⌜ HazardFits header hazard ⌝ }
     requires { ⌜ header .offset + header .deflection ≤ hazard .near ⌝ }
@@ -98,10 +98,10 @@ fn lengthened_by(header: Header, hazard: Hazard, traffic: Traffic) -> u32
     if runout == 0 {
         return 0;
     }
-    if header.zone <= hazard.near + farther {
+    if header.zone <= hazard.near as u64 + farther {
         return 0;
     }
-    let reach = lesser(hazard.far + farther, header.zone);
+    let reach = lesser(hazard.far as u64 + farther, header.zone);
     let offset = header.offset + farther;
     approach::raised_length(
         header.panel,
@@ -115,7 +115,7 @@ fn lengthened_by(header: Header, hazard: Hazard, traffic: Traffic) -> u32
 }
 
 // By how much a station lies beyond another; 0 where it does not.
-fn beyond(station: u32, other: u32) -> u32
+fn beyond(station: u64, other: u64) -> u64
     ensures { λ r. ⌜ r ≡ station - other ⌝ }
 {
     if other < station { station - other } else { 0 }
@@ -155,7 +155,7 @@ pub fn test_hazard(header: Header, side: u64, index: usize, hazard: Hazard) -> T
     if stands_near(header, hazard) {
         return Tested::Refused(Refusal::NearBarrier(index));
     }
-    if header.zone <= hazard.near {
+    if header.zone <= hazard.near as u64 {
         return Tested::Without;
     }
     if hazard.side as u64 == side {

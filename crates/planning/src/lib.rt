@@ -7,6 +7,6 @@ pub mod side; // the runs of a side
 
 // By how many millimetres envelopes hang over before the road's begin A and behind its end B.
 pub struct Overhangs {
-    pub before: u32,
-    pub after: u32,
+    pub before: u64,
+    pub after: u64,
 }

@@ -11,5 +11,6 @@ pub fn stands_near(header: Header, hazard: Hazard) -> bool
     requires { ⌜ HazardFits header hazard ⌝ }
     ensures { λ r. ⌜ r ≡ standsNear header hazard ⌝ }
 {
-    (hazard.near < header.zone) & (hazard.near < header.offset + header.deflection)
+    let near = hazard.near as u64;
+    (near < header.zone) & (near < header.offset + header.deflection)
 }

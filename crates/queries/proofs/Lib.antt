@@ -5,3 +5,4 @@ pub mod PlaceLaws
 pub mod RangeLaws
 pub mod QuantitiesLaws
 pub mod SumLaws
+pub mod LimitLaws

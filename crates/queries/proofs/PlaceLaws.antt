@@ -16,9 +16,9 @@ use Rattle.number.specs.Number.{Reading, writeNumber}
 use Rattle.number.proofs.NumberLaws.{Bytes, small-length}
 use Rattle.runs.specs.declared.Stretch.{Stretch}
 use Rattle.runs.proofs.RunLaws.{Rising}
-use Rattle.schedule.specs.Schedule.{writeRecord, writeRecords, writeSchedule, readSchedule}
+use Rattle.schedule.specs.Schedule.{writeRecordBy, writeRecord, writeRecordsBy, writeRecords, writeScheduleBy, readSchedule}
 use Rattle.queries.specs.Walk.{headAt, Passed, recordAt, walkRecords}
-use Rattle.queries.specs.Lookup.{Part, Found, found, nowhere, findRecord, placeIn, asked, lookup, partOf}
+use Rattle.queries.specs.Lookup.{Part, Found, found, nowhere, findRecordBy, findRecord, placeInBy, placeIn, asked, lookupBy, lookup, partOf}
 use Rattle.queries.specs.Place.{IsPart, between}
 use Rattle.queries.specs.Query.{soFar, orLater}
 use Rattle.schedule.proofs.ScheduleLaws.{schedule-read}
@@ -37,7 +37,7 @@ finding from to reached e at t rs = orLater (soFar from to reached t) (findRecor
 
 -- Behind the last run: what was found.
 pub finding-over : (from to reached e at t : ℕ) → finding from to reached e at t [] ≡ soFar from to reached t
-unfolding findRecord
+unfolding findRecordBy
 finding-over from to reached e at t = go (soFar from to reached t)
   where
     go : (f : Found) → orLater f nowhere ≡ f
@@ -45,7 +45,7 @@ finding-over from to reached e at t = go (soFar from to reached t)
     go nowhere = refl
 
 pub place-start : (s : List ℕ) (t : ℕ) (n : Reading) → Bytes s → headAt s ≡ accepted n → placeIn s t ≡ thenRuns (walkRecords (n .value) 0 0 s (n .next)) (finding 0 0 0 0 (n .next) t)
-unfolding placeIn
+unfolding placeInBy
 place-start s t n b h =
     walk-start (λ rs. findRecord 0 (length (writeNumber (length rs))) rs t) (finding 0 0 0 0 (n .next) t) s n h
     (λ rs e. rw (so-far-none 0 0 0 t (omega arith)) (ap (λ (i : ℕ). findRecord 0 i rs t) (head-length s n rs b h e)))
@@ -67,11 +67,11 @@ module _ (t from to reached k e v : ℕ) (s : List ℕ) (at : ℕ) (p : Passed) 
       (λ rs. same rs ∙ ap (λ (i : ℕ). orLater (soFar from′ to′ reached′ t) (findRecord (p .run .end) i rs t)) (sym (size .0)))
 
   pub passed-by : t < p .run .start → Turn from to reached
-  unfolding findRecord
+  unfolding findRecordBy
   passed-by h = turned from to reached (λ rs. rw (lt-leb (p .run .start) t h))
 
   pub passed-here : reached ≤ e → p .run .start ≤ t → Turn at (p .next) (p .run .end)
-  unfolding findRecord
+  unfolding findRecordBy
   passed-here before h =
       let none = so-far-none from to reached t (omega (arith, record-read e v s at p r .next-run .after)) in
       let long : p .next - at ≡ length (writeRecord e (p .run)) = omega (arith, size .0) in
@@ -85,15 +85,15 @@ module _ (t from to reached k e v : ℕ) (s : List ℕ) (at : ℕ) (p : Passed) 
 -- By side
 module _ (right left : List ℕ) (side t : ℕ) where
   pub lookup-right : side ≡ 0 → lookup right left side t ≡ placeIn right t
-  unfolding lookup
+  unfolding lookupBy
   lookup-right e = rw e
 
   pub lookup-left : side ≡ 1 → lookup right left side t ≡ placeIn left t
-  unfolding lookup
+  unfolding lookupBy
   lookup-left e = rw e
 
   pub lookup-argument : 1 < side → lookup right left side t ≡ refused 8 0
-  unfolding lookup
+  unfolding lookupBy
   lookup-argument h = rw (lt-leb side 1 h)
 
 -- The place is within the schedule
@@ -105,7 +105,7 @@ pub record Within (i n : ℕ) (p : Part) : Type 0 where
   pub ends : p .at + p .len ≤ n
 
 find-within : (e v i : ℕ) (rs : List Stretch) (t : ℕ) (p : Part) → Rising e v rs → findRecord e i rs t ≡ found p → Within i (i + length (writeRecords e rs)) p
-unfolding findRecord writeRecords writeRecord
+unfolding findRecordBy writeRecordsBy writeRecordBy
 find-within e v i [] t p up q = let z : _≡_ {A = ℕ} 0 1 = cc in absurd (omega arith)
 find-within e v i (r ∷ rs) t p up q = go (leb (r .start) t && ltb t (r .end)) q (find-within (r .end) (r .level) (i + length (writeRecord e r)) rs t p (up .1))
   where
@@ -124,7 +124,7 @@ find-within e v i (r ∷ rs) t p up q = go (leb (r .start) t && ltb t (r .end)) 
     go false c later = let w = later c in record { some = w .some; after = omega (arith, w .after); ends = omega (arith, all, w .ends) }
 
 pub place-within : (s : List ℕ) (t : ℕ) (p : Part) → Bytes s → placeIn s t ≡ accepted (found p) → Within 0 (length s) p
-unfolding placeIn writeSchedule
+unfolding placeInBy writeScheduleBy
 place-within s t p b e =
     let f = bound (readSchedule s) _ (found p) e in
     let rs = f .first in
@@ -135,7 +135,7 @@ place-within s t p b e =
 
 -- The place that lookup finds is within the schedule of the side asked for.
 pub lookup-within : (right left : List ℕ) (side t : ℕ) (p : Part) → Bytes right → Bytes left → lookup right left side t ≡ accepted (found p) → Within 0 (length (asked side right left)) p
-unfolding lookup
+unfolding lookupBy
 lookup-within right left side t p br bl e = place-within (asked side right left) t p (go (eqb side 1)) (bound (unless-refuse (leb side 1) 8 0) _ (found p) e .rest)
   where
     go : (b : Bool) → Bytes (if b then left else right)

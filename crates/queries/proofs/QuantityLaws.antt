@@ -14,11 +14,11 @@ use Rattle.refusal.specs.Answer.{Answer, accepted, refused, _>>=_, unless-refus
 use Rattle.refusal.proofs.TestLaws.{and-left, and-right, and-intro}
 use Rattle.number.proofs.NumberLaws.{Bytes}
 use Rattle.runs.specs.declared.Stretch.{Stretch}
-use Rattle.runs.specs.RunList.{mostRuns, risingRuns, isRunList, shownLevel}
+use Rattle.runs.specs.RunList.{mostRuns, risingRuns, isRunListBy, shownLevel}
 use Rattle.runs.proofs.RunLaws.{Next, Rising, rising, shown-nothing}
 use Rattle.schedule.specs.Schedule.{readSchedule}
 use Rattle.queries.specs.Walk.{Passed, recordAt, walkRecords, overlap, overlapAt, overlaps, overlapSum}
-use Rattle.queries.specs.Quantity.{millimetres, quantity}
+use Rattle.queries.specs.Quantity.{millimetres, quantityBy, quantity}
 use Rattle.schedule.proofs.ScheduleLaws.{schedule-read}
 use Rattle.queries.proofs.StepLaws.{thenRuns, walk-passed}
 use Rattle.runs.specs.Count.{countFrom}
@@ -53,7 +53,7 @@ overlap-most e u r n v p q = go (eqb (r .level) v)
 
 -- The runs of a schedule that can be read rise.
 pub read-rising : (s : List ℕ) (rs : List Stretch) → Bytes s → readSchedule s ≡ accepted rs → Rising 0 0 rs
-unfolding isRunList
+unfolding isRunListBy
 read-rising s rs b e = rising 0 0 rs (and-right (leb (length rs) mostRuns) (risingRuns 0 0 rs) (schedule-read s rs b e .0))
 
 -- The arguments are in their ranges.
@@ -69,7 +69,7 @@ ranged v p q = (
 
 -- Then the quantity is the sum of the overlaps; else 8 is returned.
 pub quantity-sum : (s : List ℕ) (v p q : ℕ) → Bytes s → Ranged v p q → quantity s v p q ≡ overlapSum s v p q
-unfolding quantity overlapSum
+unfolding quantityBy overlapSum
 quantity-sum s v p q b h = rw (ranged v p q .1 h) (go (readSchedule s) refl)
   where
     go : (a : Answer (List Stretch)) → readSchedule s ≡ a → (a >>= λ rs. accepted (millimetres (shownLevel rs) v p q)) ≡ (a >>= λ rs. accepted (overlaps rs v p q))
@@ -77,7 +77,7 @@ quantity-sum s v p q b h = rw (ranged v p q .1 h) (go (readSchedule s) refl)
     go (refused x y) e = refl
 
 pub quantity-argument : (s : List ℕ) (v p q : ℕ) → (Ranged v p q → ⊥) → quantity s v p q ≡ refused 8 0
-unfolding quantity
+unfolding quantityBy
 quantity-argument s v p q n = go (leb 1 v && leb v 6 && leb p q) refl
   where
     go : (b : Bool) → (leb 1 v && leb v 6 && leb p q) ≡ b → (unless-refuse b 8 0 >>= λ _. readSchedule s >>= λ rs. accepted (millimetres (shownLevel rs) v p q)) ≡ refused 8 0

@@ -10,14 +10,14 @@ use lib.Dec.{leb}
 use borrow.Author.Tests.{leb-true, eq-eqb, ne-eqb}
 use Rattle.refusal.specs.Answer.{Answer, accepted, refused, _>>=_, unless-refuse}
 use Rattle.refusal.proofs.TestLaws.{and-left}
-use Rattle.number.specs.Number.{Reading, readNumber, readingOf, numberAt, writeNumber}
+use Rattle.number.specs.Number.{Reading, readNumber, readingOf, numberAtBy, numberAt, writeNumber}
 use Rattle.number.specs.declared.Read.{Read}
 use Rattle.number.specs.declared.Read.the-variants.{Number, Ended, Malformed}
 use Rattle.number.proofs.NumberLaws.{Bytes, read-number, number-read, read-bounds}
 use Rattle.runs.specs.declared.Stretch.{Stretch}
-use Rattle.runs.specs.RunList.{mayFollow, mostRuns, risingRuns, isRunList}
+use Rattle.runs.specs.RunList.{mayFollow, mostRuns, risingRuns, isRunListBy}
 use Rattle.runs.proofs.RunLaws.{Next}
-use Rattle.schedule.specs.Schedule.{writeRecord, writeRecords, writeSchedule, orTen, readSchedule}
+use Rattle.schedule.specs.Schedule.{writeRecordBy, writeRecord, writeRecords, writeScheduleBy, orTen, readSchedule}
 use Rattle.queries.specs.Walk.{headAt, Passed, followingRun, recordAt, walkRecords}
 use Rattle.schedule.proofs.ScheduleLaws.{schedule-read}
 use Rattle.queries.proofs.WalkLaws.{follows, passed, runRead, Numbers, all-three, no-gap, no-length, no-level, numbers, read-walk}
@@ -122,7 +122,7 @@ head-read s n h = go (numberAt s 0) refl
 
 -- The index behind the head is that behind the writing of the run count.
 pub head-length : (s : List ℕ) (n : Reading) (rs : List Stretch) → Bytes s → headAt s ≡ accepted n → readSchedule s ≡ accepted rs → length (writeNumber (length rs)) ≡ n .next
-unfolding writeSchedule isRunList
+unfolding writeScheduleBy isRunListBy
 head-length s n rs b h e =
     let w = schedule-read s rs b e in
     let few = leb-true (length rs) mostRuns (and-left (leb (length rs) mostRuns) (risingRuns 0 0 rs) (w .0)) in
@@ -131,7 +131,7 @@ head-length s n rs b h e =
     omega arith
 
 number-rises : (s : List ℕ) (at : ℕ) (r : Reading) → numberAt s at ≡ accepted r → at < r .next
-unfolding numberAt
+unfolding numberAtBy
 number-rises s at r e = go (readNumber s at) refl e
   where
     go : (c : Read) → readNumber s at ≡ c → readingOf at c ≡ accepted r → at < r .next
@@ -141,7 +141,7 @@ number-rises s at r e = go (readNumber s at) refl e
 
 -- A record passed takes the bytes of its writing.
 pub record-length : (e v : ℕ) (s : List ℕ) (at : ℕ) (p : Passed) → Bytes s → RecordRead e v s at p → (p .next ≡ at + length (writeRecord e (p .run))) × (at < p .next)
-unfolding writeRecord
+unfolding writeRecordBy
 record-length e v s at p b r =
     subst (λ (x : Passed). (x .next ≡ at + length (writeRecord e (x .run))) × (at < x .next)) (r .is)
     (let g = number-read s at (r .gap) b (r .gap-read) in

@@ -12,6 +12,7 @@ use Rattle.refusal.specs.Answer.{Answer, accepted, refused, _>>=_}
 use Rattle.number.specs.Number.{Reading}
 use Rattle.number.proofs.NumberLaws.{Bytes}
 use Rattle.runs.specs.declared.Stretch.{Stretch}
+use Rattle.runs.specs.RunList.{lastStation}
 use Rattle.runs.proofs.RunLaws.{Next}
 use Rattle.runs.proofs.SweptLaws.{zeros}
 use Rattle.schedule.specs.Schedule.{readSchedule}
@@ -61,6 +62,7 @@ sums-none numbers h = record { few = h; places = refl; fit = λ i. omega (arith,
 -- found so far and what the rest of the walk finds.
 pub record Between (s : List ℕ) (level : ℕ) (numbers sums : List ℕ) (count records at end last : ℕ) : Type 0 where
   pub kept : Sums numbers sums end
+  pub ends : end ≤ lastStation
   pub behind : (i : ℕ) → length numbers / 2 ≤ i → getD sums i 0 ≡ 0
   pub within : records ≤ count
   pub counts : runCount s ≡ thenRuns (walkRecords (count - records) end last s at) (λ rs. records + length rs)
@@ -75,6 +77,7 @@ between-start s level numbers sums n h z =
     let all : n .value - 0 ≡ n .value = omega arith in
     record {
       kept = z;
+      ends = omega arith;
       behind = λ i w. omega (arith, z .fit i);
       within = omega arith;
       counts = rw all (walk-start (λ rs. length rs) (λ rs. 0 + length rs) s n h (λ rs e. omega arith));
@@ -94,6 +97,7 @@ between-turn s level numbers sums sums′ count records at end last p some read 
         places = grown .places ∙ b .kept .places;
         fit = λ i. fits i (decLt i (length numbers / 2));
       };
+      ends = next .ends;
       behind = λ i h. grown .behind i h ∙ b .behind i h;
       within = omega arith;
       counts = b .counts ∙ rw one-less (walk-passed (λ rs. records + length rs) (λ rs. records + 1 + length rs) (count - records) end last s at p more read (λ rs. omega arith));

@@ -13,7 +13,7 @@ use lib.Dec.{leb, eqb}
 use borrow.Author.Tests.{le-leb, leb-true}
 use Rattle.refusal.specs.Answer.{Answer, accepted, refused, _>>=_, unless-refuse}
 use Rattle.refusal.proofs.TestLaws.{and-left, and-intro}
-use Rattle.number.specs.Number.{Reading, readingOf, numberAt, readNumber, writeNumber}
+use Rattle.number.specs.Number.{Reading, readingOf, numberAtBy, numberAt, readNumber, writeNumber}
 use Rattle.number.specs.declared.Read.{Read}
 use Rattle.number.specs.declared.Read.the-variants.{Number, Ended, Malformed}
 use Rattle.number.proofs.Read
@@ -22,9 +22,9 @@ use Rattle.number.proofs.GroupWalk.{read-none, read-one}
 use denote.Enum.Declared.{tagOf}
 use types.Run.{OneOf}
 use Rattle.runs.specs.declared.Stretch.{Stretch}
-use Rattle.runs.specs.RunList.{mayFollow, mostRuns, risingRuns, isRunList}
+use Rattle.runs.specs.RunList.{mayFollowBy, mayFollow, mostRuns, risingRunsBy, risingRuns, isRunListBy, isRunList}
 use Rattle.runs.proofs.RunLaws.{Next, rising, rising-test}
-use Rattle.schedule.specs.Schedule.{Records, readRecords, orTen, readSchedule}
+use Rattle.schedule.specs.Schedule.{Records, readRecordsBy, readRecords, orTen, readScheduleBy, readSchedule}
 use Rattle.queries.specs.Walk.{headAt, Passed, followingRun, levelAt, recordAt, walkRecords}
 
 -- Where a `let` finds no number, by the tag that it tests.
@@ -37,11 +37,11 @@ no-number at f Malformed k = refl
 -- One run
 
 may-follow : (e v : ℕ) (r : Stretch) → Next e v r → mayFollow e v r ≡ true
-unfolding mayFollow risingRuns
+unfolding mayFollowBy risingRunsBy
 may-follow e v r n = and-left (mayFollow e v r) true (rising-test e v (r ∷ []) (n, tt))
 
 pub follows : (e v : ℕ) (r : Stretch) → mayFollow e v r ≡ true → Next e v r
-unfolding mayFollow risingRuns
+unfolding mayFollowBy risingRunsBy
 follows e v r h = rising e v (r ∷ []) (and-intro h refl) .0
 
 abbrev pub runAfter : (e gap len lev : ℕ) → Stretch
@@ -63,7 +63,7 @@ run-refused e v gap len lev next n = go (mayFollow e v (runAfter e gap len lev))
 
 module _ (e v gap len : ℕ) (s : List ℕ) (at : ℕ) where
   pub level-ended : length s ≤ at → levelAt e v gap len s at ≡ refused 10 0
-  unfolding levelAt numberAt
+  unfolding levelAt numberAtBy
   level-ended h = rw (read-none s at h)
 
   or-ten-run : (lev next : ℕ) → orTen (followingRun e v gap len lev next) ≡ followingRun e v gap len lev next
@@ -80,7 +80,7 @@ module _ (e v gap len : ℕ) (s : List ℕ) (at : ℕ) where
 
   -- The number that stands at an index is its byte, or has no level's value.
   pub level-byte : Bytes s → at < length s → levelAt e v gap len s at ≡ followingRun e v gap len (getD s at 0) (at + 1)
-  unfolding levelAt numberAt
+  unfolding levelAt numberAtBy
   level-byte b there = go (decLt (getD s at 0) 128)
     where
       first : drop at s ≡ getD s at 0 ∷ drop (suc at) s
@@ -141,7 +141,7 @@ read s k e got at = orTen (readRecords k e got s at >>= finished s)
 
 -- Behind runs that begin no run list everything is refused.
 faulty : (s : List ℕ) (k e : ℕ) (got : List Stretch) (at : ℕ) → ((more : List Stretch) → isRunList (got ++ more) ≡ false) → read s k e got at ≡ refused 10 0
-unfolding readRecords finished
+unfolding readRecordsBy finished
 faulty s zero e got at h = rw (rw (append-nil got) at (h [])) (go (eqb at (length s)))
   where
     go : (b : Bool) → orTen (unless-refuse (b && false) 10 0 >>= λ _. accepted got) ≡ refused 10 0
@@ -164,14 +164,14 @@ begun-none = record { rises = λ more. refl }
 
 -- With one run more, which may or may not follow.
 begun-one : (e v : ℕ) (got : List Stretch) (r : Stretch) → Begun e v got → (more : List Stretch) → risingRuns 0 0 ((got ++ r ∷ []) ++ more) ≡ (mayFollow e v r && risingRuns (r .end) (r .level) more)
-unfolding risingRuns mayFollow
+unfolding risingRunsBy mayFollowBy
 begun-one e v got r b more = ap (risingRuns 0 0) (append-assoc got (r ∷ []) more) ∙ b .rises (r ∷ more)
 
 begun-more : (e v : ℕ) (got : List Stretch) (r : Stretch) → Begun e v got → mayFollow e v r ≡ true → Begun (r .end) (r .level) (got ++ r ∷ [])
 begun-more e v got r b h = record { rises = λ more. begun-one e v got r b more ∙ rw h }
 
 begun-not : (e v : ℕ) (got : List Stretch) (r : Stretch) → Begun e v got → mayFollow e v r ≡ false → (more : List Stretch) → isRunList ((got ++ r ∷ []) ++ more) ≡ false
-unfolding isRunList
+unfolding isRunListBy
 begun-not e v got r b h more = rw (begun-one e v got r b more, h) (go (leb (length ((got ++ r ∷ []) ++ more)) mostRuns))
   where
     go : (c : Bool) → (c && false) ≡ false
@@ -179,7 +179,7 @@ begun-not e v got r b h more = rw (begun-one e v got r b more, h) (go (leb (leng
     go false = refl
 
 begun-list : (e v : ℕ) (got : List Stretch) → Begun e v got → length got ≤ mostRuns → isRunList got ≡ true
-unfolding isRunList risingRuns
+unfolding isRunListBy risingRunsBy
 begun-list e v got b h = rw (le-leb (length got) mostRuns h) (ap (risingRuns 0 0) (sym (append-nil got)) ∙ b .rises [])
 
 -- The runs of the rest of a walk behind those got.
@@ -191,7 +191,7 @@ behind-one got r (accepted rs) = ap accepted (append-assoc got (r ∷ []) rs)
 behind-one got r (refused x y) = refl
 
 walked : (s : List ℕ) (k e v : ℕ) (got : List Stretch) (at : ℕ) → length got + k ≤ mostRuns → Begun e v got → read s k e got at ≡ behind got (walkRecords k e v s at)
-unfolding readRecords finished walkRecords recordAt followingRun
+unfolding readRecordsBy finished walkRecords recordAt followingRun
 walked s zero e v got at h b = rw (begun-list e v got b (omega arith)) (go (eqb at (length s)))
   where
     go : (c : Bool) → orTen (unless-refuse (c && true) 10 0 >>= λ _. accepted got) ≡ behind got (unless-refuse c 10 0 >>= λ _. accepted [])
@@ -215,7 +215,7 @@ walked s (suc k) e v got at h b = go (numbers s at) (λ r n m. walked s k (r .en
 
 -- Reading a schedule is reading its head and walking its records.
 pub read-walk : (s : List ℕ) → readSchedule s ≡ (headAt s >>= λ n. walkRecords (n .value) 0 0 s (n .next))
-unfolding readSchedule headAt finished
+unfolding readScheduleBy headAt finished
 read-walk s = go (numberAt s 0) refl
   where
     none : (w : Answer (List Stretch)) → behind [] w ≡ w

@@ -6,22 +6,26 @@ use mathlib.Core.List.{List}
 use lib.Dec.{leb, eqb}
 use Rattle.refusal.specs.Answer.{Answer, accepted, _>>=_, unless-refuse}
 use Rattle.refusal.specs.Refusal.{refusal}
+use Rattle.refusal.specs.Limits.{Limits, limits}
 use Rattle.runs.specs.RunList.{shownLevel}
 use Rattle.runs.specs.Count.{countFrom}
 use Rattle.queries.specs.declared.reply.Quantity.{Quantity}
 use Rattle.queries.specs.declared.reply.Quantity.the-variants as Quantity
-use Rattle.schedule.specs.Schedule.{readSchedule}
+use Rattle.schedule.specs.Schedule.{readScheduleBy}
 
 -- "How many millimetres of [p, q) have exactly that level."
 unfoldable pub millimetres : (f : ℕ → ℕ) → (level p q : ℕ) → ℕ
 millimetres f level p q = countFrom (λ (t : ℕ). eqb (f t) level) p (q - p)
 
 -- "8, then 10."
-unfoldable pub quantity : (s : List ℕ) (level p q : ℕ) → Answer ℕ
-quantity s level p q =
+unfoldable pub quantityBy : Limits → (s : List ℕ) (level p q : ℕ) → Answer ℕ
+quantityBy L s level p q =
     unless-refuse (leb 1 level && leb level 6 && leb p q) 8 0 >>= λ _.
-    readSchedule s >>= λ rs.
+    readScheduleBy L s >>= λ rs.
     accepted (millimetres (shownLevel rs) level p q)
+
+abbrev pub quantity : (s : List ℕ) (level p q : ℕ) → Answer ℕ
+quantity = quantityBy limits
 
 abbrev pub quantityReply : Quantity → Answer ℕ
 quantityReply (Quantity.Millimetres n) = accepted n

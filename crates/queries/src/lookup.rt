@@ -21,7 +21,7 @@ fn place_in(s: &[u8], station: u64) -> Located
     else {
         return Located::Refused(Refusal::Schedule);
     };
-    if station < reached as u64 {
+    if station < reached {
         Located::Found {
             start: from,
             end: to,

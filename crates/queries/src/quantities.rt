@@ -14,6 +14,7 @@ ghost use mathlib.Core.Bool.{_&&_};
 ghost use Prim.Native.Nat.{_≤_};
 ghost use lib.Dec.{leb};
 ghost use Rattle.refusal.specs.Refusal.{refusal};
+ghost use Rattle.runs.specs.RunList.{lastStation};
 ghost use Rattle.queries.specs.Walk as walk;
 ghost use Rattle.queries.specs.Sums.{Sums, Grown, Tallied};
 ghost use Rattle.queries.specs.Ranges.{areRanges, quantitiesReply, replied};
@@ -59,7 +60,8 @@ fn well_asked(level: u64, numbers: &[u64]) -> bool
 
 // The record at an index: `walk::read_record` once more. It is too long to be compiled into two walks, and called from both it would
 // cost each a third.
-fn next_record(s: &[u8], at: usize, end: u32, level: u32) -> Record
+fn next_record(s: &[u8], at: usize, end: u64, level: u32) -> Record
+    requires { ⌜ end ≤ lastStation ⌝ }
     ensures { λ r. ⌜ walk.recordReply r ≡ walk.recordAt end level (now (s .entry)) at ⌝ }
 {
     let Read::Number {
@@ -114,10 +116,10 @@ fn walk_ranges(s: &[u8], level: u32, numbers: &[u64], sums: &mut [u64; 64]) -> T
     let Head::Count { count, next: first } = read_head(s) else {
         return Tally::Bad;
     };
-    let mut records: u32 = 0;
+    let mut records: u64 = 0;
     let mut at = first;
     // The last run's end and level.
-    let mut end: u32 = 0;
+    let mut end: u64 = 0;
     let mut last: u32 = 0;
     while records < count {
         let Record::Next { run, next } = next_record(s, at, end, last) else {
@@ -132,7 +134,7 @@ fn walk_ranges(s: &[u8], level: u32, numbers: &[u64], sums: &mut [u64; 64]) -> T
     if at != s.len() {
         return Tally::Bad;
     }
-    Tally::Over(records as u64)
+    Tally::Over(records)
 }
 
 // No quantities, beside a refusal.

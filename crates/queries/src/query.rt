@@ -17,7 +17,7 @@ pub enum Walked {
         sum: u64,
         from: usize,
         to: usize,
-        reached: u32,
+        reached: u64,
     },
     // No schedule.
     Bad,
@@ -36,11 +36,11 @@ fn greater(a: u64, b: u64) -> u64
 }
 
 // How many millimetres [start, end) and [p, q) have in common.
-pub fn overlap(start: u32, end: u32, p: u64, q: u64) -> u64
+pub fn overlap(start: u64, end: u64, p: u64, q: u64) -> u64
     ensures { λ r. ⌜ r ≡ min q end - max p start ⌝ }
 {
-    let from = greater(p, start as u64);
-    let to = lesser(q, end as u64);
+    let from = greater(p, start);
+    let to = lesser(q, end);
     if from < to { to - from } else { 0 }
 }
 
@@ -56,12 +56,12 @@ pub fn walk(s: &[u8], level: u32, p: u64, q: u64, station: u64) -> Walked
     let mut left = count;
     let mut at = first;
     // The last run's end and level.
-    let mut end: u32 = 0;
+    let mut end: u64 = 0;
     let mut last: u32 = 0;
     let mut sum: u64 = 0;
     let mut from: usize = 0;
     let mut to: usize = 0;
-    let mut reached: u32 = 0;
+    let mut reached: u64 = 0;
     while 0 < left {
         let Record::Next { run, next } = read_record(s, at, end, last) else {
             return Walked::Bad;
@@ -69,7 +69,7 @@ pub fn walk(s: &[u8], level: u32, p: u64, q: u64, station: u64) -> Walked
         if run.level == level {
             sum += overlap(run.start, run.end, p, q);
         }
-        if run.start as u64 <= station {
+        if run.start <= station {
             from = at;
             to = next;
             reached = run.end;

@@ -2,12 +2,15 @@
 use number::Read;
 use runs::Stretch;
 ghost use mathlib.Core.Path.{_≡_};
+ghost use Prim.Native.Nat.{_≤_};
+ghost use Rattle.number.specs.Number.{greatest};
+ghost use Rattle.runs.specs.RunList.{lastStation};
 ghost use Rattle.queries.specs.Walk.{headAt, headReply, followingRun, levelAt, recordAt, recordReply};
 
 // What stands at the head of a schedule.
 pub enum Head {
     // The run count, and the index behind it.
-    Count { count: u32, next: usize },
+    Count { count: u64, next: usize },
     // No number, or more than 511.
     Bad,
 }
@@ -33,15 +36,18 @@ pub fn read_head(s: &[u8]) -> Head
 }
 
 // The run of a record's three numbers, behind a run that ended at `end` with `level`.
-fn following_run(end: u32, level: u32, gap: u32, length: u32, own: u32, next: usize) -> Record
+fn following_run(end: u64, level: u32, gap: u64, length: u64, own: u32, next: usize) -> Record
+    requires { ⌜ end ≤ lastStation ⌝ }
+    requires { ⌜ gap ≤ greatest ⌝ }
+    requires { ⌜ length ≤ greatest ⌝ }
     ensures { λ r. ⌜ recordReply r ≡ followingRun end level gap length own next ⌝ }
 {
-    let start = end as u64 + gap as u64;
-    let stop = start + length as u64;
+    let start = end + gap;
+    let stop = start + length;
     if length == 0 {
         return Record::Bad;
     }
-    if 2000000000 < stop {
+    if 1000000000000 < stop {
         return Record::Bad;
     }
     if own == 0 {
@@ -57,8 +63,8 @@ fn following_run(end: u32, level: u32, gap: u32, length: u32, own: u32, next: us
     }
     Record::Next {
         run: Stretch {
-            start: start as u32,
-            end: stop as u32,
+            start,
+            end: stop,
             level: own,
         },
         next,
@@ -67,7 +73,10 @@ fn following_run(end: u32, level: u32, gap: u32, length: u32, own: u32, next: us
 
 // The run of a record whose gap and length were read, its level at an index. A level is below 128, so it takes one byte; what takes
 // more is none.
-pub fn read_run(s: &[u8], at: usize, end: u32, level: u32, gap: u32, length: u32) -> Record
+pub fn read_run(s: &[u8], at: usize, end: u64, level: u32, gap: u64, length: u64) -> Record
+    requires { ⌜ end ≤ lastStation ⌝ }
+    requires { ⌜ gap ≤ greatest ⌝ }
+    requires { ⌜ length ≤ greatest ⌝ }
     ensures { λ r. ⌜ recordReply r ≡ levelAt end level gap length (now (s .entry)) at ⌝ }
 {
     if s.len() <= at {
@@ -77,7 +86,8 @@ pub fn read_run(s: &[u8], at: usize, end: u32, level: u32, gap: u32, length: u32
 }
 
 // The record at an index, behind a run that ended at `end` with `level`.
-pub fn read_record(s: &[u8], at: usize, end: u32, level: u32) -> Record
+pub fn read_record(s: &[u8], at: usize, end: u64, level: u32) -> Record
+    requires { ⌜ end ≤ lastStation ⌝ }
     ensures { λ r. ⌜ recordReply r ≡ recordAt end level (now (s .entry)) at ⌝ }
 {
     let Read::Number {

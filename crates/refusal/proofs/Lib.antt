@@ -3,3 +3,4 @@ pub mod AnswerLaws
 pub mod RowLaws
 pub mod EachLaws
 pub mod StoredLaws
+pub mod LimitLaws

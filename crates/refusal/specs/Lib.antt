@@ -2,3 +2,4 @@ pub mod Choice
 pub mod Answer
 pub mod Refusal
 pub mod Stored
+pub mod Limits

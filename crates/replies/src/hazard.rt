@@ -12,7 +12,7 @@ pub fn offset(job: &[u8], hazard: u64, longest: u64) -> SmallestOffset
     match clear_offset::offset::smallest_offset(job, hazard, longest) {
         Offset::Smallest(millimetres) => SmallestOffset {
             number: 0,
-            value: millimetres as u64,
+            value: millimetres,
             found: 1,
         },
         Offset::Nothing => SmallestOffset {

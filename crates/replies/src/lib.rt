@@ -95,8 +95,8 @@ fn plan_reply(reply: Plan) -> PlanReply
             PlanReply {
                 number: 0,
                 value: written.bytes as u64,
-                before: overhangs.before as u64,
-                after: overhangs.after as u64,
+                before: overhangs.before,
+                after: overhangs.after,
             }
         }
         Plan::Refused(refusal) => PlanReply {

@@ -2,27 +2,30 @@
 -- Assumes nothing.
 use Prim.Native.Nat.{ℕ, _+_, _*_, _≤_}
 use native.Mathlib.Omega.{arith}
-use mathlib.Core.Path.{_≡_, refl}
+use mathlib.Core.Path.{_≡_, refl, ap}
 use mathlib.Core.Bool.{true}
 use mathlib.Core.List.{List, [], _∷_, _++_}
 use lib.ListN.{length, length-append}
 use Rattle.refusal.specs.Choice.{someOf, keep}
 use Rattle.refusal.specs.Answer.{Answer, accepted, refused}
-use Rattle.number.specs.Number.{writeIn, writeNumber, scan, readNumber, numberAt}
+use Rattle.refusal.specs.Limits.{earlier}
+use Rattle.refusal.proofs.LimitLaws.{limits-wider}
+use Rattle.number.specs.Number.{writeIn, writeNumberBy, scan, readNumberBy, numberAtBy}
 use Rattle.approach.specs.Approach.{ceilDiv, formulaLength, approachLength}
 use Rattle.approach.specs.Panel.{raised, raisedLength}
 use Rattle.job.specs.Writing.{writeNumbers}
-use Rattle.job.specs.Job.{Job, sharedRanges, headerRanges, hazardRanges, readFields, readHeader, readHazards, readJob, readRest}
+use Rattle.job.specs.Job.{Job, sharedRangesBy, headerRangesBy, hazardRanges, readFieldsBy, readHeaderBy, readHazardsBy, readJobBy, readRestBy}
 use Rattle.runs.specs.declared.Stretch.{Stretch}
 use Rattle.runs.specs.Level.{filled, highest, requiredLevel}
 use Rattle.runs.specs.Required.{insertStation, endPoints, put, runsBetween, requiredRuns}
 use Rattle.runs.specs.RunList.{isRunList, lastStation}
 use Rattle.runs.proofs.RunLaws.{Next, Rising}
-use Rattle.planning.specs.Envelope.{farther, reachOf, offsetOf, reaches, reached, lengthening, envelope, envelopes, cutToRoad, standsNear, testHazard, testHazards, acceptJob}
+use Rattle.planning.specs.Envelope.{farther, reachOf, offsetOf, reaches, reached, lengthening, envelope, envelopes, cutToRoad, standsNear, testHazard, testHazards, acceptJobBy, acceptJob}
 use Rattle.planning.specs.Required.{jobRuns}
 use Rattle.planning.proofs.EnvelopeLaws.{accepted-fits}
 use Rattle.planning.proofs.JobRunLaws.{job-run-list}
-use Rattle.report.specs.Text.{digitsIn, decimal, fields, line, rightWord, leftWord, totalWord, refusedWord, runLines, covered, totalLine, refusedLine, runsReport, reportOf, reported}
+use Rattle.planning.proofs.LimitLaws.{accepts-alike}
+use Rattle.report.specs.Text.{digitsIn, decimal, fields, line, rightWord, leftWord, totalWord, refusedWord, runLines, covered, totalLine, refusedLine, runsReport, reportOf, reportedBy, reported}
 use Rattle.report.specs.Printed.{printedJob, printedText}
 use Rattle.report.specs.Printing.{mostText}
 use Rattle.report.proofs.DigitLaws.{decimal-within, decimal-most}
@@ -43,12 +46,12 @@ fields-nothing : length (fields []) ≡ 0
 unfolding fields
 fields-nothing = refl
 
--- A station has at most 10 digits.
-station : (n : ℕ) → n ≤ lastStation → length (decimal n) ≤ 10
-station n h = decimal-within 9 n (omega arith)
+-- A station has at most 13 digits.
+station : (n : ℕ) → n ≤ lastStation → length (decimal n) ≤ 13
+station n h = decimal-within 12 n (omega arith)
 
 -- The line of a run: a letter, two stations and a level.
-run-line-short : (word : List ℕ) (e v : ℕ) (r : Stretch) → length word ≡ 1 → Next e v r → length (lineOf word r) ≤ 26
+run-line-short : (word : List ℕ) (e v : ℕ) (r : Stretch) → length word ≡ 1 → Next e v r → length (lineOf word r) ≤ 32
 run-line-short word e v r w n =
     omega (
       arith,
@@ -62,7 +65,7 @@ run-line-short word e v r w n =
       decimal-within 0 (r .level) (omega (arith, n .top)),
     )
 
-run-lines-short : (word : List ℕ) (e v : ℕ) (rs : List Stretch) → length word ≡ 1 → Rising e v rs → length (runLines word rs) ≤ 26 * length rs
+run-lines-short : (word : List ℕ) (e v : ℕ) (rs : List Stretch) → length word ≡ 1 → Rising e v rs → length (runLines word rs) ≤ 32 * length rs
 unfolding runLines
 run-lines-short word e v [] w h = omega arith
 run-lines-short word e v (r ∷ rs) w h =
@@ -86,7 +89,7 @@ runs-report-fits right left r l =
       run-lines-short leftWord 0 0 left refl down,
       run-list-short right r,
       run-list-short left l,
-      pair-short totalWord (covered right) (covered left) 10 (station (covered right) (covered-top right up)) (station (covered left) (covered-top left down)),
+      pair-short totalWord (covered right) (covered left) 13 (station (covered right) (covered-top right up)) (station (covered left) (covered-top left down)),
     )
 
 pub refused-fits : (number value : ℕ) → length (refusedLine number value) ≤ mostText
@@ -94,7 +97,7 @@ refused-fits number value = omega (arith, pair-short refusedWord number value 20
 
 -- Every report fits.
 pub report-fits : (s : List ℕ) → length (reported s) ≤ mostText
-unfolding reported
+unfolding reportedBy
 report-fits s = go (acceptJob s) refl
   where
     go : (a : Answer Job) → acceptJob s ≡ a → length (reportOf a) ≤ mostText
@@ -103,8 +106,13 @@ report-fits s = go (acceptJob s) refl
         runs-report-fits (jobRuns j 0) (jobRuns j 1) (job-run-list j 0 fits) (job-run-list j 1 fits)
     go (refused k v) e = refused-fits k v
 
+-- "Bytes accepted before give the same replies": the program prints the same.
+pub report-before-11 : (s : List ℕ) (j : Job) → readJobBy earlier s ≡ accepted j → reported s ≡ reportedBy earlier s
+unfolding reportedBy
+report-before-11 s j e = ap reportOf (accepts-alike limits-wider s j e)
+
 -- The job on paper
 
 pub printed-report : reported (writeNumbers printedJob) ≡ printedText
-unfolding writeNumbers printedJob printedText someOf keep writeIn writeNumber scan readNumber numberAt ceilDiv formulaLength approachLength raised raisedLength sharedRanges headerRanges hazardRanges readFields readHeader readHazards readRest readJob farther reachOf offsetOf reaches reached lengthening envelope envelopes cutToRoad standsNear testHazard testHazards acceptJob filled highest requiredLevel insertStation endPoints put runsBetween requiredRuns jobRuns digitsIn decimal fields line runLines covered runsReport reported
+unfolding writeNumbers printedJob printedText someOf keep writeIn writeNumberBy scan readNumberBy numberAtBy ceilDiv formulaLength approachLength raised raisedLength sharedRangesBy headerRangesBy hazardRanges readFieldsBy readHeaderBy readHazardsBy readRestBy readJobBy farther reachOf offsetOf reaches reached lengthening envelope envelopes cutToRoad standsNear testHazard testHazards acceptJobBy filled highest requiredLevel insertStation endPoints put runsBetween requiredRuns jobRuns digitsIn decimal fields line runLines covered runsReport reportedBy
 printed-report = refl

@@ -10,11 +10,11 @@ ghost use Rattle.runs.specs.RunList.{isRunList, runsOf};
 ghost use Rattle.report.specs.Text.{runLine, runLines, covered, totalLine, refusedLine, runsReport};
 ghost use Rattle.report.specs.Writing.{Written};
 
-fn put_run_line(text: &mut [u8], at: usize, word: &[u8], start: u32, end: u32, level: u8) -> usize
+fn put_run_line(text: &mut [u8], at: usize, word: &[u8], start: u64, end: u64, level: u8) -> usize
     requires { ⌜ at + length (runLine (now word) start end level) ≤ length (now text) ⌝ }
     ensures { λ r. ⌜ Written (now (text .entry)) at (runLine (now (word .entry)) start end level) r (now (text .exit)) ⌝ }
 {
-    let numbers = [start as u64, end as u64, level as u64];
+    let numbers = [start, end, level as u64];
     put_line(text, at, word, &numbers)
 }
 
@@ -50,7 +50,7 @@ fn covered_length(list: RunList) -> u64
     let mut sum: u64 = 0;
     let mut i = 0;
     while i < count {
-        sum += (list.ends[i] - list.starts[i]) as u64;
+        sum += list.ends[i] - list.starts[i];
         i += 1;
     }
     sum

@@ -20,7 +20,7 @@ use Rattle.runs.specs.Steps.{keyOf, envelopeOf, envelopesTo, Sweepable}
 use Rattle.runs.proofs.GapLaws.{required-more}
 use Rattle.runs.proofs.RunLaws.{stretch-path}
 use Rattle.runs.proofs.RequiredLaws.{RunsOf, required-runs, runs-of-unique}
-use Rattle.runs.proofs.StoredLaws.{noStretch}
+use Rattle.runs.proofs.StoredLaws.{run-among, run-placed, envelopeAt}
 use Rattle.runs.proofs.SortLaws.{placed, among}
 
 -- Lists with the same members have the same required runs.
@@ -57,80 +57,73 @@ key-at keys ends (suc n) x m = go (List·Memᴰ·cases-cons m) (key-at keys ends
     go (inl e) r = record { at = n; below = omega arith; is = e }
     go (inr k) r = let w = r k in record { at = w .at; below = omega (arith, w .below); is = w .is }
 
--- The keys and ends of the first n stretches stand in two arrays.
-pub record Keyed (stretches : List Stretch) (keys ends : List ℕ) (n : ℕ) : Type 0 where
-  pub key-is : (j : ℕ) → j < n → getD keys j 0 ≡ keyOf (getD stretches j noStretch) j
-  pub end-is : (j : ℕ) → j < n → getD ends j 0 ≡ getD stretches j noStretch .end
+-- The keys of the first n envelopes stand in an array.
+abbrev pub Keyed : (e : Envelopes) (keys : List ℕ) (n : ℕ) → Type 0
+Keyed e keys n = (j : ℕ) → j < n → getD keys j 0 ≡ keyOf (getD (e .starts) j 0) (getD (e .levels) j 0) j
 
-pub keyed-none : (stretches : List Stretch) (keys ends : List ℕ) → Keyed stretches keys ends 0
-keyed-none stretches keys ends = record { key-is = λ j h. absurd (omega arith); end-is = λ j h. absurd (omega arith) }
-
-pub keyed-turn : (stretches : List Stretch) (keys ends : List ℕ) (i : ℕ) → Keyed stretches keys ends i → i < length keys → i < length ends
-    → Keyed stretches (set keys i (keyOf (getD stretches i noStretch) i)) (set ends i (getD stretches i noStretch .end)) (i + 1)
-keyed-turn stretches keys ends i k a b = record { key-is = λ j h. key j h (decLt j i); end-is = λ j h. end j h (decLt j i) }
+pub keyed-turn : (e : Envelopes) (keys : List ℕ) (i : ℕ) → Keyed e keys i → i < length keys
+    → Keyed e (set keys i (keyOf (getD (e .starts) i 0) (getD (e .levels) i 0) i)) (i + 1)
+keyed-turn e keys i k a j h = go (decLt j i)
   where
-    key : (j : ℕ) → j < i + 1 → Dec (j < i) → getD (set keys i (keyOf (getD stretches i noStretch) i)) j 0 ≡ keyOf (getD stretches j noStretch) j
-    key j h (yes l) = getD-set-other keys i j _ 0 (λ z. omega arith) ∙ k .key-is j l
-    key j h (no l) =
+    go : Dec (j < i) → getD (set keys i (keyOf (getD (e .starts) i 0) (getD (e .levels) i 0) i)) j 0 ≡ keyOf (getD (e .starts) j 0) (getD (e .levels) j 0) j
+    go (yes l) = getD-set-other keys i j _ 0 (λ z. omega arith) ∙ k j l
+    go (no l) =
         let z : j ≡ i = omega arith in
         rw z (getD-set-same keys i _ 0 a)
-
-    end : (j : ℕ) → j < i + 1 → Dec (j < i) → getD (set ends i (getD stretches i noStretch .end)) j 0 ≡ getD stretches j noStretch .end
-    end j h (yes l) = getD-set-other ends i j _ 0 (λ z. omega arith) ∙ k .end-is j l
-    end j h (no l) =
-        let z : j ≡ i = omega arith in
-        rw z (getD-set-same ends i _ 0 b)
 
 pub stored-sound : (e : Envelopes) → StoredEnvelopes e → AllSound (envelopesOf e)
 stored-sound e ok x m = record { long = ok .long x m; ends = ok .ends x m; low = ok .levels x m .0; top = ok .levels x m .1 }
 
-module _ (e : Envelopes) (ok : StoredEnvelopes e) (full : length (e .stretches) ≡ 256) where
-  pub sound-at : (j : ℕ) → j < e .count → Sound (getD (e .stretches) j noStretch)
-  sound-at j h = stored-sound e ok _ (among (e .stretches) (e .count) j noStretch h (omega (arith, ok .count)))
+module _ (e : Envelopes) (ok : StoredEnvelopes e) where
+  among-stored : (j : ℕ) → j < e .count → List·Memᴰ (envelopeAt e j) (envelopesOf e)
+  among-stored j h = run-among (e .starts) (e .ends) (e .levels) j (e .count) h
 
-  module _ (keys ends : List ℕ) (n : ℕ) (all : n ≡ e .count) (k : Keyed (e .stretches) keys ends n) (key-places : length keys ≡ 256) (end-places : length ends ≡ 256) where
+  pub sound-at : (j : ℕ) → j < e .count → Sound (envelopeAt e j)
+  sound-at j h = stored-sound e ok _ (among-stored j h)
+
+  module _ (keys : List ℕ) (n : ℕ) (all : n ≡ e .count) (k : Keyed e keys n) (key-places : length keys ≡ 256) where
     pub sortable : Sortable n keys
     sortable = record {
       size = key-places;
       within = omega (arith, ok .count);
-      fit = λ i h. let s = sound-at i (omega arith) in omega (arith, k .key-is i h, s .long, s .ends, s .top, ok .count);
+      fit = λ i h. let s = sound-at i (omega arith) in omega (arith, k i h, s .long, s .ends, s .top, ok .count);
     }
 
-    decode : (j : ℕ) → j < n → envelopeOf ends (getD keys j 0) ≡ getD (e .stretches) j noStretch
+    decode : (j : ℕ) → j < n → envelopeOf (e .ends) (getD keys j 0) ≡ envelopeAt e j
     decode j h =
         let s = sound-at j (omega arith) in
-        let q = k .key-is j h in
+        let q = k j h in
         let few = ok .count in
         let index : getD keys j 0 / 8 % 256 ≡ j = omega (arith, s .top) in
-        stretch-path _ _ (omega (arith, s .top)) (ap (λ (i : ℕ). getD ends i 0) index ∙ k .end-is j h) (omega (arith, s .top))
+        stretch-path _ _ (omega (arith, s .top)) (ap (λ (i : ℕ). getD (e .ends) i 0) index) (omega (arith, s .top))
 
     module _ (sorted-keys : List ℕ) (sorted : Sorted n keys sorted-keys) where
       -- The envelope of a sorted key is stored, and the other way round.
-      to : (x : Stretch) → List·Memᴰ x (envelopesTo sorted-keys ends n) → List·Memᴰ x (envelopesOf e)
+      to : (x : Stretch) → List·Memᴰ x (envelopesTo sorted-keys (e .ends) n) → List·Memᴰ x (envelopesOf e)
       to x m =
-          let w = key-at sorted-keys ends n x m in
+          let w = key-at sorted-keys (e .ends) n x m in
           let p = placed n keys 0 (sorted .same .none-gained _ (among sorted-keys n (w .at) 0 (w .below) (omega (arith, w .below, sorted .same .size, ok .count)))) in
-          let same : x ≡ getD (e .stretches) (p .at) noStretch = w .is ∙ ap (envelopeOf ends) (p .is) ∙ decode (p .at) (p .below) in
-          Memᴰ·cast same (among (e .stretches) (e .count) (p .at) noStretch (omega (arith, p .below)) (omega (arith, p .below, ok .count)))
+          let same : x ≡ envelopeAt e (p .at) = w .is ∙ ap (envelopeOf (e .ends)) (p .is) ∙ decode (p .at) (p .below) in
+          Memᴰ·cast same (among-stored (p .at) (omega (arith, p .below)))
 
-      from : (x : Stretch) → List·Memᴰ x (envelopesOf e) → List·Memᴰ x (envelopesTo sorted-keys ends n)
+      from : (x : Stretch) → List·Memᴰ x (envelopesOf e) → List·Memᴰ x (envelopesTo sorted-keys (e .ends) n)
       from x m =
-          let p = placed (e .count) (e .stretches) noStretch m in
+          let p = run-placed (e .starts) (e .ends) (e .levels) x (e .count) m in
           let q = placed n sorted-keys 0 (sorted .same .none-lost _ (among keys n (p .at) 0 (omega (arith, p .below)) (omega (arith, p .below, ok .count)))) in
-          let same : x ≡ envelopeOf ends (getD sorted-keys (q .at) 0) = p .is ∙ sym (decode (p .at) (omega (arith, p .below))) ∙ ap (envelopeOf ends) (q .is) in
-          Memᴰ·cast same (envelope-at sorted-keys ends n (q .at) (q .below))
+          let same : x ≡ envelopeOf (e .ends) (getD sorted-keys (q .at) 0) = p .is ∙ sym (decode (p .at) (omega (arith, p .below))) ∙ ap (envelopeOf (e .ends)) (q .is) in
+          Memᴰ·cast same (envelope-at sorted-keys (e .ends) n (q .at) (q .below))
 
-      swept-sound : AllSound (envelopesTo sorted-keys ends n)
+      swept-sound : AllSound (envelopesTo sorted-keys (e .ends) n)
       swept-sound x m = stored-sound e ok x (to x m)
 
-      pub sweepable : Sweepable sorted-keys ends n
-      sweepable = record {
+      pub sweepable : length (e .ends) ≡ 256 → Sweepable sorted-keys (e .ends) n
+      sweepable end-places = record {
         key-places = sorted .same .size ∙ key-places;
         end-places = end-places;
         few = omega (arith, ok .count);
         rising = sorted .sorted;
-        sound = λ i h. swept-sound _ (envelope-at sorted-keys ends n i h);
+        sound = λ i h. swept-sound _ (envelope-at sorted-keys (e .ends) n i h);
       }
 
-      pub stored-runs : (G : ℕ) → requiredRuns (envelopesTo sorted-keys ends n) G ≡ requiredRuns (envelopesOf e) G
+      pub stored-runs : (G : ℕ) → requiredRuns (envelopesTo sorted-keys (e .ends) n) G ≡ requiredRuns (envelopesOf e) G
       stored-runs G = same-runs _ _ G swept-sound (stored-sound e ok) to from

@@ -12,3 +12,4 @@ pub mod SweptLaws
 pub mod SortLaws
 pub mod KeyLaws
 pub mod StoredLaws
+pub mod LimitLaws

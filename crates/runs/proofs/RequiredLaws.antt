@@ -15,7 +15,7 @@ use Rattle.runs.specs.declared.Stretch.{Stretch}
 use Rattle.runs.specs.Level.{Has, requiredLevel}
 use Rattle.runs.specs.RunList.{IsRun}
 use Rattle.runs.specs.Required.{insertStation, endPoints, runsBetween, requiredRuns}
-use Rattle.runs.specs.RunList.{lastStation, mostRuns, isRunList, shownLevel}
+use Rattle.runs.specs.RunList.{lastStation, mostRuns, isRunListBy, isRunList, shownLevel}
 use Rattle.refusal.proofs.TestLaws.{and-intro}
 use Rattle.runs.proofs.LevelLaws.{Joined, covered, bridged, Proper, EndsBy, level-top, level→joined, joined→level}
 use Rattle.runs.proofs.RunLaws.{Next, Rising, rising, rising-test, rising-from, not-shown, stretch-path, Steps, runs-rising, runs-show, runs-count, runs-unique, shown-in, shown-before, shown-after, shown-zero, shown-nothing}
@@ -273,7 +273,7 @@ module _ (es : List Stretch) (G : ℕ) (proper : Proper es) (by : EndsBy lastSta
 
   -- Of up to 256 envelopes there are up to 511 runs.
   pub required-run-list : length es ≤ 256 → isRunList (requiredRuns es G) ≡ true
-  unfolding requiredRuns isRunList
+  unfolding requiredRuns isRunListBy
   required-run-list h =
       let n = count-points es G (endPoints es) refl (points-bounded lastStation es proper by) (points-sorted es) in
       let m = points-length es in

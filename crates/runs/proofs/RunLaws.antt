@@ -14,7 +14,7 @@ use Rattle.refusal.specs.Choice.{if_then_else_}
 use Rattle.runs.specs.declared.Stretch.{Stretch}
 use Rattle.runs.specs.Level.{Has}
 use Rattle.runs.specs.Required.{put, runsBetween}
-use Rattle.runs.specs.RunList.{lastStation, mayFollow, risingRuns, shownLevel}
+use Rattle.runs.specs.RunList.{lastStation, mayFollowBy, risingRunsBy, risingRuns, shownLevel}
 use Rattle.refusal.proofs.TestLaws.{and-left, and-right, and-intro, decided, not-both}
 
 -- A run that may follow one that ended at e with level v.
@@ -34,7 +34,7 @@ touching : (e v : ℕ) (r : Stretch) → not (eqb e (r .start) && eqb v (r .leve
 touching e v r h p q = not-both (and-intro (eq-eqb _ _ p) (eq-eqb _ _ q)) (not-true _ h)
 
 pub rising : (e v : ℕ) (rs : List Stretch) → risingRuns e v rs ≡ true → Rising e v rs
-unfolding risingRuns mayFollow
+unfolding risingRunsBy mayFollowBy
 rising e v [] h = tt
 rising e v (r ∷ rs) h =
     let a1 = and-left _ (risingRuns (r .end) (r .level) rs) h in
@@ -63,7 +63,7 @@ apart a b c d h = go (decided (eqb a b)) (decided (eqb c d))
     go (inr p) (inr q) = rw p
 
 pub rising-test : (e v : ℕ) (rs : List Stretch) → Rising e v rs → risingRuns e v rs ≡ true
-unfolding risingRuns mayFollow
+unfolding risingRunsBy mayFollowBy
 rising-test e v [] h = refl
 rising-test e v (r ∷ rs) h =
     let n = h .0 in

@@ -1,4 +1,4 @@
--- Laws of a stored run list, for loops that take its runs one by one.
+-- Laws of stored runs and envelopes, for loops that take them one by one or put them behind each other.
 -- Assumes nothing.
 use Prim.Native.Nat.{ℕ, zero, suc, _+_, _≤_, _<_}
 use native.Mathlib.Omega.{arith}
@@ -6,7 +6,8 @@ use native.Mathlib.Decide.{decLt}
 use native.Mathlib.Numerals.{add-one}
 use mathlib.Core.Path.{_≡_, refl, sym, ap, _∙_}
 use mathlib.Core.Bool.{true}
-use mathlib.Core.List.{List, [], _∷_, _++_, map, map-append, append-assoc}
+use mathlib.Core.Logic.{_⊎_, inl, inr}
+use mathlib.Core.List.{List, [], _∷_, _++_, map, map-append, append-assoc, List·Memᴰ, List·Memᴰ·head, List·Memᴰ·not-nil, List·Memᴰ·append-cases, List·Memᴰ·eq-of-singleton, Memᴰ·append-right}
 use lib.ListN.{length, getD, set, length-append, length-map, List·getD-append, List·getD-map}
 use lib.Seq.{ext-getD, getD-at, set-set}
 use lib.Dec.{leb}
@@ -15,7 +16,8 @@ use Rattle.refusal.proofs.TestLaws.{and-left, and-right}
 use Rattle.refusal.proofs.StoredLaws.{padded-more, padded-clear}
 use Rattle.runs.specs.declared.Stretch.{Stretch}
 use Rattle.runs.specs.declared.RunList.{RunList}
-use Rattle.runs.specs.RunList.{mostRuns, risingRuns, isRunList, lastEnd, runsTo, runsOf}
+use Rattle.runs.specs.declared.Envelopes.{Envelopes}
+use Rattle.runs.specs.RunList.{mostRuns, risingRuns, isRunListBy, isRunList, lastEnd, runsTo, runsOf}
 use Rattle.runs.specs.Stored.{column, storedRuns}
 use Rattle.runs.proofs.RunLaws.{stretch-path, Next, Rising, rising}
 
@@ -30,11 +32,11 @@ next-after e v [] r ss h = h .0
 next-after e v (x ∷ rs) r ss h = next-after (x .end) (x .level) rs r ss (h .1)
 
 pub run-list-rising : (rs : List Stretch) → isRunList rs ≡ true → Rising 0 0 rs
-unfolding isRunList
+unfolding isRunListBy
 run-list-rising rs h = rising 0 0 rs (and-right (leb (length rs) mostRuns) _ h)
 
 pub run-list-short : (rs : List Stretch) → isRunList rs ≡ true → length rs ≤ mostRuns
-unfolding isRunList
+unfolding isRunListBy
 run-list-short rs h = leb-true (length rs) mostRuns (and-left _ (risingRuns 0 0 rs) h)
 
 abbrev pub noStretch : Stretch
@@ -75,6 +77,24 @@ module _ (starts ends levels : List ℕ) where
       go (yes l) r = let b = r l in record { rest = b .rest ++ run n ∷ []; split = rw (b .split) (append-assoc (firstRuns i) (run i ∷ b .rest) (run n ∷ [])) }
       go (no l) r = record { rest = []; split = ap (λ (k : ℕ). firstRuns k ++ run k ∷ []) (let e : n ≡ i = omega arith in e) }
 
+  -- Membership by index.
+  pub run-among : (i n : ℕ) → i < n → List·Memᴰ (run i) (firstRuns n)
+  run-among i n h = let b = behind i n h in rw (b .split) (Memᴰ·append-right (firstRuns i) (List·Memᴰ·head refl))
+
+  pub record RunPlaced (r : Stretch) (n : ℕ) : Type 0 where
+    pub at : ℕ
+    pub below : at < n
+    pub is : r ≡ run at
+
+  pub run-placed : (r : Stretch) (n : ℕ) → List·Memᴰ r (firstRuns n) → RunPlaced r n
+  unfolding runsTo
+  run-placed r zero m = absurd (List·Memᴰ·not-nil m)
+  run-placed r (suc n) m = go (List·Memᴰ·append-cases (firstRuns n) m) (run-placed r n)
+    where
+      go : List·Memᴰ r (firstRuns n) ⊎ List·Memᴰ r (run n ∷ []) → (List·Memᴰ r (firstRuns n) → RunPlaced r n) → RunPlaced r (suc n)
+      go (inl k) p = let w = p k in record { at = w .at; below = omega (arith, w .below); is = w .is }
+      go (inr k) p = record { at = n; below = omega arith; is = List·Memᴰ·eq-of-singleton k }
+
   run-at : (i n : ℕ) → i < n → getD (firstRuns n) i noStretch ≡ run i
   run-at i n h = let b = behind i n h in rw (b .split) (getD-at (firstRuns i) (run i) (b .rest) noStretch i (runs-length i))
 
@@ -88,28 +108,37 @@ module _ (starts ends levels : List ℕ) where
     pub count-top : n ≤ mostRuns
     count-top = omega (arith, runs-length n, run-list-short (firstRuns n) list)
 
+-- The envelope at an index, and the first i.
+abbrev pub envelopeAt : Envelopes → ℕ → Stretch
+envelopeAt e = run (e .starts) (e .ends) (e .levels)
+
+abbrev pub firstEnvelopes : Envelopes → ℕ → List Stretch
+firstEnvelopes e = firstRuns (e .starts) (e .ends) (e .levels)
+
 -- Runs as they are stored.
 
-module _ (number : Stretch → ℕ) (rs : List Stretch) where
-  column-at : (i : ℕ) → i < length rs → getD (column number rs) i (number noStretch) ≡ number (getD rs i noStretch)
+module _ (places : ℕ) (number : Stretch → ℕ) (rs : List Stretch) where
+  column-at : (i : ℕ) → i < length rs → getD (column places number rs) i (number noStretch) ≡ number (getD rs i noStretch)
   column-at i h = List·getD-append (map number rs) _ _ i (omega (arith, length-map rs number)) ∙ List·getD-map number rs i noStretch
 
-  column-clear : set (column number rs) (length rs) 0 ≡ column number rs
-  column-clear = rw (sym (length-map rs number)) (padded-clear 512 0 (map number rs))
+  column-clear : set (column places number rs) (length rs) 0 ≡ column places number rs
+  column-clear = rw (sym (length-map rs number)) (padded-clear places 0 (map number rs))
 
-  column-more : (r : Stretch) → length rs < 512 → set (column number rs) (length rs) (number r) ≡ column number (rs ++ r ∷ [])
+  pub column-more : (r : Stretch) → length rs < places → set (column places number rs) (length rs) (number r) ≡ column places number (rs ++ r ∷ [])
   column-more r h =
       let same = length-map rs number in
-      rw (map-append number rs (r ∷ []), sym same) (padded-more 512 0 (map number rs) (number r) (omega arith))
+      rw (map-append number rs (r ∷ []), sym same) (padded-more places 0 (map number rs) (number r) (omega arith))
 
--- A list stores the runs that it was made of.
-pub runs-stored : (rs : List Stretch) → runsOf (storedRuns rs) ≡ rs
-runs-stored rs =
-    let l = storedRuns rs in
-    let n = runs-length (l .starts) (l .ends) (l .levels) (l .count) in
+-- The arrays store what they were made of.
+pub columns-stored : (places : ℕ) (rs : List Stretch) → runsTo (column places (λ r. r .start) rs) (column places (λ r. r .end) rs) (column places (λ r. r .level) rs) (length rs) ≡ rs
+columns-stored places rs =
+    let n = runs-length (column places (λ r. r .start) rs) (column places (λ r. r .end) rs) (column places (λ r. r .level) rs) (length rs) in
     ext-getD noStretch _ rs n
-    (λ i h. run-at (l .starts) (l .ends) (l .levels) i (length rs) (omega arith)
-    ∙ stretch-path _ _ (column-at (λ r. r .start) rs i (omega arith)) (column-at (λ r. r .end) rs i (omega arith)) (column-at (λ r. r .level) rs i (omega arith)))
+    (λ i h. run-at _ _ _ i (length rs) (omega arith)
+    ∙ stretch-path _ _ (column-at places (λ r. r .start) rs i (omega arith)) (column-at places (λ r. r .end) rs i (omega arith)) (column-at places (λ r. r .level) rs i (omega arith)))
+
+pub runs-stored : (rs : List Stretch) → runsOf (storedRuns rs) ≡ rs
+runs-stored = columns-stored 512
 
 -- A stretch put behind the runs of a list, which then has n of them; and zeros put there.
 abbrev pub withNext : RunList → Stretch → (n : ℕ) → RunList
@@ -119,12 +148,12 @@ abbrev pub cleared : RunList → RunList
 cleared l = withNext l noStretch (l .count)
 
 stored-cleared : (rs : List Stretch) → cleared (storedRuns rs) ≡ storedRuns rs
-stored-cleared rs = cc (column-clear (λ x. x .start) rs, column-clear (λ x. x .end) rs, column-clear (λ x. x .level) rs)
+stored-cleared rs = cc (column-clear 512 (λ x. x .start) rs, column-clear 512 (λ x. x .end) rs, column-clear 512 (λ x. x .level) rs)
 
 next-stored : (l : RunList) (rs : List Stretch) (r : Stretch) → l ≡ storedRuns rs → l .count < 512 → withNext l r (l .count + 1) ≡ storedRuns (rs ++ r ∷ [])
 next-stored l rs r e room =
     let h : length rs < 512 = omega (arith, ap (λ (x : RunList). x .count) e) in
-    rw e (cc (length-append rs (r ∷ []), column-more (λ x. x .start) rs r h, column-more (λ x. x .end) rs r h, column-more (λ x. x .level) rs r h))
+    rw e (cc (length-append rs (r ∷ []), column-more 512 (λ x. x .start) rs r h, column-more 512 (λ x. x .end) rs r h, column-more 512 (λ x. x .level) rs r h))
 
 -- What is put behind stored runs is one more of them, or nothing where it is not counted.
 module _ (l : RunList) (rs : List Stretch) (r : Stretch) (e : cleared l ≡ storedRuns rs) where

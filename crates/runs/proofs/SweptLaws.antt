@@ -14,7 +14,7 @@ use Rattle.runs.specs.Breaks.{Break, breaksTo, runsBelow}
 use Rattle.runs.specs.Stand.{AllSound, Raised, distinctTo, Stands}
 use Rattle.runs.specs.Steps.{Places, Room, Stepped, envelopesTo, Sweepable, Swept}
 use Rattle.runs.specs.Required.{requiredRuns}
-use Rattle.runs.specs.RunList.{lastStation, mostRuns, isRunList}
+use Rattle.runs.specs.RunList.{lastStation, mostRuns, isRunListBy}
 use Rattle.runs.proofs.RequiredLaws.{required-runs, required-run-list, runs-of-unique}
 use Rattle.runs.proofs.StandLaws.{tops-fall, level-small, stands-first, stands-last, last-zero}
 use Rattle.runs.proofs.PlaceLaws.{breaks-length, below-last}
@@ -64,7 +64,7 @@ module _ (keys ends : List ℕ) (n G : ℕ) where
 
 -- Up to 256 sound envelopes have up to 511 runs.
 few-runs : (es : List Stretch) (G : ℕ) → AllSound es → length es ≤ 256 → length (requiredRuns es G) ≤ mostRuns
-unfolding isRunList
+unfolding isRunListBy
 few-runs es G sound h =
     leb-true _ _ (and-left (leb (length (requiredRuns es G)) mostRuns) _ (required-run-list es G (λ e m. sound e m .long) (λ e m. sound e m .ends) h))
 

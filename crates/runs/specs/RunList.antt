@@ -5,9 +5,10 @@ use mathlib.Core.Bool.{Bool, true, _&&_, not}
 use mathlib.Core.List.{List, [], _∷_, _++_}
 use mathlib.Core.Path.{_≡_}
 use mathlib.Core.Logic.{_≢_}
-use lib.ListN.{length, getD, take}
+use lib.ListN.{length, getD}
 use lib.Dec.{ltb, leb, eqb}
 use Rattle.refusal.specs.Choice.{if_then_else_}
+use Rattle.refusal.specs.Limits.{Limits, limits}
 use Rattle.runs.specs.declared.Stretch.{Stretch}
 use Rattle.runs.specs.declared.RunList.{RunList}
 use Rattle.runs.specs.declared.Envelopes.{Envelopes}
@@ -24,24 +25,34 @@ pub record IsRun (f : ℕ → ℕ) (r : Stretch) : Type 0 where
 abbrev pub mostRuns : ℕ
 mostRuns = 511
 
--- "Ends up to 2,000,000,000": the greatest end.
+-- "Run ends follow the new limit": 1,000,000,000,000.
 abbrev pub lastStation : ℕ
-lastStation = 2000000000
+lastStation = limits .lastStation
 
--- A run that may follow one that ended at e with level v: rising, "lengths from 1, levels 1 to 6, ends up to 2,000,000,000, touching runs of different level".
-unfoldable pub mayFollow : (e v : ℕ) → Stretch → Bool
-mayFollow e v r =
-    leb e (r .start) && ltb (r .start) (r .end) && leb (r .end) lastStation && leb 1 (r .level) && leb (r .level) 6
+-- A run that may follow one that ended at e with level v: rising, "lengths from 1, levels 1 to 6, ends up to" the last station, "touching runs of
+-- different level".
+unfoldable pub mayFollowBy : Limits → (e v : ℕ) → Stretch → Bool
+mayFollowBy L e v r =
+    leb e (r .start) && ltb (r .start) (r .end) && leb (r .end) (L .lastStation) && leb 1 (r .level) && leb (r .level) 6
     && not (eqb e (r .start) && eqb v (r .level))
 
+abbrev pub mayFollow : (e v : ℕ) → Stretch → Bool
+mayFollow = mayFollowBy limits
+
 -- Runs after one that ended at e with level v.
-unfoldable pub risingRuns : (e v : ℕ) → List Stretch → Bool
-risingRuns e v [] = true
-risingRuns e v (r ∷ rs) = mayFollow e v r && risingRuns (r .end) (r .level) rs
+unfoldable pub risingRunsBy : Limits → (e v : ℕ) → List Stretch → Bool
+risingRunsBy L e v [] = true
+risingRunsBy L e v (r ∷ rs) = mayFollowBy L e v r && risingRunsBy L (r .end) (r .level) rs
+
+abbrev pub risingRuns : (e v : ℕ) → List Stretch → Bool
+risingRuns = risingRunsBy limits
 
 -- "A run list has at most 511 runs." No run has level 0, so the first one differs from what stands before it.
-unfoldable pub isRunList : List Stretch → Bool
-isRunList rs = leb (length rs) mostRuns && risingRuns 0 0 rs
+unfoldable pub isRunListBy : Limits → List Stretch → Bool
+isRunListBy L rs = leb (length rs) mostRuns && risingRunsBy L 0 0 rs
+
+abbrev pub isRunList : List Stretch → Bool
+isRunList = isRunListBy limits
 
 -- "At t a schedule shows the level of the run that has t, in the run list whose writing it is, else 0."
 unfoldable pub shownLevel : List Stretch → (t : ℕ) → ℕ
@@ -53,7 +64,7 @@ abbrev pub lastEnd : (e : ℕ) → List Stretch → ℕ
 lastEnd e [] = e
 lastEnd e (r ∷ rs) = lastEnd (r .end) rs
 
--- The first n entries of three arrays, side by side; the runs of a stored list.
+-- The first n entries of three arrays, side by side; the runs and the envelopes of a stored list.
 unfoldable pub runsTo : (starts ends levels : List ℕ) (n : ℕ) → List Stretch
 runsTo starts ends levels zero = []
 runsTo starts ends levels (suc n) =
@@ -62,6 +73,5 @@ runsTo starts ends levels (suc n) =
 abbrev pub runsOf : RunList → List Stretch
 runsOf r = runsTo (r .starts) (r .ends) (r .levels) (r .count)
 
--- The envelopes of a stored list.
 abbrev pub envelopesOf : Envelopes → List Stretch
-envelopesOf e = take (e .count) (e .stretches)
+envelopesOf e = runsTo (e .starts) (e .ends) (e .levels) (e .count)

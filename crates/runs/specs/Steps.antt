@@ -38,8 +38,8 @@ Stepped tops s l G level bs level′ bs′ =
     → Stands (record { start = s; end = e; level = l } ∷ es) G s tops′ level′ bs′
 
 -- The key of the envelope at an index: keys rise as the starts do.
-abbrev pub keyOf : (e : Stretch) (index : ℕ) → ℕ
-keyOf e index = e .start * 2048 + index * 8 + e .level
+abbrev pub keyOf : (start level index : ℕ) → ℕ
+keyOf start level index = start * 2048 + index * 8 + level
 
 -- The envelope of a key, whose end stands at the index.
 abbrev pub envelopeOf : (ends : List ℕ) (key : ℕ) → Stretch

@@ -16,10 +16,10 @@ pub record StoredEnvelopes (e : Envelopes) : Type 0 where
   pub levels : (s : Stretch) → List·Memᴰ s (envelopesOf e) → (1 ≤ s .level) × (s .level ≤ 6)
   pub ends : (s : Stretch) → List·Memᴰ s (envelopesOf e) → s .end ≤ lastStation
 
--- A number of each run, in 512 places: zeros stand behind.
-abbrev pub column : (number : Stretch → ℕ) → List Stretch → List ℕ
-column number rs = padded 512 0 (map number rs)
+-- A number of each run, in an array of so many places: zeros stand behind.
+abbrev pub column : (places : ℕ) (number : Stretch → ℕ) → List Stretch → List ℕ
+column places number rs = padded places 0 (map number rs)
 
 -- Runs as they are stored.
 abbrev pub storedRuns : List Stretch → RunList
-storedRuns rs = record { count = length rs; starts = column (λ r. r .start) rs; ends = column (λ r. r .end) rs; levels = column (λ r. r .level) rs }
+storedRuns rs = record { count = length rs; starts = column 512 (λ r. r .start) rs; ends = column 512 (λ r. r .end) rs; levels = column 512 (λ r. r .level) rs }

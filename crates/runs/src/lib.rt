@@ -5,21 +5,23 @@ mod sweep;
 
 // The millimetres [start, end) at a containment level.
 pub struct Stretch {
-    pub start: u32,
-    pub end: u32,
+    pub start: u64,
+    pub end: u64,
     pub level: u32,
 }
 
-// The first `count` stretches are the envelopes.
+// The first `count` entries are the envelopes.
 pub struct Envelopes {
     pub count: usize,
-    pub stretches: [Stretch; 256],
+    pub starts: [u64; 256],
+    pub ends: [u64; 256],
+    pub levels: [u8; 256],
 }
 
 // The first `count` entries are the runs, rising.
 pub struct RunList {
     pub count: usize,
-    pub starts: [u32; 512],
-    pub ends: [u32; 512],
+    pub starts: [u64; 512],
+    pub ends: [u64; 512],
     pub levels: [u8; 512],
 }

@@ -1,39 +1,36 @@
 // The required runs of a list of envelopes: their keys sorted, then one sweep.
 use super::Envelopes;
 use super::RunList;
-use super::Stretch;
 use super::sort::sort;
 use super::sweep::swept_runs;
 ghost use mathlib.Core.Path.{_≡_};
-ghost use Prim.Native.Nat.{_<_};
-ghost use Rattle.runs.specs.RunList.{envelopesOf};
+ghost use Prim.Native.Nat.{_≤_, _<_};
+ghost use Rattle.runs.specs.RunList.{lastStation, envelopesOf};
 ghost use Rattle.runs.specs.Required.{requiredRuns};
 ghost use Rattle.runs.specs.Steps.{keyOf};
 ghost use Rattle.runs.specs.Stored.{StoredEnvelopes, storedRuns};
 
 // Keys rise as the starts do; a key says where its envelope stands.
-fn key_of(e: Stretch, index: usize) -> u64
+fn key_of(start: u64, level: u8, index: usize) -> u64
+    requires { ⌜ start ≤ lastStation ⌝ }
     requires { ⌜ index < 256 ⌝ }
-    ensures { λ r. ⌜ r ≡ keyOf e index ⌝ }
+    ensures { λ r. ⌜ r ≡ keyOf start level index ⌝ }
 {
-    e.start as u64 * 2048 + index as u64 * 8 + e.level as u64
+    start * 2048 + index as u64 * 8 + level as u64
 }
 
 // The required runs of the envelopes.
-pub fn required_runs(envelopes: Envelopes, continuity: u32) -> RunList
+pub fn required_runs(envelopes: Envelopes, continuity: u64) -> RunList
     requires { ⌜ StoredEnvelopes envelopes ⌝ }
     ensures { λ r. ⌜ r ≡ storedRuns (requiredRuns (envelopesOf envelopes) continuity) ⌝ }
 {
     let mut keys: [u64; 256] = [0; 256];
-    let mut ends: [u32; 256] = [0; 256];
     let count = envelopes.count;
     let mut i = 0;
     while i < count {
-        let e = envelopes.stretches[i];
-        keys[i] = key_of(e, i);
-        ends[i] = e.end;
+        keys[i] = key_of(envelopes.starts[i], envelopes.levels[i], i);
         i += 1;
     }
     sort(&mut keys, count);
-    swept_runs(&keys[..], &ends[..], count, continuity)
+    swept_runs(&keys[..], &envelopes.ends[..], count, continuity)
 }

@@ -25,7 +25,7 @@ fn one_if(b: bool) -> usize
 }
 
 // How many levels have a top above t.
-fn above(tops: &[u32], t: u32) -> usize
+fn above(tops: &[u64], t: u64) -> usize
     requires { ⌜ length (now tops) ≡ 8 ⌝ }
     ensures { λ r. ⌜ (r ≡ aboveTo (now (tops .entry)) t 6) × (r ≤ 6) ⌝ }
 {
@@ -38,7 +38,7 @@ fn above(tops: &[u32], t: u32) -> usize
 }
 
 // How many of the break points lie before t.
-fn kept(starts: &[u32], count: usize, t: u32) -> usize
+fn kept(starts: &[u64], count: usize, t: u64) -> usize
     requires { ⌜ count ≤ length (now starts) ⌝ }
     ensures { λ r. ⌜ (r ≤ count) × ((levels : List ℕ) → breaksTo (now (starts .entry)) levels r ≡ cut t (breaksTo (now (starts .entry)) levels count)) ⌝ }
 {
@@ -64,7 +64,7 @@ fn level_before(levels: &[u8], k: usize) -> u8
 }
 
 // Level v from t on; before t nothing changes.
-fn set_from(starts: &mut [u32], levels: &mut [u8], count: usize, t: u32, v: usize) -> usize
+fn set_from(starts: &mut [u64], levels: &mut [u8], count: usize, t: u64, v: usize) -> usize
     requires { ⌜ Places (now starts) (now levels) ⌝ }
     requires { ⌜ count < breakPlaces ⌝ }
     requires { ⌜ v ≤ 6 ⌝ }
@@ -81,7 +81,7 @@ fn set_from(starts: &mut [u32], levels: &mut [u8], count: usize, t: u32, v: usiz
 }
 
 // The gap before a new envelope filled: level v from its top on, where v is above the level that stands.
-fn fill(starts: &mut [u32], levels: &mut [u8], tops: &[u32], p: Place, v: usize) -> usize
+fn fill(starts: &mut [u64], levels: &mut [u8], tops: &[u64], p: Place, v: usize) -> usize
     requires { ⌜ Places (now starts) (now levels) ⌝ }
     requires { ⌜ length (now tops) ≡ 8 ⌝ }
     requires { ⌜ p .count < breakPlaces ⌝ }
@@ -101,7 +101,7 @@ fn lesser(x: usize, y: usize) -> usize
     if x < y { x } else { y }
 }
 
-fn less_or_zero(x: u32, y: u32) -> u32
+fn less_or_zero(x: u64, y: u64) -> u64
     ensures { λ r. ⌜ r ≡ x - y ⌝ }
 {
     if y <= x { x - y } else { 0 }
@@ -109,13 +109,13 @@ fn less_or_zero(x: u32, y: u32) -> u32
 
 // An envelope from s at level l, above the level that stands there.
 fn lift(
-    starts: &mut [u32],
+    starts: &mut [u64],
     levels: &mut [u8],
-    tops: &[u32],
+    tops: &[u64],
     p: Place,
-    s: u32,
+    s: u64,
     l: usize,
-    g: u32,
+    g: u64,
 ) -> usize
     requires { ⌜ Places (now starts) (now levels) ⌝ }
     requires { ⌜ length (now tops) ≡ 8 ⌝ }
@@ -129,7 +129,7 @@ fn lift(
 }
 
 // The break points where the level falls, up to s.
-fn drain(starts: &mut [u32], levels: &mut [u8], tops: &[u32], p: Place, s: u32) -> Place
+fn drain(starts: &mut [u64], levels: &mut [u8], tops: &[u64], p: Place, s: u64) -> Place
     requires { ⌜ Room breakPlaces (now starts) (now levels) (now tops) (p .count) (p .level) ⌝ }
     ensures { λ r. ⌜ Drained (now (tops .entry)) s (p .count) (p .level) (breaksTo (now (starts .entry)) (now (levels .entry)) (p .count)) (r .count) (r .level) (breaksTo (now (starts .exit)) (now (levels .exit)) (r .count)) ⌝ }
 {
@@ -150,13 +150,13 @@ fn drain(starts: &mut [u32], levels: &mut [u8], tops: &[u32], p: Place, s: u32) 
 
 // The break points up to s, where an envelope of level l starts.
 fn step(
-    starts: &mut [u32],
+    starts: &mut [u64],
     levels: &mut [u8],
-    tops: &[u32],
+    tops: &[u64],
     p: Place,
-    s: u32,
+    s: u64,
     l: usize,
-    g: u32,
+    g: u64,
 ) -> Place
     requires { ⌜ Room 510 (now starts) (now levels) (now tops) (p .count) (p .level) ⌝ }
     requires { ⌜ l ≤ 6 ⌝ }
@@ -170,13 +170,13 @@ fn step(
     Place { count, level: l }
 }
 
-fn greater(x: u32, y: u32) -> u32
+fn greater(x: u64, y: u64) -> u64
     ensures { λ r. ⌜ r ≡ max x y ⌝ }
 {
     if x < y { y } else { x }
 }
 
-fn raised(top: u32, end: u32, within: bool) -> u32
+fn raised(top: u64, end: u64, within: bool) -> u64
     ensures { λ r. ⌜ r ≡ (if within then max top end else top) ⌝ }
 {
     if within {
@@ -186,7 +186,7 @@ fn raised(top: u32, end: u32, within: bool) -> u32
 }
 
 // An envelope more that ends at `end`, at level l: no level up to l has a lower top.
-fn raise(tops: &mut [u32], l: usize, end: u32)
+fn raise(tops: &mut [u64], l: usize, end: u64)
     requires { ⌜ length (now tops) ≡ 8 ⌝ }
     requires { ⌜ l ≤ 6 ⌝ }
     ensures { λ _. ⌜ Raised l end (now (tops .entry)) (now (tops .exit)) ⌝ }
@@ -201,22 +201,22 @@ fn raise(tops: &mut [u32], l: usize, end: u32)
 // The break points of the required level of n envelopes, in order of their starts.
 fn sweep(
     keys: &[u64],
-    ends: &[u32],
+    ends: &[u64],
     n: usize,
-    g: u32,
-    starts: &mut [u32],
+    g: u64,
+    starts: &mut [u64],
     levels: &mut [u8],
 ) -> usize
     requires { ⌜ Sweepable (now keys) (now ends) n ⌝ }
     requires { ⌜ Places (now starts) (now levels) ⌝ }
     ensures { λ r. ⌜ Swept (now (keys .entry)) (now (ends .entry)) n g (now (starts .exit)) (now (levels .exit)) r ⌝ }
 {
-    let mut tops: [u32; 8] = [0; 8];
+    let mut tops: [u64; 8] = [0; 8];
     let mut p = Place { count: 0, level: 0 };
     let mut i = 0;
     while i < n {
         let key = keys[i];
-        let s = (key / 2048) as u32;
+        let s = key / 2048;
         let l = (key % 8) as usize;
         let at = (key / 8 % 256) as usize;
         p = step(&mut starts[..], &mut levels[..], &tops[..], p, s, l, g);
@@ -228,20 +228,20 @@ fn sweep(
         &mut levels[..],
         &tops[..],
         p,
-        2_000_000_000,
+        1_000_000_000_000,
     );
     last.count
 }
 
 // The runs from each break point to the next.
-fn runs_of(starts: &[u32], levels: &[u8], count: usize) -> RunList
+fn runs_of(starts: &[u64], levels: &[u8], count: usize) -> RunList
     requires { ⌜ Places (now starts) (now levels) ⌝ }
     requires { ⌜ count ≤ breakPlaces ⌝ }
     requires { ⌜ length (runsBelow (getD (now starts) (count - 1) 0) (breaksTo (now starts) (now levels) (count - 1))) ≤ mostRuns ⌝ }
     ensures { λ r. ⌜ r ≡ storedRuns (runsBelow (getD (now (starts .entry)) (count - 1) 0) (breaksTo (now (starts .entry)) (now (levels .entry)) (count - 1))) ⌝ }
 {
-    let mut run_starts: [u32; 512] = [0; 512];
-    let mut run_ends: [u32; 512] = [0; 512];
+    let mut run_starts: [u64; 512] = [0; 512];
+    let mut run_ends: [u64; 512] = [0; 512];
     let mut run_levels: [u8; 512] = [0; 512];
     let mut k = 0;
     let mut i = 0;
@@ -266,11 +266,11 @@ fn runs_of(starts: &[u32], levels: &[u8], count: usize) -> RunList
 }
 
 // The required runs of n envelopes whose keys rise.
-pub fn swept_runs(keys: &[u64], ends: &[u32], n: usize, g: u32) -> RunList
+pub fn swept_runs(keys: &[u64], ends: &[u64], n: usize, g: u64) -> RunList
     requires { ⌜ Sweepable (now keys) (now ends) n ⌝ }
     ensures { λ r. ⌜ r ≡ storedRuns (requiredRuns (envelopesTo (now (keys .entry)) (now (ends .entry)) n) g) ⌝ }
 {
-    let mut starts: [u32; 512] = [0; 512];
+    let mut starts: [u64; 512] = [0; 512];
     let mut levels: [u8; 512] = [0; 512];
     let count = sweep(keys, ends, n, g, &mut starts[..], &mut levels[..]);
     runs_of(&starts[..], &levels[..], count)

@@ -2,3 +2,4 @@ pub mod WriteLaws
 pub mod ScheduleLaws
 pub mod PlanLaws
 pub mod PlannedLaws
+pub mod LimitLaws

@@ -6,25 +6,29 @@ use mathlib.Core.List.{List, _++_}
 use borrow.Author.Tests.{le-leb, lt-leb, leb-true}
 use Rattle.refusal.specs.Answer.{Answer, accepted, refused, _>>=_, unless-refuse}
 use Rattle.refusal.specs.Refusal.{refusal, outcome}
-use native.Mathlib.Nat.{min-le-left}
-use lib.ListN.{length-take}
 use Rattle.refusal.specs.declared.Refusal.{Refusal}
 use Rattle.refusal.specs.declared.Outcome.the-variants.{Done, Refused}
 use Rattle.job.specs.Job.{Job, readJob}
+use Rattle.job.proofs.JobLaws.{JobFits}
+use Rattle.runs.specs.declared.Stretch.{Stretch}
 use Rattle.runs.specs.declared.Envelopes.{Envelopes}
 use Rattle.runs.specs.RunList.{isRunList, envelopesOf}
 use Rattle.runs.specs.Required.{requiredRuns}
 use Rattle.runs.specs.Stored.{StoredEnvelopes}
 use Rattle.runs.proofs.RequiredLaws.{required-run-list}
+use Rattle.runs.proofs.StoredLaws.{runs-length}
 use Rattle.planning.specs.declared.Overhangs.{Overhangs}
-use Rattle.planning.specs.Envelope.{sideOverhangs, testHazards, acceptJob}
+use Rattle.planning.specs.Envelope.{sideOverhangs, testHazards, acceptJobBy, acceptJob}
 use Rattle.planning.specs.Required.{jobRuns}
-use Rattle.planning.specs.Reply.{cutsOf, testedEnvelopes}
+use Rattle.planning.specs.Reply.{cutsOf, testedEnvelopes, testedRuns}
 use Rattle.planning.specs.declared.accept.SideEnvelopes.{SideEnvelopes}
 use Rattle.planning.proofs.AcceptLaws.{Replies}
-use Rattle.planning.proofs.SideLaws.{envelopes-done, envelopes-refused}
+use Rattle.planning.proofs.SideLaws.{envelopes-done, envelopes-refused, runs-done}
+use Rattle.planning.proofs.EnvelopeLaws.{AcceptedFits, hazards-passed}
+use Rattle.planning.proofs.JobRunLaws.{job-run-list}
+use Rattle.planning.proofs.RoadLaws.{runs-on-road}
 use Rattle.schedule.specs.Schedule.{writeSchedule}
-use Rattle.schedule.specs.Plan.{PlannedSide, fitted, plan, outputAfter}
+use Rattle.schedule.specs.Plan.{PlannedSide, fitted, planBy, plan, outputAfter}
 use mathlib.Core.Bool.{true}
 use native.Mathlib.Omega.{arith}
 use native.Mathlib.Nat.{zero-add}
@@ -34,6 +38,7 @@ use Rattle.number.specs.Number.{placed}
 use Rattle.number.proofs.NumberLaws.{placed-fits}
 use Rattle.refusal.proofs.AnswerLaws.{bound, tested}
 use Rattle.schedule.specs.Steps.{testedPlan}
+use Rattle.schedule.proofs.ScheduleLaws.{road-bytes}
 
 -- What fits is written, and what does not is refused with the bytes needed.
 pub fitted-fits : (w : List ℕ) (o : Overhangs) (room : ℕ) → length w ≤ room → fitted w o room ≡ accepted (record { schedule = w; overhangs = o })
@@ -50,7 +55,7 @@ placed-first out w h = placed-fits out 0 w (omega arith) ∙ ap (λ (n : ℕ). w
 
 -- The output is as long as before.
 plan-fits : (s : List ℕ) (side room : ℕ) (p : PlannedSide) → plan s side room ≡ accepted p → length (p .schedule) ≤ room
-unfolding plan fitted
+unfolding planBy fitted
 plan-fits s side room p e =
     let b1 = bound (unless-refuse (leb side 1) 8 0) _ p e in
     let b2 = bound (acceptJob s) _ p (b1 .rest) in
@@ -68,12 +73,12 @@ output-length s side out = go (plan s side (length out)) refl
     go (refused k v) e = refl
 
 pub plan-bad-side : (s : List ℕ) (side room : ℕ) → 1 < side → plan s side room ≡ refused 8 0
-unfolding plan
+unfolding planBy
 plan-bad-side s side room h = rw (lt-leb side 1 h)
 
 -- By how the job was read.
 pub plan-read : (s : List ℕ) (side room : ℕ) {j : Job} → side ≤ 1 → readJob s ≡ accepted j → plan s side room ≡ testedPlan j side room
-unfolding plan acceptJob testedPlan testedEnvelopes jobRuns
+unfolding planBy acceptJobBy testedPlan testedEnvelopes jobRuns
 plan-read s side room {j} h e = rw (le-leb side 1 h, e) (go (testHazards (j .header) 0 (j .hazards)))
   where
     go : (a : Answer (Unit {0})) → ((a >>= λ _. accepted j) >>= λ k. fitted (writeSchedule (jobRuns k side)) (sideOverhangs k side) room)
@@ -82,8 +87,15 @@ plan-read s side room {j} h e = rw (le-leb side 1 h, e) (go (testHazards (j .hea
     go (refused k v) = refl
 
 pub plan-unread : (s : List ℕ) (side room : ℕ) (x : Refusal) → side ≤ 1 → readJob s ≡ refusal x → plan s side room ≡ refusal x
-unfolding plan acceptJob
+unfolding planBy acceptJobBy
 plan-unread s side room x h e = rw (le-leb side 1 h, e)
+
+-- A planned schedule has at most 5,624 bytes.
+pub planned-bytes : (j : Job) (side : ℕ) → AcceptedFits j → length (writeSchedule (jobRuns j side)) ≤ 5624
+planned-bytes j side fits =
+    road-bytes (j .header .begin) (jobRuns j side) (job-run-list j side fits) (λ r m.
+    let on = runs-on-road j side fits r m in
+    (on .0, omega (arith, on .1, fits .fits .header .road-length)))
 
 -- By what `side_envelopes` answers.
 module _ (j : Job) (side : ℕ) (r : SideEnvelopes) (reply : Replies r (testedEnvelopes j side)) where
@@ -95,7 +107,14 @@ module _ (j : Job) (side : ℕ) (r : SideEnvelopes) (reply : Replies r (testedEn
   unfolding testedPlan
   tested-refused room x e = rw (envelopes-refused j side r reply e)
 
+  pub tested-bytes : JobFits j → r .outcome ≡ Done → length (writeSchedule (requiredRuns (envelopesOf (r .envelopes)) (j .header .continuity))) ≤ 5624
+  unfolding testedRuns
+  tested-bytes fits e =
+      let b = bound (testHazards (j .header) 0 (j .hazards)) (λ _. accepted (jobRuns j side)) _ (runs-done j side r reply e) in
+      let same : jobRuns j side ≡ requiredRuns (envelopesOf (r .envelopes)) (j .header .continuity) = let z = b .rest in cc in
+      subst (λ (rs : List Stretch). length (writeSchedule rs) ≤ 5624) same (planned-bytes j side (record { fits = fits; passed = hazards-passed (j .header) 0 (j .hazards) (b .first) (b .taken) }))
+
 -- The runs of stored envelopes are a run list.
 pub runs-listed : (e : Envelopes) (G : ℕ) → StoredEnvelopes e → isRunList (requiredRuns (envelopesOf e) G) ≡ true
 runs-listed e G stored =
-    required-run-list (envelopesOf e) G (stored .long) (stored .ends) (omega (arith, stored .count, length-take (e .count) (e .stretches), min-le-left (e .count) (length (e .stretches))))
+    required-run-list (envelopesOf e) G (stored .long) (stored .ends) (omega (arith, stored .count, runs-length (e .starts) (e .ends) (e .levels) (e .count)))

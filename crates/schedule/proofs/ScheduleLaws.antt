@@ -1,28 +1,30 @@
 -- Schedules: reading gives back the run list that was written, and what can be read is the writing of a run list.
 -- Assumes nothing.
-use Prim.Native.Nat.{ℕ, zero, suc, _+_, _-_, _*_, _≤_}
+use Prim.Native.Nat.{ℕ, zero, suc, _+_, _-_, _*_, _/_, _≤_}
 use native.Mathlib.Omega.{arith}
 use mathlib.Core.Path.{_≡_, refl, sym, subst, ap, _∙_}
 use mathlib.Core.Bool.{true, _&&_}
-use mathlib.Core.List.{List, [], _∷_, _++_, append-assoc, append-nil}
+use mathlib.Core.List.{List, [], _∷_, _++_, append-assoc, append-nil, List·Memᴰ, List·Memᴰ·head, List·Memᴰ·tail}
 use lib.ListN.{length, drop, length-append}
 use lib.Seq.{drop-length}
 use lib.Dec.{leb, eqb}
 use borrow.Author.Tests.{leb-true, le-leb, eqb-true, eq-eqb}
 use Rattle.refusal.specs.Answer.{Answer, accepted, refused, unless-refuse}
+use Rattle.refusal.specs.Limits.{limits}
 use Rattle.number.specs.Number.{writeNumber, Reading, numberAt}
 use Rattle.runs.specs.declared.Stretch.{Stretch}
-use Rattle.runs.specs.RunList.{lastStation, mostRuns, risingRuns, isRunList}
-use Rattle.schedule.specs.Schedule.{writeRecord, writeRecords, writeSchedule, Records, readRecords, orTen, readSchedule}
+use Rattle.runs.specs.RunList.{lastStation, mostRuns, risingRuns, isRunListBy, isRunList}
+use Rattle.schedule.specs.Schedule.{writeRecordBy, writeRecord, writeRecordsBy, writeRecords, writeScheduleBy, writeSchedule, Records, readRecordsBy, readRecords, orTen, readScheduleBy, readSchedule}
 use Rattle.refusal.proofs.AnswerLaws.{bound, tested}
 use Rattle.refusal.proofs.TestLaws.{and-left, and-right}
-use Rattle.number.proofs.NumberLaws.{number-length, small-length, middle-length, read-number, after-number, Bytes, Stands, number-read}
+use Rattle.number.proofs.NumberLaws.{number-length, small-length, middle-length, long-length, read-number, after-number, Bytes, Stands, number-read}
+use Rattle.runs.proofs.LevelLaws.{EndsBy}
 use Rattle.runs.proofs.RunLaws.{Next, Rising, rising, rising-test}
 
 -- Records.
 read-records : (s : List ℕ) (e v at : ℕ) (got rs : List Stretch) (rest : List ℕ) → e ≤ lastStation → Rising e v rs → drop at s ≡ writeRecords e rs ++ rest
     → readRecords (length rs) e got s at ≡ accepted (record { runs = got ++ rs; next = at + length (writeRecords e rs) })
-unfolding readRecords writeRecords writeRecord
+unfolding readRecordsBy writeRecordsBy writeRecordBy
 read-records s e v at got [] rest b h q = rw (append-nil got) (ap (λ (n : ℕ). accepted (record { runs = got; next = n })) (let z : at ≡ at + 0 = omega arith in z))
 read-records s e v at got (r ∷ rs) rest b h q =
     rw (read-number s at gap rest1 (omega (arith, n .long, n .ends)) q1)
@@ -82,7 +84,7 @@ read-records s e v at got (r ∷ rs) rest b h q =
 
 -- Reading gives back the run list that was written.
 pub read-schedule : (rs : List Stretch) → isRunList rs ≡ true → readSchedule (writeSchedule rs) ≡ accepted rs
-unfolding readSchedule writeSchedule isRunList
+unfolding readScheduleBy writeScheduleBy isRunListBy
 read-schedule rs h =
     rw (read-number s 0 (length rs) (writeRecords 0 rs) (omega (arith, count)) refl)
     (rw (le-leb (length rs) mostRuns count)
@@ -110,11 +112,11 @@ pub record RecordsStand (k e : ℕ) (got : List Stretch) (s : List ℕ) (at : �
 
 one-record : (e g n l : ℕ) (rs : List Stretch) (rest : List ℕ)
     → writeRecords e (record { start = e + g; end = e + g + n; level = l } ∷ rs) ++ rest ≡ writeNumber g ++ (writeNumber n ++ (writeNumber l ++ (writeRecords (e + g + n) rs ++ rest)))
-unfolding writeRecords writeRecord
+unfolding writeRecordsBy writeRecordBy
 one-record e g n l rs rest = rw (let a : e + g - e ≡ g = omega arith in a, let b : e + g + n - (e + g) ≡ n = omega arith in b) (simp append-assoc)
 
 records-read : (k e : ℕ) (got : List Stretch) (s : List ℕ) (at : ℕ) (r : Records) → Bytes s → readRecords k e got s at ≡ accepted r → RecordsStand k e got s at r
-unfolding readRecords writeRecords
+unfolding readRecordsBy writeRecordsBy
 records-read zero e got s at r b q =
     let w : record { runs = got; next = at } ≡ r = cc in
     subst (RecordsStand zero e got s at) w (record { more = []; is = sym (append-nil got); count = refl; split = refl })
@@ -137,13 +139,13 @@ records-read (suc k) e got s at r b q =
           ∙ sym (one-record e (g .value) (n .value) (l .value) (sm .more) (drop (r .next) s));
     }
 
-or-ten : {A : Type 0} (m : Answer A) (a : A) → orTen m ≡ accepted a → m ≡ accepted a
+pub or-ten : {A : Type 0} (m : Answer A) (a : A) → orTen m ≡ accepted a → m ≡ accepted a
 or-ten (accepted x) a e = e
 or-ten (refused k v) a e = let z : _≡_ {A = ℕ} 0 1 = cc in absurd (omega arith)
 
 -- What can be read is the writing of a run list.
 pub schedule-read : (s : List ℕ) (rs : List Stretch) → Bytes s → readSchedule s ≡ accepted rs → (isRunList rs ≡ true) × (s ≡ writeSchedule rs)
-unfolding readSchedule writeSchedule
+unfolding readScheduleBy writeScheduleBy
 schedule-read s rs b q =
     let b1 = bound (numberAt s 0) _ rs (or-ten _ rs q) in
     let b2 = bound (unless-refuse (leb (b1 .first .value) mostRuns) 10 0) _ rs (b1 .rest) in
@@ -172,17 +174,50 @@ write-injective rs ss p q e =
     let c : accepted rs ≡ accepted ss = sym a ∙ ap readSchedule e ∙ b in
     cc
 
--- A schedule has at most 5,623 bytes: two for the count, and eleven for each of 511 records.
-records-length : (e v : ℕ) (rs : List Stretch) → Rising e v rs → length (writeRecords e rs) ≤ 11 * length rs
-unfolding writeRecords writeRecord
-records-length e v [] h = omega arith
-records-length e v (r ∷ rs) h =
+-- Eleven bytes for each record, and a sixth for a gap or a length from 2 to the 35th on.
+records-length : (e v E : ℕ) (rs : List Stretch) → Rising e v rs → EndsBy E rs → length (writeRecords e rs) ≤ 11 * length rs + (E - e) / 34359738368
+unfolding writeRecordsBy writeRecordBy
+records-length e v E [] h by = omega arith
+records-length e v E (r ∷ rs) h by =
     rw (length-append (writeRecord e r) (writeRecords (r .end) rs), length-append (writeNumber (r .start - e)) (writeNumber (r .end - r .start) ++ writeNumber (r .level)), length-append (writeNumber (r .end - r .start)) (writeNumber (r .level)))
-    (omega (arith, number-length (r .start - e), number-length (r .end - r .start), small-length (r .level) (omega (arith, h .0 .top)), records-length (r .end) (r .level) rs (h .1)))
+    (omega (
+      arith,
+      long-length (r .start - e),
+      long-length (r .end - r .start),
+      small-length (r .level) (omega (arith, h .0 .top)),
+      h .0 .after,
+      h .0 .long,
+      by r (List·Memᴰ·head refl),
+      records-length (r .end) (r .level) E rs (h .1) (λ x m. by x (List·Memᴰ·tail m)),
+    ))
 
-pub schedule-length : (rs : List Stretch) → isRunList rs ≡ true → length (writeSchedule rs) ≤ 5623
-unfolding writeSchedule isRunList
-schedule-length rs h =
+-- Runs on a road from A on.
+abbrev pub OnRoadFrom : (A : ℕ) → List Stretch → Type 0
+OnRoadFrom A rs = (r : Stretch) → List·Memᴰ r rs → (A ≤ r .start) × (r .end ≤ A + limits .longestRoad)
+
+-- Only the first gap may be longer than a road.
+road-records : (A : ℕ) (ss : List Stretch) → Rising 0 0 ss → OnRoadFrom A ss → length (writeRecords 0 ss) ≤ 11 * length ss + 1
+unfolding writeRecordsBy writeRecordBy
+road-records A [] u o = omega arith
+road-records A (r ∷ ss) u o =
+    let here = o r (List·Memᴰ·head refl) in
+    rw (length-append (writeRecord 0 r) (writeRecords (r .end) ss), length-append (writeNumber (r .start - 0)) (writeNumber (r .end - r .start) ++ writeNumber (r .level)), length-append (writeNumber (r .end - r .start)) (writeNumber (r .level)))
+    (omega (
+      arith,
+      number-length (r .start - 0),
+      long-length (r .end - r .start),
+      small-length (r .level) (omega (arith, u .0 .top)),
+      here .0,
+      here .1,
+      u .0 .long,
+      records-length (r .end) (r .level) (A + limits .longestRoad) ss (u .1) (λ x m. o x (List·Memᴰ·tail m) .1),
+    ))
+
+-- A schedule of one road has at most 5,624 bytes: two for the count, eleven for each of 511 records, and a sixth for the
+-- first gap.
+pub road-bytes : (A : ℕ) (rs : List Stretch) → isRunList rs ≡ true → OnRoadFrom A rs → length (writeSchedule rs) ≤ 5624
+unfolding writeScheduleBy isRunListBy
+road-bytes A rs h on =
     let count = leb-true (length rs) mostRuns (and-left _ (risingRuns 0 0 rs) h) in
     let up = rising 0 0 rs (and-right (leb (length rs) mostRuns) _ h) in
-    rw (length-append (writeNumber (length rs)) (writeRecords 0 rs)) (omega (arith, middle-length (length rs) (omega arith), records-length 0 0 rs up))
+    rw (length-append (writeNumber (length rs)) (writeRecords 0 rs)) (omega (arith, middle-length (length rs) (omega arith), road-records A rs up on))

@@ -6,13 +6,14 @@ use lib.ListN.{length, drop}
 use lib.Dec.{leb}
 use Rattle.refusal.specs.Answer.{Answer, accepted, refused, _>>=_, unless-refuse}
 use Rattle.refusal.specs.Refusal.{refusal}
+use Rattle.refusal.specs.Limits.{Limits, limits}
 use Rattle.planning.specs.declared.Overhangs.{Overhangs}
-use Rattle.planning.specs.Envelope.{sideOverhangs, acceptJob}
+use Rattle.planning.specs.Envelope.{sideOverhangs, acceptJobBy}
 use Rattle.planning.specs.Required.{jobRuns}
 use Rattle.schedule.specs.declared.reply.Written.{Written}
 use Rattle.schedule.specs.declared.reply.Plan.{Plan}
 use Rattle.schedule.specs.declared.reply.Plan.the-variants as Plan
-use Rattle.schedule.specs.Schedule.{writeSchedule}
+use Rattle.schedule.specs.Schedule.{writeScheduleBy}
 
 -- What plan gives for a side: the schedule, and "among the asked side's hazards, the greatest overhang in millimetres at each end".
 pub record PlannedSide : Type 0 where
@@ -25,11 +26,14 @@ fitted w o room = unless-refuse (leb (length w) room) 9 (length w) >>= λ _. acc
 
 -- The schedule to be written and the overhangs, or the refusal: "8; then numbers as they stand, each for 1, 2 and its range; 7; hazards in
 -- order, both sides", for 5; "9".
-unfoldable pub plan : (s : List ℕ) (side room : ℕ) → Answer PlannedSide
-plan s side room =
+unfoldable pub planBy : Limits → (s : List ℕ) (side room : ℕ) → Answer PlannedSide
+planBy L s side room =
     unless-refuse (leb side 1) 8 0 >>= λ _.
-    acceptJob s >>= λ j.
-    fitted (writeSchedule (jobRuns j side)) (sideOverhangs j side) room
+    acceptJobBy L s >>= λ j.
+    fitted (writeScheduleBy L (jobRuns j side)) (sideOverhangs j side) room
+
+abbrev pub plan : (s : List ℕ) (side room : ℕ) → Answer PlannedSide
+plan = planBy limits
 
 -- "Gives the bytes written", "and the reply carries" the overhangs; a refusal carries none.
 unfoldable pub bytesWritten : Answer PlannedSide → Answer Written

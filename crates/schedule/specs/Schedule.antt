@@ -7,21 +7,31 @@ use mathlib.Core.List.{List, [], _∷_, _++_}
 use lib.ListN.{length}
 use lib.Dec.{leb, eqb}
 use Rattle.refusal.specs.Answer.{Answer, accepted, refused, _>>=_, unless-refuse}
-use Rattle.number.specs.Number.{numberAt, writeNumber}
+use Rattle.refusal.specs.Limits.{Limits, limits}
+use Rattle.number.specs.Number.{numberAtBy, writeNumberBy}
 use Rattle.runs.specs.declared.Stretch.{Stretch}
-use Rattle.runs.specs.RunList.{mostRuns, isRunList}
+use Rattle.runs.specs.RunList.{mostRuns, isRunListBy, isRunList}
 
 -- "Its start less the previous run's end (less 0 for the first), its length, its level. These three numbers are the run's record."
-unfoldable pub writeRecord : ℕ → Stretch → List ℕ
-writeRecord e r = writeNumber (r .start - e) ++ (writeNumber (r .end - r .start) ++ writeNumber (r .level))
+unfoldable pub writeRecordBy : Limits → ℕ → Stretch → List ℕ
+writeRecordBy L e r = writeNumberBy L (r .start - e) ++ (writeNumberBy L (r .end - r .start) ++ writeNumberBy L (r .level))
 
-unfoldable pub writeRecords : ℕ → List Stretch → List ℕ
-writeRecords e [] = []
-writeRecords e (r ∷ rs) = writeRecord e r ++ writeRecords (r .end) rs
+abbrev pub writeRecord : ℕ → Stretch → List ℕ
+writeRecord = writeRecordBy limits
+
+unfoldable pub writeRecordsBy : Limits → ℕ → List Stretch → List ℕ
+writeRecordsBy L e [] = []
+writeRecordsBy L e (r ∷ rs) = writeRecordBy L e r ++ writeRecordsBy L (r .end) rs
+
+abbrev pub writeRecords : ℕ → List Stretch → List ℕ
+writeRecords = writeRecordsBy limits
 
 -- "The schedule is the run count, then for each run, rising," its record.
-unfoldable pub writeSchedule : List Stretch → List ℕ
-writeSchedule rs = writeNumber (length rs) ++ writeRecords 0 rs
+unfoldable pub writeScheduleBy : Limits → List Stretch → List ℕ
+writeScheduleBy L rs = writeNumberBy L (length rs) ++ writeRecordsBy L 0 rs
+
+abbrev pub writeSchedule : List Stretch → List ℕ
+writeSchedule = writeScheduleBy limits
 
 -- In the paper's words: w is the writing of a run list.
 pub record IsSchedule (w : List ℕ) : Type 0 where
@@ -34,23 +44,29 @@ pub record Records : Type 0 where
   pub next : ℕ
 
 -- k more records at a byte index, after the runs in `got`, the last of which ended at e.
-unfoldable pub readRecords : (k e : ℕ) (got : List Stretch) → List ℕ → ℕ → Answer Records
-readRecords zero e got s at = accepted (record { runs = got; next = at })
-readRecords (suc k) e got s at =
-    numberAt s at >>= λ gap.
-    numberAt s (gap .next) >>= λ len.
-    numberAt s (len .next) >>= λ lev.
-    readRecords k (e + gap .value + len .value) (got ++ record { start = e + gap .value; end = e + gap .value + len .value; level = lev .value } ∷ []) s (lev .next)
+unfoldable pub readRecordsBy : Limits → (k e : ℕ) (got : List Stretch) → List ℕ → ℕ → Answer Records
+readRecordsBy L zero e got s at = accepted (record { runs = got; next = at })
+readRecordsBy L (suc k) e got s at =
+    numberAtBy L s at >>= λ gap.
+    numberAtBy L s (gap .next) >>= λ len.
+    numberAtBy L s (len .next) >>= λ lev.
+    readRecordsBy L k (e + gap .value + len .value) (got ++ record { start = e + gap .value; end = e + gap .value + len .value; level = lev .value } ∷ []) s (lev .next)
+
+abbrev pub readRecords : (k e : ℕ) (got : List Stretch) → List ℕ → ℕ → Answer Records
+readRecords = readRecordsBy limits
 
 abbrev pub orTen : {A : Type 0} → Answer A → Answer A
 orTen (accepted a) = accepted a
 orTen (refused k v) = refused 10 0
 
 -- The run list whose writing the bytes are; else refusal 10. At most 511 records are read.
-unfoldable pub readSchedule : List ℕ → Answer (List Stretch)
-readSchedule s = orTen (
-    numberAt s 0 >>= λ n.
+unfoldable pub readScheduleBy : Limits → List ℕ → Answer (List Stretch)
+readScheduleBy L s = orTen (
+    numberAtBy L s 0 >>= λ n.
     unless-refuse (leb (n .value) mostRuns) 10 0 >>= λ _.
-    readRecords (n .value) 0 [] s (n .next) >>= λ r.
-    unless-refuse (eqb (r .next) (length s) && isRunList (r .runs)) 10 0 >>= λ _.
+    readRecordsBy L (n .value) 0 [] s (n .next) >>= λ r.
+    unless-refuse (eqb (r .next) (length s) && isRunListBy L (r .runs)) 10 0 >>= λ _.
     accepted (r .runs))
+
+abbrev pub readSchedule : List ℕ → Answer (List Stretch)
+readSchedule = readScheduleBy limits

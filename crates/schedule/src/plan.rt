@@ -26,12 +26,13 @@ ghost use Rattle.schedule.specs.Plan.{fitted, planReply, bytesWritten, o
 ghost use Rattle.schedule.specs.Plan as spec;
 ghost use Rattle.schedule.specs.Steps.{testedPlan};
 
-// The bytes that the schedule needs, counted where the room is less than a proved bound on every schedule; with more, none lacks room.
+// The bytes that the schedule needs, counted where the room is less than a proved bound on the schedule of every road; with more, none lacks room.
 fn bytes_needed(list: RunList, room: usize) -> usize
     requires { ⌜ isRunList (runsOf list) ≡ true ⌝ }
+    requires { ⌜ length (writeSchedule (runsOf list)) ≤ 5624 ⌝ }
     ensures { λ r. ⌜ (r ≤ room → length (writeSchedule (runsOf list)) ≤ room) × (room < r → r ≡ length (writeSchedule (runsOf list))) ⌝ }
 {
-    if 5623 <= room {
+    if 5624 <= room {
         return 0;
     }
     schedule_length(list)
@@ -40,6 +41,7 @@ fn bytes_needed(list: RunList, room: usize) -> usize
 // The schedule of a run list from the output's first byte on; where it does not fit, nothing.
 fn place(out: &mut [u8], list: RunList, overhangs: Overhangs) -> Plan
     requires { ⌜ isRunList (runsOf list) ≡ true ⌝ }
+    requires { ⌜ length (writeSchedule (runsOf list)) ≤ 5624 ⌝ }
     ensures { λ r. ⌜ planReply r ≡ bytesWritten (fitted (writeSchedule (runsOf list)) overhangs (length (now (out .entry)))) ⌝ }
     ensures { λ _. ⌜ now (out .exit) ≡ outputAfter (fitted (writeSchedule (runsOf list)) overhangs (length (now (out .entry)))) (now (out .entry)) ⌝ }
 {
@@ -56,9 +58,10 @@ pub fn plan_envelopes(
     out: &mut [u8],
     envelopes: Envelopes,
     overhangs: Overhangs,
-    continuity: u32,
+    continuity: u64,
 ) -> Plan
     requires { ⌜ StoredEnvelopes envelopes ⌝ }
+    requires { ⌜ length (writeSchedule (requiredRuns (envelopesOf envelopes) continuity)) ≤ 5624 ⌝ }
     ensures { λ r. ⌜ planReply r ≡ bytesWritten (fitted (writeSchedule (requiredRuns (envelopesOf envelopes) continuity)) overhangs (length (now (out .entry)))) ⌝ }
     ensures { λ _. ⌜ now (out .exit) ≡ outputAfter (fitted (writeSchedule (requiredRuns (envelopesOf envelopes) continuity)) overhangs (length (now (out .entry)))) (now (out .entry)) ⌝ }
 {

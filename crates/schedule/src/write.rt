@@ -11,13 +11,13 @@ ghost use Rattle.schedule.specs.Schedule.{writeSchedule, writeRecord};
 ghost use Rattle.schedule.specs.Writing.{RecordFits, stretch};
 
 // How many bytes the record of a run takes, behind a run that ended at `end`.
-fn record_length(end: u32, start: u32, stop: u32, level: u8) -> usize
+fn record_length(end: u64, start: u64, stop: u64, level: u8) -> usize
     requires { ⌜ RecordFits end start stop level ⌝ }
     ensures { λ r. ⌜ r ≡ length (writeRecord end (stretch start stop level)) ⌝ }
 {
     number::group_count(start - end)
         + number::group_count(stop - start)
-        + number::group_count(level as u32)
+        + number::group_count(level as u64)
 }
 
 // How many bytes the schedule takes.
@@ -26,8 +26,8 @@ pub fn schedule_length(list: RunList) -> usize
     ensures { λ r. ⌜ r ≡ length (writeSchedule (runsOf list)) ⌝ }
 {
     let count = list.count;
-    let mut bytes = number::group_count(count as u32);
-    let mut end: u32 = 0;
+    let mut bytes = number::group_count(count as u64);
+    let mut end: u64 = 0;
     let mut i = 0;
     while i < count {
         let stop = list.ends[i];
@@ -39,7 +39,7 @@ pub fn schedule_length(list: RunList) -> usize
 }
 
 // The record of a run from `at` on; the index behind it.
-fn put_record(out: &mut [u8], at: usize, end: u32, start: u32, stop: u32, level: u8) -> usize
+fn put_record(out: &mut [u8], at: usize, end: u64, start: u64, stop: u64, level: u8) -> usize
     requires { ⌜ RecordFits end start stop level ⌝ }
     requires { ⌜ at + length (writeRecord end (stretch start stop level)) ≤ length (now out) ⌝ }
     ensures { λ r. ⌜ r ≡ at + length (writeRecord end (stretch start stop level)) ⌝ }
@@ -47,7 +47,7 @@ fn put_record(out: &mut [u8], at: usize, end: u32, start: u32, stop: u32, level:
 {
     let second = put_number(out, at, start - end);
     let third = put_number(out, second, stop - start);
-    put_number(out, third, level as u32)
+    put_number(out, third, level as u64)
 }
 
 // The schedule from the first byte on; its length.
@@ -58,8 +58,8 @@ pub fn put_schedule(out: &mut [u8], list: RunList) -> usize
     ensures { λ _. ⌜ now (out .exit) ≡ placed (now (out .entry)) 0 (writeSchedule (runsOf list)) ⌝ }
 {
     let count = list.count;
-    let mut at = put_number(out, 0, count as u32);
-    let mut end: u32 = 0;
+    let mut at = put_number(out, 0, count as u64);
+    let mut end: u64 = 0;
     let mut done = 0;
     while done < count {
         let stop = list.ends[done];

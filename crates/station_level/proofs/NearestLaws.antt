@@ -1,22 +1,23 @@
 -- The required level at a station goes by the envelopes that have it and those nearest to it: the pass that keeps them, turn by turn, and the level read off.
 -- Assumes nothing.
 use Prim.Native.Nat.{ℕ, _+_, _-_, _≤_, _<_, min, max}
-use native.Mathlib.Numerals.{add-one}
 use native.Mathlib.Omega.{arith}
 use native.Mathlib.Decide.{decLe, decLt, ℕ-discrete}
 use mathlib.Core.Path.{_≡_, refl, sym, _∙_}
 use mathlib.Core.Logic.{_⊎_, inl, inr, _≢_}
 use mathlib.Core.Bool.{true, false, _&&_}
 use mathlib.Core.List.{List, [], _∷_, _++_, List·Memᴰ, List·Memᴰ·head, List·Memᴰ·not-nil, List·Memᴰ·append-cases, List·Memᴰ·eq-of-singleton, Memᴰ·append-left, Memᴰ·append-right}
-use lib.ListN.{length, getD, set, take, replicate, getD-replicate}
-use lib.Seq.{getD-set-same, getD-set-other, take-suc}
+use lib.ListN.{length, getD, set, replicate, getD-replicate}
+use lib.Seq.{getD-set-same, getD-set-other}
 use lib.Dec.{ltb}
 use borrow.Author.Tests.{ltb-true, lt-ltb}
 use Rattle.refusal.proofs.TestLaws.{and-left, and-right, and-intro, or-cases, or-left, or-right, not-both}
 use Rattle.runs.specs.declared.Stretch.{Stretch}
+use Rattle.runs.specs.declared.Envelopes.{Envelopes}
 use Rattle.runs.specs.Level.{requiredLevel}
 use Rattle.runs.specs.RunList.{lastStation}
 use Rattle.runs.specs.Stand.{AllSound}
+use Rattle.runs.proofs.StoredLaws.{envelopeAt, firstEnvelopes, runs-none, runs-more}
 use Rattle.runs.proofs.LevelLaws.{Joined, covered, bridged, level-top, level→joined, joined→level}
 use Rattle.station_level.specs.declared.nearest.Nearest.{Nearest}
 use Rattle.station_level.specs.Nearest.{Extreme, Sought, LastEnd, noStart, FirstStart, NearestOf, hasStation}
@@ -116,26 +117,26 @@ module _ {Within : ℕ → ℕ → Type 0} {best : ℕ → ℕ → ℕ} (further
 
 -- The pass
 
-pub none-kept : (t : ℕ) → NearestOf [] t (record { ends = replicate 7 0; starts = replicate 7 noStart })
-none-kept t = record {
+pub none-kept : (X : Envelopes) (t : ℕ) → NearestOf (firstEnvelopes X 0) t (record { ends = replicate 7 0; starts = replicate 7 noStart })
+none-kept X t = rw (runs-none (X .starts) (X .ends) (X .levels)) (record {
   ends = λ v h. rw (getD-replicate {A = ℕ} 7 v 0 0 (omega arith)) (extreme-none later 0 _ _ (λ e m. List·Memᴰ·not-nil (m .0)));
   starts = λ v h. rw (getD-replicate {A = ℕ} 7 v noStart 0 (omega arith)) (extreme-none earlier noStart _ _ (λ e m. List·Memᴰ·not-nil (m .0)));
-}
+})
 
 -- One envelope more: it has begun at the station, or lies ahead.
-module _ (X : List Stretch) (i : ℕ) (d : Stretch) (t : ℕ) (near : Nearest) (kept : NearestOf (take i X) t near) (inside : i < length X) (small : getD X i d .level < 7) where
-  pub begun-turn : getD X i d .start ≤ t → length (near .ends) ≡ 7 → {x : ℕ} → x ≡ max (getD (near .ends) (getD X i d .level) 0) (getD X i d .end)
-      → NearestOf (take (i + 1) X) t (record { ends = set (near .ends) (getD X i d .level) x; starts = near .starts })
-  begun-turn h full q = rw (add-one i, take-suc X i d inside, q) (record {
-    ends = kept-more later 0 _ _ _ (near .ends) (kept .ends) (getD X i d) h (omega arith);
-    starts = kept-same earlier noStart _ _ _ (near .starts) (kept .starts) (getD X i d) (λ l. omega arith);
+module _ (X : Envelopes) (i t : ℕ) (near : Nearest) (kept : NearestOf (firstEnvelopes X i) t near) (small : envelopeAt X i .level < 7) where
+  pub begun-turn : envelopeAt X i .start ≤ t → length (near .ends) ≡ 7 → {x : ℕ} → x ≡ max (getD (near .ends) (envelopeAt X i .level) 0) (envelopeAt X i .end)
+      → NearestOf (firstEnvelopes X (i + 1)) t (record { ends = set (near .ends) (envelopeAt X i .level) x; starts = near .starts })
+  begun-turn h full q = rw (runs-more (X .starts) (X .ends) (X .levels) i, q) (record {
+    ends = kept-more later 0 _ _ _ (near .ends) (kept .ends) (envelopeAt X i) h (omega arith);
+    starts = kept-same earlier noStart _ _ _ (near .starts) (kept .starts) (envelopeAt X i) (λ l. omega arith);
   })
 
-  pub ahead-turn : t < getD X i d .start → length (near .starts) ≡ 7 → {x : ℕ} → x ≡ min (getD (near .starts) (getD X i d .level) 0) (getD X i d .start)
-      → NearestOf (take (i + 1) X) t (record { ends = near .ends; starts = set (near .starts) (getD X i d .level) x })
-  ahead-turn h full q = rw (add-one i, take-suc X i d inside, q) (record {
-    ends = kept-same later 0 _ _ _ (near .ends) (kept .ends) (getD X i d) (λ l. omega arith);
-    starts = kept-more earlier noStart _ _ _ (near .starts) (kept .starts) (getD X i d) h (omega arith);
+  pub ahead-turn : t < envelopeAt X i .start → length (near .starts) ≡ 7 → {x : ℕ} → x ≡ min (getD (near .starts) (envelopeAt X i .level) 0) (envelopeAt X i .start)
+      → NearestOf (firstEnvelopes X (i + 1)) t (record { ends = near .ends; starts = set (near .starts) (envelopeAt X i .level) x })
+  ahead-turn h full q = rw (runs-more (X .starts) (X .ends) (X .levels) i, q) (record {
+    ends = kept-same later 0 _ _ _ (near .ends) (kept .ends) (envelopeAt X i) (λ l. omega arith);
+    starts = kept-more earlier noStart _ _ _ (near .starts) (kept .starts) (envelopeAt X i) h (omega arith);
   })
 
 -- The last ends are ends of envelopes, or 0.

@@ -42,29 +42,32 @@ fn nearest_to(envelopes: Envelopes, station: u64) -> Nearest
     let count = envelopes.count;
     let mut i = 0;
     while i < count {
-        let e = envelopes.stretches[i];
-        let level = e.level as usize;
+        let start = envelopes.starts[i];
+        let end = envelopes.ends[i];
+        let level = envelopes.levels[i] as usize;
         i += 1;
-        if e.start as u64 <= station {
-            ends[level] = later(ends[level], e.end as u64);
+        if start <= station {
+            ends[level] = later(ends[level], end);
         } else {
-            starts[level] = earlier(starts[level], e.start as u64);
+            starts[level] = earlier(starts[level], start);
         }
     }
     Nearest { ends, starts }
 }
 
 // An envelope has the station, or the gap that it lies in is shorter than the continuity limit.
-fn has_station(end: u64, start: u64, continuity: u32, station: u64) -> bool
+fn has_station(end: u64, start: u64, continuity: u64, station: u64) -> bool
     requires { ⌜ end ≤ lastStation ⌝ }
+    requires { ⌜ continuity ≤ 200000 ⌝ }
     ensures { λ r. ⌜ r ≡ hasStation end start continuity station ⌝ }
 {
-    (station < end) | ((0 < end) & (start < end + continuity as u64))
+    (station < end) | ((0 < end) & (start < end + continuity))
 }
 
 // The highest level whose envelopes, with those of the levels above it, have the station or fill the gap that it lies in.
-fn highest_level(near: Nearest, continuity: u32, station: u64) -> u32
+fn highest_level(near: Nearest, continuity: u64, station: u64) -> u32
     requires { ⌜ ((v : ℕ) → v ≤ 6 → getD (near .ends) v 0 ≤ lastStation) ⌝ }
+    requires { ⌜ continuity ≤ 200000 ⌝ }
     ensures { λ r. ⌜ ((es : List Stretch) → AllSound es → NearestOf es station near → r ≡ requiredLevel es continuity station) ⌝ }
 {
     let mut end: u64 = 0;
@@ -82,8 +85,9 @@ fn highest_level(near: Nearest, continuity: u32, station: u64) -> u32
 }
 
 // The level that the envelopes require at the station.
-pub fn required_level(envelopes: Envelopes, continuity: u32, station: u64) -> u32
+pub fn required_level(envelopes: Envelopes, continuity: u64, station: u64) -> u32
     requires { ⌜ StoredEnvelopes envelopes ⌝ }
+    requires { ⌜ continuity ≤ 200000 ⌝ }
     ensures { λ r. ⌜ r ≡ requiredLevel (envelopesOf envelopes) continuity station ⌝ }
 {
     let near = nearest_to(envelopes, station);

@@ -7,7 +7,7 @@
 use std::ops::Range;
 
 /// The schedule of every job fits in this many bytes.
-pub const SCHEDULE_MAX: usize = 5623;
+pub const SCHEDULE_MAX: usize = 5624;
 
 pub const RIGHT: u64 = 0;
 pub const LEFT: u64 = 1;
@@ -104,14 +104,16 @@ pub mod c {
     #[repr(C)]
     #[derive(Clone, Copy)]
     struct Standing {
-        offsets_and_stations: [u32; 4],
+        stations: [u64; 2],
+        offsets: [u16; 2],
         name: u16,
         side_and_level: [u8; 2],
     }
 
     impl Standing {
         const NONE: [Standing; 256] = [Standing {
-            offsets_and_stations: [0; 4],
+            stations: [0; 2],
+            offsets: [0; 2],
             name: 0,
             side_and_level: [0; 2],
         }; 256];
@@ -120,7 +122,7 @@ pub mod c {
     #[repr(C)]
     #[derive(Clone, Copy)]
     struct Kept {
-        used_and_count: [u32; 2],
+        used_and_count: [u64; 2],
         standing: [Standing; 256],
     }
 
@@ -128,13 +130,13 @@ pub mod c {
     #[repr(C)]
     #[derive(Clone, Copy)]
     pub struct OpenJob {
-        header: [u32; 15],
+        header: [u64; 15],
         standing: [Standing; 256],
         kept: [Kept; 8],
     }
 
     // As barrier.h has it: the engine writes this many bytes.
-    const _: () = assert!(size_of::<OpenJob>() == 46_204);
+    const _: () = assert!(size_of::<OpenJob>() == 55_544);
 
     impl OpenJob {
         /// All 0: memory that was never opened.

@@ -5,7 +5,7 @@ use cases::draft::{A, B, Draft, E, Header, S};
 use cases::{Memory, Random};
 use reference::Stretch;
 use reference::envelope;
-use reference::job::Hazard;
+use reference::job::{Hazard, LAST_STATION};
 use reference::level::Run;
 use reference::memory::BYTES;
 use reference::offset;
@@ -46,7 +46,7 @@ impl Order {
     }
 }
 
-/// The road of every job.
+/// The road's end of every job but one.
 pub const ROAD_END: u64 = 2_000_000_000;
 
 /// The last of 256 hazards.
@@ -79,6 +79,12 @@ pub fn job_over_road_ends(hazards: u64) -> Vec<u8> {
     let last = draft.hazards.iter().map(|hazard| hazard[E]).max();
     let draft = draft.with(A, first.unwrap_or(0));
     draft.with(B, last.unwrap_or(ROAD_END)).bytes()
+}
+
+/// The sparse job in no order, on a road that ends at the last station.
+pub fn job_at_last_station(hazards: u64) -> Vec<u8> {
+    let draft = draft(Kind::Sparse, Order::Shuffled, hazards);
+    draft.moved(LAST_STATION - ROAD_END).bytes()
 }
 
 fn draft(kind: Kind, order: Order, hazards: u64) -> Draft {

@@ -7,10 +7,11 @@ use cases::calls::{contract, corners_reply, offset_reply, plan_reply, record, re
 
 use crate::jobs::{self, Kind, LAST, Order, ROAD_END};
 
-pub const NAMES: [&str; 24] = [
+pub const NAMES: [&str; 25] = [
     "sparse-shuffled",
     "sparse-shuffled-panels-4000",
     "overhang-sparse-shuffled",
+    "chainage-sparse-shuffled",
     "dense-shuffled",
     "runs511-shuffled",
     "runs511-ordered",
@@ -74,6 +75,7 @@ impl Single {
                 self.plan(job)
             }
             "overhang-sparse-shuffled" => self.plan(jobs::job_over_road_ends(256)),
+            "chainage-sparse-shuffled" => self.plan(jobs::job_at_last_station(256)),
             "dense-shuffled" => self.plan(jobs::job(Kind::Dense, Order::Shuffled, 256)),
             "runs511-shuffled" => self.plan(jobs::job(Kind::Islands, Order::Shuffled, 256)),
             "runs511-ordered" => self.plan(jobs::job(Kind::Islands, Order::Station, 256)),

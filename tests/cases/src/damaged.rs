@@ -4,7 +4,8 @@
 use reference::envelope;
 use reference::job::{self, Job};
 use reference::memory::{
-    self, BYTES, HEADER, HEADER_BYTES, NOW_BYTES, PLACE_BYTES, PLACES, ROW_BYTES, STATE_BYTES,
+    self, BYTES, END_AT, FAR_AT, HEADER, HEADER_BYTES, LEVEL_AT, MARK_BYTES, NAME_AT, NEAR_AT,
+    NOW_BYTES, NUMBER_BYTES, PLACE_BYTES, PLACES, ROW_BYTES, SIDE_AT, START_AT, STATE_BYTES,
 };
 use reference::open::STATES;
 use reference::{OpenJob, Stretch};
@@ -66,10 +67,11 @@ fn narrowed_roads(checker: &mut Checker, random: &mut Random) -> Outcome {
     Ok(())
 }
 
-/// A row of places: where it begins, and its hazards. Its count stands in the
-/// four bytes before it.
+/// A row of places: where it begins, the bytes of its count, which stands before
+/// it, and its hazards.
 struct Row {
     at: usize,
+    count_bytes: usize,
     hazards: Standing,
 }
 
@@ -79,19 +81,21 @@ impl Row {
     }
 
     fn count_at(&self) -> usize {
-        self.at - 4
+        self.at - self.count_bytes
     }
 }
 
 fn rows(open: &Open) -> Vec<Row> {
     let now = Row {
         at: HEADER_BYTES,
+        count_bytes: NUMBER_BYTES,
         hazards: open.standing.clone(),
     };
     let kept = open.kept.iter().enumerate();
     let kept = kept.filter_map(|(state, hazards)| {
         Some(Row {
-            at: state_at(state) + 8,
+            at: state_at(state) + 2 * MARK_BYTES,
+            count_bytes: MARK_BYTES,
             hazards: hazards.clone()?,
         })
     });
@@ -104,7 +108,14 @@ fn state_at(state: usize) -> usize {
 }
 
 /// Where a field stands in its place, and in how many bytes.
-const FIELD_BYTES: [(usize, usize); FIELDS] = [(18, 1), (0, 4), (4, 4), (8, 4), (12, 4), (19, 1)];
+const FIELD_BYTES: [(usize, usize); FIELDS] = [
+    (SIDE_AT, 1),
+    (START_AT, 8),
+    (END_AT, 8),
+    (NEAR_AT, 2),
+    (FAR_AT, 2),
+    (LEVEL_AT, 1),
+];
 
 /// So many calls, drawn at random, where all of them would take long.
 const SOME: usize = 4;
@@ -155,11 +166,11 @@ impl Damage<'_> {
             self.row(row)?;
         }
         for state in 0..STATES {
-            for used in [0, 1, 2, 255, 256, 1 << 24, u32::MAX] {
-                self.number(state_at(state), used.into())?;
+            for used in [0, 1, 2, 255, 256, 1 << 24, (1 << 32) - 1] {
+                self.number(state_at(state), MARK_BYTES, used)?;
             }
             // Something in a state, kept or not.
-            for at in [4, 8, 8 + 16, STATE_BYTES - 1] {
+            for at in [4, 8, 8 + NAME_AT, STATE_BYTES - 1] {
                 self.write(state_at(state) + at, &[1])?;
             }
         }
@@ -176,8 +187,13 @@ impl Damage<'_> {
         self.ask(memory)
     }
 
-    fn number(&mut self, at: usize, value: u64) -> Outcome {
-        self.write(at, &(value as u32).to_le_bytes())
+    /// A number in so many bytes.
+    fn number(&mut self, at: usize, size: usize, value: u64) -> Outcome {
+        self.write(at, &value.to_le_bytes()[..size])
+    }
+
+    fn header_number(&mut self, place: usize, value: u64) -> Outcome {
+        self.number(NUMBER_BYTES * place, NUMBER_BYTES, value)
     }
 
     /// One bit among so many bytes.
@@ -230,12 +246,15 @@ impl Damage<'_> {
         list
     }
 
-    /// Each header number at and beyond the ends of its range.
+    /// Each header number at and beyond the ends of its range, and one that is
+    /// right in 32 bits.
     fn header(&mut self) -> Outcome {
         let numbers = self.open.header.header;
         for place in 0..HEADER - 1 {
-            for value in around(header_range(&numbers, place)) {
-                self.number(4 * place, value)?;
+            let mut values = around(header_range(&numbers, place));
+            values.extend([numbers[place] | 1 << 32, numbers[place] | 1 << 63]);
+            for value in values {
+                self.header_number(place, value)?;
             }
         }
         Ok(())
@@ -266,13 +285,13 @@ impl Damage<'_> {
         }
         for Stretch { start, end } in taken.into_iter().flatten() {
             for (place, value) in [(A, start), (A, start + 1), (B, end), (B, end - 1)] {
-                self.number(4 * place, value)?;
+                self.header_number(place, value)?;
             }
         }
         // Another panel length, which may leave the road.
         for _ in 0..4 {
             let panel = self.random.edgy(1, 10_000);
-            self.number(4 * PANEL, panel)?;
+            self.header_number(PANEL, panel)?;
         }
         Ok(())
     }
@@ -286,10 +305,18 @@ impl Damage<'_> {
 
     fn count(&mut self, row: &Row) -> Outcome {
         let count = row.hazards.len() as u64;
-        let more = [255, 256, 257, 1 << 8 | count, 1 << 24 | count];
+        // The last is the count itself in a row that has but four bytes for it.
+        let more = [
+            255,
+            256,
+            257,
+            1 << 8 | count,
+            1 << 24 | count,
+            1 << 32 | count,
+        ];
         let near = [0, 1, count.saturating_sub(1), count + 1];
         for value in near.into_iter().chain(more) {
-            self.number(row.count_at(), value)?;
+            self.number(row.count_at(), row.count_bytes, value)?;
         }
         Ok(())
     }
@@ -304,12 +331,13 @@ impl Damage<'_> {
             let least = numbers[M] + numbers[D];
             for (field, (at, size)) in FIELD_BYTES.into_iter().enumerate() {
                 let mut values = around(range(&numbers, first + field));
+                // What is right in 32 bits.
+                values.push(fields[field] | 1 << 32);
                 if field == N {
                     values.extend([least, least - 1]);
                 }
                 for value in values {
-                    let bytes = &value.to_le_bytes()[..size];
-                    self.write(row.place(place) + at, bytes)?;
+                    self.number(row.place(place) + at, size, value)?;
                 }
             }
         }
@@ -324,7 +352,7 @@ impl Damage<'_> {
             values.extend(names.iter().map(|other| u16::from(*other)));
             values.extend([name.wrapping_sub(1), name.wrapping_add(1), 0, 255].map(u16::from));
             for value in values {
-                self.write(row.place(place) + 16, &value.to_le_bytes())?;
+                self.write(row.place(place) + NAME_AT, &value.to_le_bytes())?;
             }
         }
         for place in 1..names.len() {
@@ -342,7 +370,7 @@ impl Damage<'_> {
         let used = row.place(row.hazards.len());
         let end = row.at + ROW_BYTES;
         let mut places: Vec<usize> = (used..used + PLACE_BYTES).collect();
-        places.extend([end - 1, end - PLACE_BYTES, row.place(PLACES - 1) + 16]);
+        places.extend([end - 1, end - PLACE_BYTES, row.place(PLACES - 1) + NAME_AT]);
         for _ in 0..20 {
             places.push(used + self.random.index(end - used));
         }
@@ -377,7 +405,7 @@ fn full_memory(checker: &mut Checker, random: &mut Random) -> Outcome {
             (row.count_at(), 1),
             (row.count_at(), 255),
             (row.at + ROW_BYTES - 1, 0),
-            (row.at + ROW_BYTES - 4, 254),
+            (row.place(PLACES - 1) + NAME_AT, 254),
         ] {
             damage.write(at, &[value])?;
         }

@@ -1,6 +1,7 @@
 //! The families of cases. Each makes its share of one round.
 
 use reference::calls::required;
+use reference::job::LAST_STATION;
 use reference::level::{Required, Run};
 use reference::{Stretch, planned, schedule};
 
@@ -10,8 +11,8 @@ use crate::draft::{
     A, B, C, Draft, E, FIELDS, FLARE_B, G, KIND, LF, LO, M, N, PRINTED, S, SIDE, T, W,
     number_bytes, printed, range,
 };
-use crate::faults::{BAD_SIDES, Broken, FAULTS, wrong_forms};
-use crate::{damaged, jobs, one_hazard, open};
+use crate::faults::{BAD_SIDES, Broken, FAULTS, GREAT_VALUES, wrong_forms};
+use crate::{chainage, damaged, jobs, one_hazard, open};
 
 pub type Outcome = Result<(), Box<Difference>>;
 
@@ -42,6 +43,14 @@ pub const ALL: &[Family] = &[
         one_hazard::refused_offsets,
     ),
     family("run lists and nearly run lists", run_lists),
+    family("roads on the national chainage", chainage::roads),
+    family("numbers of six bytes in jobs", chainage::six_bytes_in_jobs),
+    family(
+        "numbers of six bytes in schedules",
+        chainage::six_bytes_in_schedules,
+    ),
+    family("schedules on the national chainage", chainage::schedules),
+    family("sheets on the national chainage", chainage::sheets),
     family("open jobs, lists of calls", open::lists),
     family("open jobs, all names", open::all_names),
     family("open jobs, full states", open::full_states),
@@ -64,7 +73,7 @@ fn needed(job: &[u8], side: u64) -> usize {
 }
 
 /// Exactly enough, one too short, longer, none.
-fn plan_all_lengths(checker: &mut Checker, job: &[u8], side: u64) -> Outcome {
+pub fn plan_all_lengths(checker: &mut Checker, job: &[u8], side: u64) -> Outcome {
     let needed = needed(job, side);
     for length in [needed, needed.saturating_sub(1), needed + 1, needed + 33, 0] {
         checker.plan(job, side, length)?;
@@ -87,20 +96,21 @@ fn plan_one_length(checker: &mut Checker, random: &mut Random, job: &[u8], side:
     Ok(())
 }
 
-fn plan_both_sides(checker: &mut Checker, random: &mut Random, job: &[u8]) -> Outcome {
+pub fn plan_both_sides(checker: &mut Checker, random: &mut Random, job: &[u8]) -> Outcome {
     for side in 0..2 {
         plan_one_length(checker, random, job, side)?;
     }
     Ok(())
 }
 
-/// A small or wide job that is accepted and has some hazards.
+/// A small or wide job that is accepted and has some hazards; at times far from
+/// the datum.
 pub fn accepted(random: &mut Random, least: usize, most: usize) -> Draft {
     loop {
-        let mut draft = if random.percent(60) {
-            jobs::small(random)
-        } else {
-            jobs::wide(random)
+        let mut draft = match random.below(10) {
+            0..=4 => jobs::small(random),
+            5..=6 => jobs::wide(random),
+            _ => jobs::national(random),
         };
         draft.hazards.truncate(most);
         let enough = draft.hazards.len() >= least;
@@ -256,8 +266,11 @@ fn range_ends(checker: &mut Checker, random: &mut Random) -> Outcome {
     full_ranges(checker, random)
 }
 
+/// The ends of a range and their neighbours; 0 and great values, in four bytes,
+/// five and six.
 pub fn around((low, high): (u64, u64)) -> Vec<u64> {
-    let mut list = vec![low, low + 1, high, high + 1, 0, 4_294_967_295];
+    let mut list = vec![low, low + 1, high, high + 1, 0];
+    list.extend(GREAT_VALUES);
     list.extend(low.checked_sub(1));
     list.extend(high.checked_sub(1));
     list
@@ -499,11 +512,11 @@ fn changed_jobs(checker: &mut Checker, random: &mut Random) -> Outcome {
 }
 
 /// Quantity, quantities and lookup of bytes that may be a schedule or not.
-fn ask(checker: &mut Checker, random: &mut Random, schedule: &[u8]) -> Outcome {
+pub fn ask(checker: &mut Checker, random: &mut Random, schedule: &[u8]) -> Outcome {
     let level = random.between(1, 6);
-    let p = random.edgy(0, 2_000_000_001);
+    let p = any_station(random);
     checker.quantity(schedule, level, 0, u64::MAX)?;
-    let q = random_end(random, p);
+    let q = p + any_station(random);
     checker.quantity(schedule, random.between(1, 6), p, q)?;
     checker.quantities(schedule, level, &[p, q, 0, u64::MAX, q, q])?;
     let other = if random.percent(50) { vec![0] } else { vec![1] };
@@ -512,8 +525,10 @@ fn ask(checker: &mut Checker, random: &mut Random, schedule: &[u8]) -> Outcome {
     Ok(())
 }
 
-fn random_end(random: &mut Random, p: u64) -> u64 {
-    p + random.edgy(0, 2_000_000_001)
+/// Near the datum or anywhere, up to just behind the last station.
+fn any_station(random: &mut Random) -> u64 {
+    let last = random.pick(&[2_000_000_000, LAST_STATION]);
+    random.edgy(0, last + 1)
 }
 
 fn cut_schedules(checker: &mut Checker, random: &mut Random) -> Outcome {
@@ -538,7 +553,7 @@ fn changed_schedules(checker: &mut Checker, random: &mut Random) -> Outcome {
             let mut changed = schedule.clone();
             changed[at] ^= other;
             let level = random.between(1, 6);
-            let end = random.edgy(0, 3_000_000_000);
+            let end = any_station(random);
             checker.quantity(&changed, level, 0, end)?;
             checker.quantities(&changed, level, &[0, end, end, u64::MAX])?;
             let station = station_near(random, &runs);
@@ -550,10 +565,11 @@ fn changed_schedules(checker: &mut Checker, random: &mut Random) -> Outcome {
 
 // Run lists.
 
-/// Random runs that make a run list.
-fn random_runs(random: &mut Random, count: u64) -> Vec<Run> {
+/// Random runs that make a run list, near the datum or up to the last station.
+pub fn random_runs(random: &mut Random, count: u64) -> Vec<Run> {
     let mut runs: Vec<Run> = Vec::new();
-    let longest = 1_900_000_000 / (2 * count.max(1));
+    let room = random.pick(&[2_000_000_000, LAST_STATION]);
+    let longest = room / (2 * count.max(1));
     for _ in 0..count {
         let previous = runs.last().copied();
         let end = previous.map_or(0, |run| run.stretch.end);
@@ -571,7 +587,7 @@ fn random_runs(random: &mut Random, count: u64) -> Vec<Run> {
 }
 
 /// The numbers of a writing, so that they can be changed one by one.
-fn schedule_numbers(runs: &[Run]) -> Vec<u64> {
+pub fn schedule_numbers(runs: &[Run]) -> Vec<u64> {
     let mut numbers = vec![runs.len() as u64];
     let mut previous_end = 0;
     for run in runs {
@@ -589,7 +605,7 @@ fn schedule_numbers(runs: &[Run]) -> Vec<u64> {
 /// each side of them, the greatest.
 fn station_near(random: &mut Random, runs: &[Run]) -> u64 {
     if runs.is_empty() || random.percent(15) {
-        return random.pick(&[0, 1, 2_000_000_000, u64::MAX - 1, u64::MAX, 1 << 32]);
+        return random.pick(&[0, 1, 1 << 32, LAST_STATION, u64::MAX - 1, u64::MAX]);
     }
     let stretch = runs[random.index(runs.len())].stretch;
     let end = random.pick(&[stretch.start, stretch.end]);
@@ -617,7 +633,8 @@ fn nearly_run_lists(checker: &mut Checker, random: &mut Random, runs: &[Run]) ->
     let numbers = schedule_numbers(runs);
     for place in 0..numbers.len() {
         let value = numbers[place];
-        let values = [0, 1, 6, 7, 511, 512, 2_000_000_001, 4_294_967_295];
+        let mut values = vec![0, 1, 6, 7, 511, 512, 2_000_000_001, LAST_STATION];
+        values.extend(GREAT_VALUES);
         for other in [random.pick(&values), value + 1, value.saturating_sub(1)] {
             let mut changed = numbers.clone();
             changed[place] = other;
@@ -642,20 +659,20 @@ fn touching(checker: &mut Checker, random: &mut Random, runs: &[Run]) -> Outcome
     ask(checker, random, &number_bytes(&numbers))
 }
 
-/// Ends at 2,000,000,000 and one beyond.
+/// Ends at the last station and one beyond; at the end of the longest road from
+/// the datum, which is none of a schedule, and one beyond.
 fn last_stations(checker: &mut Checker, random: &mut Random) -> Outcome {
-    for last in [1_999_999_999, 2_000_000_000, 2_000_000_001] {
-        let start = random.edgy(0, 1_999_999_998);
-        let one = number_bytes(&[1, start, last - start, random.between(1, 6)]);
-        ask(checker, random, &one)?;
-        let middle = random.between(1, 1_999_999_997);
-        let two = [2, 0, middle, 1, 0, last - middle, 2];
-        ask(checker, random, &number_bytes(&two))?;
+    for end in [2_000_000_000, LAST_STATION] {
+        for last in [end - 1, end, end + 1] {
+            let start = random.edgy(0, end - 2);
+            let one = number_bytes(&[1, start, last - start, random.between(1, 6)]);
+            ask(checker, random, &one)?;
+            let middle = random.between(1, end - 3);
+            let two = [2, 0, middle, 1, 0, last - middle, 2];
+            ask(checker, random, &number_bytes(&two))?;
+        }
     }
-    // Sums that 32 bits do not hold.
-    let most = 4_294_967_295;
-    ask(checker, random, &number_bytes(&[1, most, most, 1]))?;
-    ask(checker, random, &number_bytes(&[2, 1, most, 1, 1, 5, 2]))
+    Ok(())
 }
 
 /// 510 to 513 runs, and counts that are not those of the records.
@@ -846,7 +863,7 @@ fn ranges(random: &mut Random, runs: &[Run]) -> Vec<u64> {
 fn station(random: &mut Random, runs: &[Run]) -> u64 {
     match random.below(20) {
         0 => random.draw(),
-        1 => random.edgy(0, 2_000_000_000),
+        1 => any_station(random),
         _ => station_near(random, runs),
     }
 }
@@ -963,16 +980,20 @@ fn with_a_bad_schedule(checker: &mut Checker, right: &[u8], left: &[u8], station
 }
 
 /// s - 1, s, e - 1 and e of every run, 0 and the greatest stations.
-fn end_stations(schedule: &[u8]) -> Vec<u64> {
-    let mut list = vec![0, 1, 2_000_000_000, 1 << 32, u64::MAX - 1, u64::MAX];
+pub fn end_stations(schedule: &[u8]) -> Vec<u64> {
+    let mut list = vec![0, 1, 1 << 32, LAST_STATION, u64::MAX - 1, u64::MAX];
     for record in schedule::read(schedule).unwrap_or_default() {
         let Stretch { start, end } = record.run.stretch;
         list.extend(start.checked_sub(1));
         list.extend([start, end - 1, end]);
-        // The same station in 32 bits.
-        list.push(start + (1 << 32));
+        list.extend(alike_in_32_bits(start));
     }
     list
+}
+
+/// Stations that are this one in 32 bits.
+fn alike_in_32_bits(station: u64) -> [u64; 2] {
+    [station + (1 << 32), station & 0xFFFF_FFFF]
 }
 
 fn lookup_run_ends(
@@ -997,7 +1018,7 @@ fn lookup_run_ends(
 
 /// Each end of a hazard, of an envelope (so of a gap, too) and of the road, and
 /// a millimetre to either side; each end in 32 bits; the greatest stations.
-fn level_stations(draft: &Draft) -> Vec<u64> {
+pub fn level_stations(draft: &Draft) -> Vec<u64> {
     let mut ends = vec![draft.header[A], draft.header[B]];
     for hazard in &draft.hazards {
         ends.extend([hazard[S], hazard[E]]);
@@ -1011,7 +1032,8 @@ fn level_stations(draft: &Draft) -> Vec<u64> {
     let mut list = vec![0, 1 << 32, u64::MAX - 1, u64::MAX];
     for end in ends {
         list.extend(end.checked_sub(1));
-        list.extend([end, end + 1, end + (1 << 32)]);
+        list.extend([end, end + 1]);
+        list.extend(alike_in_32_bits(end));
     }
     list
 }

@@ -1,5 +1,7 @@
 //! Jobs with faults: one for each row of the refusal table, alone or together.
 
+use reference::job::LAST_STATION;
+
 use crate::Random;
 use crate::draft::{A, B, Draft, E, FIELDS, KIND, N, S, header_length, number_bytes, range};
 
@@ -40,6 +42,20 @@ pub const FAULTS: [Fault; 9] = [
 
 /// Sides above 1, some of them 0 or 1 in 32 bits.
 pub const BAD_SIDES: [u64; 5] = [2, 3, 1 << 32, (1 << 32) + 1, u64::MAX];
+
+/// The greatest value that a number's bytes can have; no field takes it.
+pub const GREATEST_READ: u64 = (1 << 42) - 1;
+
+/// The ends of what 32 bits, five bytes and six bytes hold, and what is just
+/// above the greatest station.
+pub const GREAT_VALUES: [u64; 6] = [
+    (1 << 32) - 1,
+    1 << 32,
+    (1 << 35) - 1,
+    1 << 35,
+    LAST_STATION + 1,
+    GREATEST_READ,
+];
 
 /// A job in the making: its numbers, some of them with other bytes than their
 /// own, and what comes before and behind.
@@ -114,7 +130,7 @@ impl Broken {
     fn leave_range(&mut self, random: &mut Random) {
         let place = random.index(self.numbers.len());
         let (low, high) = range(&self.numbers, place);
-        let outside = [high + 1, 4_294_967_295, low.wrapping_sub(1)];
+        let outside = [high + 1, GREATEST_READ, low.wrapping_sub(1)];
         // Below a least value of 0 there is nothing.
         let choices = if low == 0 { 2 } else { 3 };
         self.replaced
@@ -154,19 +170,25 @@ impl Broken {
 }
 
 /// Bytes in the place of a number that are not in the number form: not the
-/// shortest, a value too great, a fifth byte with the top bit set.
+/// shortest, or a sixth byte with the top bit set.
 pub fn wrong_forms(value: u64) -> Vec<Vec<u8>> {
     let shortest = number_bytes(&[value]);
     let mut forms = Vec::new();
-    for length in shortest.len() + 1..=7 {
+    for length in shortest.len() + 1..=8 {
         forms.push(lengthened(&shortest, length));
     }
-    for fifth in [0x10, 0x1F, 0x7F, 0x80, 0x8F, 0xFF] {
-        forms.push(vec![0x80, 0x80, 0x80, 0x80, fifth]);
-        forms.push(vec![0xFF, 0xFF, 0xFF, 0xFF, fifth]);
+    for before in [0x80, 0xFF] {
+        // Of five bytes and of six.
+        for length in [4, 5] {
+            forms.push([vec![before; length], vec![0x00]].concat());
+        }
+        for sixth in [0x80, 0x81, 0x9F, 0xA0, 0xFF] {
+            forms.push([vec![before; 5], vec![sixth]].concat());
+        }
+        // A seventh byte behind it.
+        forms.push([vec![before; 6], vec![0x01]].concat());
+        forms.push(vec![before; 9]);
     }
-    forms.push(vec![0x80, 0x80, 0x80, 0x80, 0x00]);
-    forms.push(vec![0xFF; 9]);
     forms
 }
 

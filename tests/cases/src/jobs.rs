@@ -2,7 +2,7 @@
 
 use reference::approach::{formula, raised};
 use reference::envelope::{self, Approach, Direction, Envelope};
-use reference::job::Job;
+use reference::job::{Job, LAST_STATION};
 use reference::{Stretch, job, level};
 
 use crate::Random;
@@ -34,7 +34,7 @@ const SMALL: World = World {
     hazard_length: 25,
 };
 
-/// The whole ranges of the paper.
+/// The whole ranges of the paper, on the longest road from the datum.
 const WIDE: World = World {
     station: 2_000_000_000,
     runout: 200_000,
@@ -61,6 +61,38 @@ pub fn wide(random: &mut Random) -> Draft {
         _ => random.below(25),
     };
     job_in(&WIDE, random, count)
+}
+
+/// A small or a wide job, far from the datum.
+pub fn national(random: &mut Random) -> Draft {
+    let draft = match random.percent(50) {
+        true => small(random),
+        false => wide(random),
+    };
+    far_away(draft, random)
+}
+
+/// The job moved along the chainage: its road to the last station or next to it,
+/// one of its stations to the end of what 32 bits or five bytes hold or next to
+/// it, or anywhere.
+pub fn far_away(draft: Draft, random: &mut Random) -> Draft {
+    let furthest = LAST_STATION - draft.header[B];
+    let by = match random.below(6) {
+        0..=1 => furthest - random.below(2),
+        2..=3 => {
+            let mut stations = vec![draft.header[A], draft.header[B]];
+            stations.extend(
+                draft
+                    .hazards
+                    .iter()
+                    .flat_map(|hazard| [hazard[S], hazard[E]]),
+            );
+            let end = random.pick(&[1 << 32, 1 << 32, 1 << 35]);
+            end + random.below(2) - random.pick(&stations)
+        }
+        _ => random.below(furthest + 1),
+    };
+    draft.moved(by)
 }
 
 fn job_in(world: &World, random: &mut Random, count: u64) -> Draft {

@@ -3,6 +3,7 @@
 //! without it.
 
 pub mod calls;
+pub mod chainage;
 pub mod compare;
 pub mod damaged;
 pub mod families;
@@ -13,9 +14,11 @@ pub mod one_hazard;
 pub mod open;
 pub mod tally;
 pub mod wrong;
+pub mod wrong_chainage;
 pub mod wrong_corners;
 pub mod wrong_level;
 pub mod wrong_memory;
+pub mod wrong_numbers;
 pub mod wrong_offset;
 pub mod wrong_open;
 pub mod wrong_overhang;

@@ -3,6 +3,7 @@
 use reference::calls::accepted as accepted_job;
 use reference::corners::{Point, SHEET_END, points};
 use reference::envelope;
+use reference::job::LAST_STATION;
 use reference::offset::{self, GREATEST};
 
 use crate::Random;
@@ -67,7 +68,8 @@ fn each_job(
 }
 
 /// The steepest flare and the longest panels, by which a barrier goes furthest
-/// from the road, on both sides and next to both ends of the stations.
+/// from the road, on both sides and next to both ends of the longest road, from
+/// the datum and up to the last station.
 fn steep_jobs() -> Vec<Draft> {
     let last = 2_000_000_000;
     let mut list = Vec::new();
@@ -82,7 +84,8 @@ fn steep_jobs() -> Vec<Draft> {
             let draft = draft.with(T, straight).in_panels(panel);
             let draft = draft.with(LF, 200_000).with(LO, 200_000).with(W, 20_000);
             let draft = draft.with(C, 30_000).with(M, 20_000).with(B, last);
-            list.push(draft.with_hazards(&[[side, start, end, 25_000, 60_000, 6]]));
+            let draft = draft.with_hazards(&[[side, start, end, 25_000, 60_000, 6]]);
+            list.extend([draft.clone(), draft.moved(LAST_STATION - last)]);
         }
     }
     list
@@ -190,18 +193,20 @@ fn sheet_number(random: &mut Random, near: i128) -> u64 {
         1 => SHEET_END,
         2 => near.saturating_sub(1),
         3 => (near + 1).min(SHEET_END),
-        4..=6 => random.edgy(0, SHEET_END),
+        4..=5 => random.edgy(0, SHEET_END),
+        6 => random.pick(&[2_000_000_000, 2_000_000_001, 1 << 32]) + random.below(2),
         _ => near,
     }
 }
 
-/// One number or both out of range, some of them in range in 32 bits.
+/// One number or both out of range, some of them in range in 32 bits or in 40.
 fn bad_sheet(random: &mut Random) -> (u64, u64) {
     let bad = random.pick(&[
         SHEET_END + 1,
-        u64::from(u32::MAX),
-        1 << 32,
-        (1 << 32) + 200_000,
+        1 << 40,
+        1 << 42,
+        (1 << 42) + 200_000,
+        (1 << 53) + 1,
         1 << 63,
         u64::MAX,
     ]);

@@ -11,7 +11,7 @@ use crate::Random;
 use crate::compare::{Checker, Step};
 use crate::draft::{Draft, FIELDS, number_bytes, range};
 use crate::families::{KINDS, Outcome, accepted_of_kind, around};
-use crate::faults::{BAD_SIDES, Broken, FAULTS, wrong_forms};
+use crate::faults::{BAD_SIDES, Broken, FAULTS, GREATEST_READ, wrong_forms};
 use crate::jobs;
 
 /// Hazards by their names.
@@ -77,7 +77,12 @@ impl Open {
     }
 
     /// Adds the hazards of a job under any names.
-    fn add_all(&mut self, checker: &mut Checker, random: &mut Random, draft: &Draft) -> Outcome {
+    pub fn add_all(
+        &mut self,
+        checker: &mut Checker,
+        random: &mut Random,
+        draft: &Draft,
+    ) -> Outcome {
         for fields in &draft.hazards {
             self.add(checker, random.draw() as u8, *fields)?;
         }
@@ -100,7 +105,7 @@ impl Open {
         Ok(())
     }
 
-    fn return_to(&mut self, checker: &mut Checker, state: u64) -> Outcome {
+    pub fn return_to(&mut self, checker: &mut Checker, state: u64) -> Outcome {
         let reply = checker.step(&mut self.memory, Step::Return { state })?;
         if reply.number == 0 {
             let kept = self.kept[state as usize].clone();
@@ -155,7 +160,7 @@ impl Open {
 
 pub type Difference = Box<crate::Difference>;
 
-fn any_memory(random: &mut Random) -> [u8; BYTES] {
+pub fn any_memory(random: &mut Random) -> [u8; BYTES] {
     match random.below(3) {
         0 => [0; BYTES],
         1 => [random.draw() as u8; BYTES],
@@ -176,8 +181,9 @@ pub fn random_memory(random: &mut Random) -> [u8; BYTES] {
 fn source(random: &mut Random) -> Draft {
     loop {
         let mut draft = match random.below(10) {
-            0..=5 => jobs::small(random),
-            6..=8 => jobs::wide(random),
+            0..=3 => jobs::small(random),
+            4..=5 => jobs::wide(random),
+            6..=8 => jobs::national(random),
             _ => jobs::dense(random, 30),
         };
         if draft.hazards.is_empty() {
@@ -297,9 +303,13 @@ fn faulty(random: &mut Random, draft: &Draft, fields: [u64; FIELDS]) -> [u64; FI
 /// 256 hazards that are accepted.
 fn full_draft(random: &mut Random) -> Draft {
     let side = random.below(2);
-    match random.percent(50) {
+    let draft = match random.percent(50) {
         true => jobs::sparse(random, 256),
         false => jobs::islands(random, side, 255),
+    };
+    match random.percent(50) {
+        true => jobs::far_away(draft, random),
+        false => draft,
     }
 }
 
@@ -466,7 +476,7 @@ fn hazard_counts(
     let mut behind = draft.bytes();
     behind.push(random.draw() as u8);
     list.push(behind);
-    for count in [1, 2, 255, 256, 257, 4_294_967_295] {
+    for count in [1, 2, 255, 256, 257, 1 << 32, GREATEST_READ] {
         let mut numbers = draft.clone().with_hazards(&[]).numbers();
         let last = numbers.len() - 1;
         numbers[last] = count;

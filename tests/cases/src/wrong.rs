@@ -6,10 +6,11 @@ use std::ops::Range;
 use reference::approach::{Flare, formula, fraction, raised, whole};
 use reference::calls::MOST_RANGES;
 use reference::envelope::{self, Approach, Direction, Envelope, Lengthening, Overhang};
-use reference::job::{self, Hazard, Job, Reader};
+use reference::job::{self, Hazard, Job, ReadNumber, Reader};
 use reference::level::{self, Required, Run};
 use reference::{
-    Outcome, Planned, Quantities, Refusal, Stretch, lookup, number, quantities, quantity, schedule,
+    Lookup, Outcome, Planned, Quantities, Refusal, Stretch, lookup, number, quantities, quantity,
+    schedule,
 };
 
 use crate::calls::{
@@ -17,9 +18,10 @@ use crate::calls::{
     plan_reply, record, reply, right,
 };
 use crate::draft::{G, KIND, PANEL, number_bytes};
+use crate::wrong_numbers::{JobReading, RIGHT_READING, by_reading, not_shortest};
 use crate::{
-    wrong_corners, wrong_level, wrong_memory, wrong_offset, wrong_open, wrong_overhang,
-    wrong_states,
+    wrong_chainage, wrong_corners, wrong_level, wrong_memory, wrong_offset, wrong_open,
+    wrong_overhang, wrong_states,
 };
 
 /// Every wrong engine with the name of its slip.
@@ -43,6 +45,7 @@ pub fn all() -> Vec<(&'static str, Calls)> {
     list.extend(wrong_overhang::all());
     list.extend(wrong_corners::all());
     list.extend(wrong_offset::all());
+    list.extend(wrong_chainage::all());
     list
 }
 
@@ -50,21 +53,21 @@ pub fn with_plan(plan: Box<PlanCall>) -> Calls {
     Calls { plan, ..right() }
 }
 
-fn with_quantity(quantity: Box<QuantityCall>) -> Calls {
+pub fn with_quantity(quantity: Box<QuantityCall>) -> Calls {
     Calls {
         quantity,
         ..right()
     }
 }
 
-fn with_quantities(quantities: Box<QuantitiesCall>) -> Calls {
+pub fn with_quantities(quantities: Box<QuantitiesCall>) -> Calls {
     Calls {
         quantities,
         ..right()
     }
 }
 
-fn with_lookup(call: fn(&[u8], &[u8], u64, u64) -> Record) -> Calls {
+pub fn with_lookup(call: impl Fn(&[u8], &[u8], u64, u64) -> Record + 'static) -> Calls {
     Calls {
         lookup: Box::new(move |right, left, side, station| call(right, left, side, station)),
         ..right()
@@ -134,7 +137,7 @@ fn runs_and_overhang_by(
     if side > 1 {
         return Err(Refusal::argument());
     }
-    let mut reader = Reader { bytes, at: 0 };
+    let mut reader = Reader::new(bytes);
     let job = job::read_numbers(&mut reader)?;
     let envelopes = envelopes_by(rules, &job, side);
     let rest = match bytes.len() > reader.at {
@@ -884,7 +887,13 @@ fn wrong_refusals() -> Vec<(&'static str, Calls)> {
         ("the job before the side", with_plan(side_last())),
         (
             "non-shortest numbers accepted in a job",
-            with_plan(non_shortest_job()),
+            with_plan(
+                by_reading(JobReading {
+                    number: not_shortest,
+                    ..RIGHT_READING
+                })
+                .plan,
+            ),
         ),
         (
             "refusal 1 with the index where the bytes end",
@@ -895,22 +904,11 @@ fn wrong_refusals() -> Vec<(&'static str, Calls)> {
             }),
         ),
         (
-            "five top bits at the very end refused 1",
-            changed_reply(|reply, job, _| {
-                if reply.number == 2
-                    && job.len() as u64 == reply.value + 5
-                    && job[job.len() - 1] > 0x7F
-                {
-                    reply.number = 1;
-                }
-            }),
-        ),
-        (
             "refusal 2 with the index of the faulty byte",
             changed_reply(|reply, job, _| {
                 if reply.number == 2 {
                     let rest = &job[reply.value as usize..];
-                    let last = rest.iter().take(4).take_while(|byte| **byte > 0x7F);
+                    let last = rest.iter().take(5).take_while(|byte| **byte > 0x7F);
                     reply.value += last.count() as u64;
                 }
             }),
@@ -1007,35 +1005,6 @@ fn side_last() -> Box<PlanCall> {
         }
         (right().plan)(job, side, room, lent)
     })
-}
-
-/// Plans the same numbers in shortest form.
-fn non_shortest_job() -> Box<PlanCall> {
-    Box::new(|job, side, room, lent| {
-        let mut shortest = shortest(job).unwrap_or(job.to_vec());
-        (right().plan)(&mut shortest, side, room, lent)
-    })
-}
-
-/// The numbers of the bytes, written again in shortest form; none if they are
-/// not numbers at all.
-fn shortest(bytes: &[u8]) -> Option<Vec<u8>> {
-    let mut values = Vec::new();
-    let mut at = 0;
-    while at < bytes.len() {
-        let length = 1 + bytes[at..].iter().take_while(|b| **b > 0x7F).count();
-        if length > 5 || at + length > bytes.len() {
-            return None;
-        }
-        let groups = bytes[at..at + length].iter().rev();
-        let value = groups.fold(0, |value, byte| value << 7 | u64::from(byte & 0x7F));
-        if value > number::GREATEST {
-            return None;
-        }
-        values.push(value);
-        at += length;
-    }
-    Some(number_bytes(&values))
 }
 
 /// The right plan with its reply changed.
@@ -1515,7 +1484,7 @@ fn wrong_contracts() -> Vec<(&'static str, Calls)> {
         (
             "non-shortest numbers accepted by quantities",
             reading(Reading {
-                shortest_only: false,
+                number: not_shortest,
                 ..STRICT
             }),
         ),
@@ -1546,9 +1515,9 @@ fn in_order(ranges: &[u64]) -> Vec<u64> {
 fn quantities_until_the_fault(schedule: &[u8], level: u64, ranges: &[u64]) -> [u64; MOST_RANGES] {
     let mut sums = [0; MOST_RANGES];
     let mut at = number::read(schedule, 0).map_or(schedule.len(), |count| count.next);
-    let mut runs: Vec<Run> = Vec::new();
-    while let Some(values) = next_three(schedule, &mut at) {
-        let Some(run) = run_by(&STRICT, &runs, values) else {
+    let mut previous = None;
+    while let Some(values) = next_three(number::read, schedule, &mut at) {
+        let Some(run) = run_by(&STRICT, previous, values) else {
             break;
         };
         if run.level == level {
@@ -1556,7 +1525,7 @@ fn quantities_until_the_fault(schedule: &[u8], level: u64, ranges: &[u64]) -> [u
                 *sum += run.stretch.shared(&Stretch::new(range[0], range[1]));
             }
         }
-        runs.push(run);
+        previous = Some(run);
     }
     sums
 }
@@ -1680,24 +1649,29 @@ fn refused(number: u64) -> Record {
 
 /// What a careless reading of a schedule lets pass.
 #[derive(Clone, Copy)]
-struct Reading {
-    most_runs: usize,
-    last_station: u64,
-    least_length: u64,
-    levels: (u64, u64),
-    touching: bool,
-    left_over: bool,
-    shortest_only: bool,
+pub struct Reading {
+    pub most_runs: usize,
+    pub last_station: u64,
+    pub least_length: u64,
+    pub levels: (u64, u64),
+    pub touching: bool,
+    pub left_over: bool,
+    pub number: ReadNumber,
+    /// What a run's start and its end are taken as.
+    pub start: fn(u64) -> u64,
+    pub end: fn(u64) -> u64,
 }
 
-const STRICT: Reading = Reading {
+pub const STRICT: Reading = Reading {
     most_runs: schedule::MOST_RUNS,
     last_station: job::LAST_STATION,
     least_length: 1,
     levels: (1, level::HIGHEST),
     touching: false,
     left_over: false,
-    shortest_only: true,
+    number: number::read,
+    start: |start| start,
+    end: |end| end,
 };
 
 fn wrong_readings() -> Vec<(&'static str, Calls)> {
@@ -1718,20 +1692,6 @@ fn wrong_readings() -> Vec<(&'static str, Calls)> {
             "511 runs not read",
             reading(Reading {
                 most_runs: 510,
-                ..STRICT
-            }),
-        ),
-        (
-            "an end above 2,000,000,000 read",
-            reading(Reading {
-                last_station: job::LAST_STATION + 1,
-                ..STRICT
-            }),
-        ),
-        (
-            "an end of 2,000,000,000 not read",
-            reading(Reading {
-                last_station: job::LAST_STATION - 1,
                 ..STRICT
             }),
         ),
@@ -1773,14 +1733,14 @@ fn wrong_readings() -> Vec<(&'static str, Calls)> {
         (
             "non-shortest numbers accepted in a schedule",
             reading(Reading {
-                shortest_only: false,
+                number: not_shortest,
                 ..STRICT
             }),
         ),
     ]
 }
 
-fn quantity_by(
+pub fn quantity_by(
     reading: &Reading,
     schedule: &[u8],
     level: u64,
@@ -1790,68 +1750,90 @@ fn quantity_by(
     if !(1..=level::HIGHEST).contains(&level) || p > q {
         return Err(Refusal::argument());
     }
-    let runs = read_by(reading, schedule).ok_or(Refusal::no_schedule())?;
-    Ok(shared_by(&runs, level, p, q))
+    let records = read_by(reading, schedule).ok_or(Refusal::no_schedule())?;
+    Ok(shared_by(&records, level, p, q))
 }
 
 /// The millimetres of [p, q) in the runs of this level.
-fn shared_by(runs: &[Run], level: u64, p: u64, q: u64) -> u64 {
+fn shared_by(records: &[schedule::Record], level: u64, p: u64, q: u64) -> u64 {
     let asked = Stretch::new(p, q);
-    let of_level = runs.iter().filter(|run| run.level == level);
+    let runs = records.iter().map(|record| record.run);
+    let of_level = runs.filter(|run| run.level == level);
     of_level.map(|run| run.stretch.shared(&asked)).sum()
 }
 
-fn quantities_by(reading: &Reading, schedule: &[u8], level: u64, ranges: &[u64]) -> Contract {
+pub fn quantities_by(reading: &Reading, schedule: &[u8], level: u64, ranges: &[u64]) -> Contract {
     // What does not hang on the schedule is refused before it is read.
     let refused = contract(quantities(&[], level, ranges));
     if refused.number != 10 {
         return refused;
     }
-    let Some(runs) = read_by(reading, schedule) else {
+    let Some(records) = read_by(reading, schedule) else {
         return refused;
     };
-    let shared = |range: &[u64]| shared_by(&runs, level, range[0], range[1]);
+    let shared = |range: &[u64]| shared_by(&records, level, range[0], range[1]);
     contract(Ok(Quantities {
-        records: runs.len() as u64,
+        records: records.len() as u64,
         quantities: ranges.chunks_exact(2).map(shared).collect(),
     }))
 }
 
-fn read_by(reading: &Reading, schedule: &[u8]) -> Option<Vec<Run>> {
-    let again = match reading.shortest_only {
-        true => None,
-        false => shortest(schedule),
+pub fn lookup_by(reading: &Reading, right: &[u8], left: &[u8], side: u64, station: u64) -> Record {
+    let asked = match side {
+        0 => right,
+        1 => left,
+        _ => return refused(8),
     };
-    let bytes = again.as_deref().unwrap_or(schedule);
-    let mut runs: Vec<Run> = Vec::new();
-    let count = number::read(bytes, 0).ok()?;
+    let Some(records) = read_by(reading, asked) else {
+        return refused(10);
+    };
+    let found = records.iter().find(|r| r.run.stretch.has(station));
+    found.map_or(refused(0), |found| {
+        record(Lookup {
+            start: found.bytes.start,
+            length: found.bytes.len(),
+            outcome: Outcome::Found,
+        })
+    })
+}
+
+pub fn read_by(reading: &Reading, schedule: &[u8]) -> Option<Vec<schedule::Record>> {
+    let mut records: Vec<schedule::Record> = Vec::new();
+    let count = (reading.number)(schedule, 0).ok()?;
     if count.value > reading.most_runs as u64 {
         return None;
     }
     let mut at = count.next;
     for _ in 0..count.value {
-        let values = next_three(bytes, &mut at)?;
-        let run = run_by(reading, &runs, values)?;
-        runs.push(run);
+        let begin = at;
+        let values = next_three(reading.number, schedule, &mut at)?;
+        let previous = records.last().map(|record| record.run);
+        records.push(schedule::Record {
+            run: run_by(reading, previous, values)?,
+            bytes: begin..at,
+        });
     }
-    (at == bytes.len() || reading.left_over).then_some(runs)
+    (at == schedule.len() || reading.left_over).then_some(records)
 }
 
 /// The three numbers of a record.
-fn next_three(bytes: &[u8], at: &mut usize) -> Option<[u64; 3]> {
+fn next_three(read: ReadNumber, bytes: &[u8], at: &mut usize) -> Option<[u64; 3]> {
     let mut values = [0; 3];
     for value in &mut values {
-        let number = number::read(bytes, *at).ok()?;
+        let number = read(bytes, *at).ok()?;
         *value = number.value;
         *at = number.next;
     }
     Some(values)
 }
 
-fn run_by(reading: &Reading, runs: &[Run], [distance, length, level]: [u64; 3]) -> Option<Run> {
-    let previous = runs.last();
-    let start = previous.map_or(0, |run| run.stretch.end) + distance;
-    let stretch = Stretch::new(start, start + length);
+fn run_by(
+    reading: &Reading,
+    previous: Option<Run>,
+    [distance, length, level]: [u64; 3],
+) -> Option<Run> {
+    let start = (reading.start)(previous.map_or(0, |run| run.stretch.end) + distance);
+    let stretch = Stretch::new(start, (reading.end)(start + length));
     let same_level = previous.is_some_and(|run| run.level == level);
     let passes = length >= reading.least_length
         && (reading.levels.0..=reading.levels.1).contains(&level)
@@ -1877,6 +1859,9 @@ mod tests {
             }),
             quantities: Box::new(|schedule, level, ranges| {
                 quantities_by(&STRICT, schedule, level, ranges)
+            }),
+            lookup: Box::new(|right, left, side, station| {
+                lookup_by(&STRICT, right, left, side, station)
             }),
             ..by(RIGHT)
         };

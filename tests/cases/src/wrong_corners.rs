@@ -284,7 +284,7 @@ fn wrong_stations() -> Vec<(&'static str, Calls)> {
             each_point(|_, point| point.station = point.station.max(0)),
         ),
         (
-            "corners: cut at 2,000,000,000",
+            "corners: cut at the last station",
             each_point(|_, point| point.station = point.station.min(job::LAST_STATION.into())),
         ),
         (
@@ -580,7 +580,7 @@ fn wrong_sheets() -> Vec<(&'static str, Calls)> {
             }),
         ),
         (
-            "corners: a sheet corner at 2,000,000,001 taken",
+            "corners: a sheet corner just out of range taken",
             taken(|station, offset| {
                 let within = |number| match number == SHEET_END + 1 {
                     true => SHEET_END,
@@ -602,11 +602,11 @@ fn wrong_sheets() -> Vec<(&'static str, Calls)> {
             taken(|station, offset| (station & 0xFFFF_FFFF, offset & 0xFFFF_FFFF)),
         ),
         (
-            "corners: a sheet corner's station at 2,000,000,000 refused",
+            "corners: the last station of a sheet corner refused",
             refused_where(|station, _| station == SHEET_END),
         ),
         (
-            "corners: a sheet corner's offset at 2,000,000,000 refused",
+            "corners: the greatest offset of a sheet corner refused",
             refused_where(|_, offset| offset == SHEET_END),
         ),
         (

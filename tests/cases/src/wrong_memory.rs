@@ -2,16 +2,16 @@
 //! one of them.
 
 use reference::envelope;
-use reference::job::{self, Hazard, Job};
+use reference::job::{self, Hazard, Job, NATIONAL};
 use reference::memory::{
-    BYTES, HEADER, HEADER_BYTES, NOW_BYTES, PLACE_BYTES, PLACES, ROW_BYTES, STATE_BYTES, all_0,
+    BYTES, HEADER, HEADER_BYTES, MARK_BYTES, NOW_BYTES, PLACE_BYTES, PLACES, STATE_BYTES, all_0,
+    read_place, value,
 };
-use reference::open::STATES;
 use reference::{add, keep, open_schedule, return_to, withdraw};
 
 use crate::calls::{Calls, Memory, Reply, plan_reply, reply, right};
-use crate::draft::{KIND, PANEL, header_range};
-use crate::wrong_open::{BROKEN, DONE, four_at, number_at, with_add, with_schedule, with_withdraw};
+use crate::draft::{A, B, KIND, PANEL, header_range};
+use crate::wrong_open::{BROKEN, DONE, number_at, with_add, with_schedule, with_withdraw};
 use crate::wrong_states::{with_keep, with_return};
 
 /// Every wrong test with the name of its slip.
@@ -28,6 +28,8 @@ enum Rule {
     Kind,
     /// Another header number is in its range.
     Header,
+    /// B − A is at most its limit.
+    Length,
     /// The panel length of kind 2 is in its range.
     Panel,
     /// The panel length of kind 1 is 1.
@@ -65,11 +67,11 @@ fn broken(memory: &[u8; BYTES]) -> Vec<Breach> {
         return breaches(list, false);
     }
     let header = job_of(&numbers);
-    list.extend(broken_row(memory, &header, HEADER_BYTES));
+    let places = &memory[HEADER_BYTES..NOW_BYTES];
+    list.extend(broken_row(&header, numbers[HEADER - 1], places));
     let mut list = breaches(list, false);
-    for state in 0..STATES {
-        let rules = broken_state(memory, &header, NOW_BYTES + STATE_BYTES * state);
-        list.extend(breaches(rules, true));
+    for state in memory[NOW_BYTES..].chunks(STATE_BYTES) {
+        list.extend(breaches(broken_state(&header, state), true));
     }
     list
 }
@@ -87,6 +89,7 @@ fn broken_header(numbers: &[u64]) -> Vec<Rule> {
             KIND => (Rule::Kind, header_range(numbers, place)),
             PANEL if numbers[KIND] == 1 => (Rule::NoPanel, (1, 1)),
             PANEL => (Rule::Panel, header_range(numbers, place)),
+            B if too_long(numbers) => (Rule::Length, header_range(numbers, place)),
             _ => (Rule::Header, header_range(numbers, place)),
         };
         if !(low..=high).contains(number) {
@@ -96,33 +99,39 @@ fn broken_header(numbers: &[u64]) -> Vec<Rule> {
     list
 }
 
+/// Whether both ends are stations of a road, too far from each other.
+fn too_long(numbers: &[u64]) -> bool {
+    let (begin, end) = (numbers[A], numbers[B]);
+    begin < end && end <= NATIONAL.last_end && end - begin > NATIONAL.longest
+}
+
 /// A state that is marked as used in whatever way is looked at as a kept one.
-fn broken_state(memory: &[u8; BYTES], header: &Job, at: usize) -> Vec<Rule> {
+fn broken_state(header: &Job, state: &[u8]) -> Vec<Rule> {
+    let (marks, places) = state.split_at(2 * MARK_BYTES);
+    let (used, count) = marks.split_at(MARK_BYTES);
     let mut list = Vec::new();
-    match four_at(memory, at) {
-        0 if !all_0(&memory[at..at + STATE_BYTES]) => list.push(Rule::Unused),
+    match value(used) {
+        0 if !all_0(state) => list.push(Rule::Unused),
         0 => (),
         used => {
             if used > 1 {
                 list.push(Rule::Used);
             }
-            list.extend(broken_row(memory, header, at + 8));
+            list.extend(broken_row(header, value(count), places));
         }
     }
     list
 }
 
-/// A row of places that begins here, the count before it.
-fn broken_row(memory: &[u8; BYTES], header: &Job, at: usize) -> Vec<Rule> {
-    let count = four_at(memory, at - 4) as usize;
-    if count > PLACES {
+/// A row of places, so many of them used.
+fn broken_row(header: &Job, count: u64, places: &[u8]) -> Vec<Rule> {
+    if count > PLACES as u64 {
         return vec![Rule::Count];
     }
+    let (used, unused) = places.split_at(PLACE_BYTES * count as usize);
     let mut list = Vec::new();
     let mut previous = None;
-    for place in 0..count {
-        let place = at + PLACE_BYTES * place;
-        let name = four_at(memory, place + 16) & 0xFFFF;
+    for (name, hazard) in used.chunks(PLACE_BYTES).map(read_place) {
         if name > 255 {
             list.push(Rule::Name);
         }
@@ -133,9 +142,9 @@ fn broken_row(memory: &[u8; BYTES], header: &Job, at: usize) -> Vec<Rule> {
             list.push(Rule::Order);
         }
         previous = Some(name);
-        list.extend(broken_by(header, &hazard_at(memory, place)));
+        list.extend(broken_by(header, &hazard));
     }
-    if !all_0(&memory[at + PLACE_BYTES * count..at + ROW_BYTES]) {
+    if !all_0(unused) {
         list.push(Rule::Unused);
     }
     list
@@ -159,17 +168,6 @@ fn job_of(numbers: &[u64]) -> Job {
         continuity: numbers[12],
         panel: numbers[13],
         hazards: Vec::new(),
-    }
-}
-
-fn hazard_at(memory: &[u8; BYTES], at: usize) -> Hazard {
-    Hazard {
-        side: memory[at + 18].into(),
-        start: four_at(memory, at),
-        end: four_at(memory, at + 4),
-        near: four_at(memory, at + 8),
-        far: four_at(memory, at + 12),
-        level: memory[at + 19].into(),
     }
 }
 
@@ -234,6 +232,7 @@ fn untested_rules() -> Vec<(&'static str, Calls)> {
     let names = [
         ("the kind in the memory not tested", Rule::Kind),
         ("the header in the memory not tested", Rule::Header),
+        ("B − A in the memory not tested", Rule::Length),
         ("the panel length in the memory not tested", Rule::Panel),
         (
             "kind 1 in the memory with another panel length taken",
@@ -321,6 +320,7 @@ mod tests {
     use super::*;
     use crate::Random;
     use crate::{jobs, open};
+    use reference::open::STATES;
     use reference::{OpenJob, memory};
 
     /// The rules, asked one by one, and the reference's reading find the same

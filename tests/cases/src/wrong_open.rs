@@ -5,7 +5,10 @@ use std::ops::Range;
 use reference::calls::plan_job;
 use reference::envelope;
 use reference::job::{self, Hazard, Job};
-use reference::memory::{self, BYTES, HEADER, HEADER_BYTES, NOW_BYTES, PLACE_BYTES, PLACES};
+use reference::memory::{
+    self, BYTES, HEADER, HEADER_BYTES, NAME_AT, NOW_BYTES, NUMBER_BYTES, PLACE_BYTES, PLACES,
+    place_bytes,
+};
 use reference::{OpenJob, Refusal, add, open, open_schedule, planned, withdraw};
 
 use crate::calls::{AddCall, Calls, Memory, OpenCall, OpenScheduleCall, WithdrawCall};
@@ -59,22 +62,12 @@ fn count(memory: &Memory) -> usize {
     memory::read(&memory.job).map_or(0, |open| open.standing.len())
 }
 
-/// The bytes of a place that has this hazard.
-fn place_bytes(name: u8, hazard: &Hazard) -> Vec<u8> {
-    let mut bytes = Vec::new();
-    for value in [hazard.start, hazard.end, hazard.near, hazard.far] {
-        bytes.extend((value as u32).to_le_bytes());
-    }
-    bytes.extend([name, 0, hazard.side as u8, hazard.level as u8]);
-    bytes
-}
-
 /// Puts a hazard behind the others, whatever its name is.
 fn put_last(memory: &mut Memory, name: u8, hazard: &Hazard) {
     let last = count(memory);
     if last < PLACES {
-        place(memory, last).copy_from_slice(&place_bytes(name, hazard));
-        set_number(memory, HEADER - 1, last as u32 + 1);
+        place(memory, last).copy_from_slice(&place_bytes(name.into(), hazard));
+        set_number(memory, HEADER - 1, last as u64 + 1);
     }
 }
 
@@ -101,7 +94,7 @@ fn wrong_adds() -> Vec<(&'static str, Calls)> {
             after(|reply, memory, name, hazard| {
                 let last = count(memory);
                 if (4..=5).contains(&reply.number) && last < PLACES {
-                    place(memory, last).copy_from_slice(&place_bytes(name, &hazard));
+                    place(memory, last).copy_from_slice(&place_bytes(name.into(), &hazard));
                 }
             }),
         ),
@@ -109,7 +102,8 @@ fn wrong_adds() -> Vec<(&'static str, Calls)> {
             "a refused add leaves the count raised",
             after(|reply, memory, _, _| {
                 if reply.number == 5 {
-                    memory.job[HEADER_BYTES - 4] += 1;
+                    let raised = number_at(&memory.job, HEADER - 1) + 1;
+                    set_number(memory, HEADER - 1, raised);
                 }
             }),
         ),
@@ -293,23 +287,20 @@ fn name_stands(memory: &[u8; BYTES], name: u8) -> bool {
     (0..count).any(|place| name_at(memory, place) == u64::from(name))
 }
 
-pub fn set_number(memory: &mut Memory, place: usize, value: u32) {
-    memory.job[4 * place..4 * place + 4].copy_from_slice(&value.to_le_bytes());
+pub fn set_number(memory: &mut Memory, place: usize, value: u64) {
+    let at = NUMBER_BYTES * place;
+    memory.job[at..at + NUMBER_BYTES].copy_from_slice(&value.to_le_bytes());
 }
 
 /// The header number at this place, counted from 0.
 pub fn number_at(memory: &[u8; BYTES], place: usize) -> u64 {
-    four_at(memory, 4 * place)
-}
-
-pub fn four_at(memory: &[u8; BYTES], at: usize) -> u64 {
-    let mut bytes = [0; 4];
-    bytes.copy_from_slice(&memory[at..at + 4]);
-    u32::from_le_bytes(bytes).into()
+    let at = NUMBER_BYTES * place;
+    memory::value(&memory[at..at + NUMBER_BYTES])
 }
 
 fn name_at(memory: &[u8; BYTES], place: usize) -> u64 {
-    four_at(memory, HEADER_BYTES + PLACE_BYTES * place + 16) & 0xFFFF
+    let at = HEADER_BYTES + PLACE_BYTES * place;
+    memory::read_place(&memory[at..at + PLACE_BYTES]).0
 }
 
 // Withdraw.
@@ -396,7 +387,8 @@ fn wrong_withdrawals() -> Vec<(&'static str, Calls)> {
             "a withdrawal that leaves the hazard in the count",
             after(|reply, memory, _, _| {
                 if reply.number == 0 {
-                    memory.job[HEADER_BYTES - 4] = memory.job[HEADER_BYTES - 4].wrapping_add(1);
+                    let left = number_at(&memory.job, HEADER - 1) + 1;
+                    set_number(memory, HEADER - 1, left);
                 }
             }),
         ),
@@ -408,7 +400,7 @@ fn without_place(memory: &mut Memory, index: usize) {
     let at = HEADER_BYTES + PLACE_BYTES * index;
     memory.job.copy_within(at + PLACE_BYTES..NOW_BYTES, at);
     place(memory, PLACES - 1).fill(0);
-    let left = number_at(&memory.job, HEADER - 1) as u32 - 1;
+    let left = number_at(&memory.job, HEADER - 1) - 1;
     set_number(memory, HEADER - 1, left);
 }
 
@@ -424,13 +416,14 @@ fn gone_for_good() -> Calls {
             if reply.number == 0 {
                 *memory = unmarked;
                 place(memory, PLACES - 1).copy_from_slice(&marked);
-                place(memory, PLACES - 1)[16] = name;
+                place(memory, PLACES - 1)[NAME_AT] = name;
             }
             reply
         }),
         add: Box::new(|memory, name, hazard| {
             let mark = place(memory, PLACES - 1).to_vec();
-            if mark[..16].iter().all(|byte| *byte == 0) && mark[16] == name && name > 0 {
+            let without_hazard = mark[..NAME_AT].iter().all(|byte| *byte == 0);
+            if without_hazard && mark[NAME_AT] == name && name > 0 {
                 return reply(Err(Refusal::name(name)));
             }
             reply(add(&mut memory.job, name, hazard))

@@ -419,7 +419,7 @@ fn six_from_job_bytes() -> Vec<(&'static str, Calls)> {
             }),
         ),
         (
-            "6 returned for an envelope that would end behind 2,000,000,000",
+            "6 returned for an envelope that would end behind the last station",
             by(Rules {
                 refuse: |job, index, hazard, longer| {
                     too_near(job, index, hazard)?;

@@ -1,12 +1,12 @@
 //! Named states of an open job with one slip each. The test has to find every one
 //! of them.
 
-use reference::memory::{self, NOW_BYTES, STATE_BYTES};
+use reference::memory::{self, MARK_BYTES, NOW_BYTES, STATE_BYTES};
 use reference::open::{STATES, Standing};
 use reference::{OpenJob, Refusal, add, keep, open, return_to, withdraw};
 
 use crate::calls::{Calls, Memory, Reply, StateCall, reply, right};
-use crate::wrong_open::{BROKEN, DONE, four_at, with_open, with_withdraw};
+use crate::wrong_open::{BROKEN, DONE, with_open, with_withdraw};
 
 /// Every wrong state with the name of its slip.
 pub fn all() -> Vec<(&'static str, Calls)> {
@@ -41,19 +41,19 @@ fn state_bytes(memory: &mut Memory, state: usize) -> &mut [u8] {
 }
 
 /// An open job before and after a call that was done, and the state's number.
-struct Done {
-    before: OpenJob,
-    after: OpenJob,
-    state: usize,
+pub struct Done {
+    pub before: OpenJob,
+    pub after: OpenJob,
+    pub state: usize,
 }
 
 /// The open job that this memory is.
-fn open_job(memory: &Memory) -> OpenJob {
+pub fn open_job(memory: &Memory) -> OpenJob {
     memory::read(&memory.job).expect("the call was done")
 }
 
 /// The right call, and where it is done the open job changed afterwards.
-fn after(
+pub fn after(
     call: fn(&mut [u8], u64) -> Result<u64, Refusal>,
     change: fn(&mut Done),
 ) -> Box<StateCall> {
@@ -180,8 +180,9 @@ fn refused_where(refused: fn(&OpenJob, usize) -> bool) -> Calls {
 /// What a state had before stays behind the hazards that it has now.
 fn leave_behind(memory: &mut Memory, before: &Memory, state: usize) {
     let mut before = before.clone();
-    let left = state_bytes(&mut before, state)[8..].to_vec();
-    for (byte, left) in state_bytes(memory, state)[8..].iter_mut().zip(left) {
+    let places = 2 * MARK_BYTES;
+    let left = state_bytes(&mut before, state)[places..].to_vec();
+    for (byte, left) in state_bytes(memory, state)[places..].iter_mut().zip(left) {
         if *byte == 0 {
             *byte = left;
         }
@@ -363,8 +364,9 @@ fn wrong_numbers() -> Vec<(&'static str, Calls)> {
             "a return to what is not kept before the memory",
             with_return(Box::new(|memory, state| {
                 let reply = reply(return_to(&mut memory.job, state));
-                let at = NOW_BYTES + STATE_BYTES * (state as usize % STATES);
-                match reply == BROKEN && state < STATES as u64 && four_at(&memory.job, at) == 0 {
+                let marks = state_bytes(memory, state as usize % STATES);
+                let unused = memory::value(&marks[..MARK_BYTES]) == 0;
+                match reply == BROKEN && state < STATES as u64 && unused {
                     true => REFUSED,
                     false => reply,
                 }
@@ -400,7 +402,7 @@ fn wrong_openings() -> Vec<(&'static str, Calls)> {
     };
     vec![
         ("an opening leaves the states", left(0)),
-        ("an opening unmarks the states alone", left(8)),
+        ("an opening unmarks the states alone", left(2 * MARK_BYTES)),
         (
             "an opening leaves state 7",
             with_open(Box::new(|memory, bytes| {

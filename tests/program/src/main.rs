@@ -9,6 +9,7 @@ use std::time::{Duration, Instant};
 
 use cases::draft::{A, B, LEVEL, LO, M, PRINTED, PRINTED_HAZARD, S, SIDE, number_bytes, printed};
 use cases::{Random, jobs};
+use reference::job::LAST_STATION;
 
 /// No input takes the program longer than this.
 const PATIENCE: Duration = Duration::from_secs(20);
@@ -181,7 +182,25 @@ fn inputs() -> Vec<Input> {
         input("a needless group (2)", malformed),
         input(
             "a road that begins too late (3)",
-            printed().with(A, 2_000_000_000).bytes(),
+            printed().with(A, LAST_STATION).bytes(),
+        ),
+        input(
+            "a road that is too long (3)",
+            printed().with(B, 2_000_000_001).bytes(),
+        ),
+        input("the longest road", printed().with(B, 2_000_000_000).bytes()),
+        input(
+            "a value of six bytes as the level (4)",
+            hazard_with(LEVEL, 1 << 35),
+        ),
+        input("a sixth byte with its top bit set (2)", vec![0x80; 6]),
+        input(
+            "stations over 32 bits",
+            printed().moved((1 << 32) - 200_000).bytes(),
+        ),
+        input(
+            "a road up to the last station",
+            printed().moved(LAST_STATION - 1_000_000).bytes(),
         ),
         input("a level of 7 (4)", hazard_with(LEVEL, 7)),
         input("an offset too great (5)", printed().with(M, 4_001).bytes()),
@@ -217,6 +236,10 @@ fn inputs() -> Vec<Input> {
             jobs::small(&mut random).bytes(),
         ));
         list.push(input("a wide random job", jobs::wide(&mut random).bytes()));
+        list.push(input(
+            "a random job far from the datum",
+            jobs::national(&mut random).bytes(),
+        ));
     }
     list.push(Input {
         name: "511 runs through a slow pipe",

@@ -76,7 +76,11 @@ pub fn required(job: &[u8], side: u64) -> Result<Required, Refusal> {
 /// The job of these bytes, if it is accepted: the refusals that plan has without
 /// its own 8 and 9.
 pub fn accepted(bytes: &[u8]) -> Result<Job, Refusal> {
-    let job = job::read(bytes)?;
+    tested(job::read(bytes)?)
+}
+
+/// The same of a job that is read.
+pub fn tested(job: Job) -> Result<Job, Refusal> {
     envelope::envelopes(&job)?;
     Ok(job)
 }
@@ -96,8 +100,12 @@ pub fn level(job: &[u8], side: u64, station: u64) -> Result<u64, Refusal> {
     if side > 1 {
         return Err(Refusal::argument());
     }
-    let job = job::read(job)?;
-    let envelopes = envelopes_of(&job, side)?;
+    level_of_job(&job::read(job)?, side, station)
+}
+
+/// The same of a job that is read.
+pub fn level_of_job(job: &Job, side: u64, station: u64) -> Result<u64, Refusal> {
+    let envelopes = envelopes_of(job, side)?;
     Ok(level::level_at(&envelopes, job.continuity, station))
 }
 

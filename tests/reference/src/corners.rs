@@ -31,7 +31,7 @@ pub struct Point {
 }
 
 /// The greatest number of a sheet corner.
-pub const SHEET_END: u64 = 2_000_000_000;
+pub const SHEET_END: u64 = 1_000_000_000_000;
 
 /// The corners of one hazard's adjacent approach, counted from a sheet corner:
 /// refusal 8 for the sheet corner, then those of the job, then 14.
@@ -44,13 +44,17 @@ pub fn corners(
     if sheet_station > SHEET_END || sheet_offset > SHEET_END {
         return Err(Refusal::argument());
     }
-    let job = accepted(job)?;
-    let (hazard, approach) = envelope::adjacent_approach(&job, hazard)?;
     let sheet = Point {
         station: sheet_station.into(),
         offset: sheet_offset.into(),
     };
-    Ok(from_sheet(points(&job, &hazard, &approach), sheet))
+    of_accepted(&accepted(job)?, hazard, sheet)
+}
+
+/// The same of an accepted job.
+pub fn of_accepted(job: &Job, hazard: u64, sheet: Point) -> Result<Corners, Refusal> {
+    let (hazard, approach) = envelope::adjacent_approach(job, hazard)?;
+    Ok(from_sheet(points(job, &hazard, &approach), sheet))
 }
 
 /// Upstream end, flare's beginning and hazard's end, not cut at A and B.

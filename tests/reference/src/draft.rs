@@ -88,6 +88,17 @@ impl Draft {
         self.with(KIND, 2).with(PANEL, length)
     }
 
+    /// The same job so much further from the datum.
+    pub fn moved(mut self, by: u64) -> Draft {
+        self.header[A] += by;
+        self.header[B] += by;
+        for hazard in &mut self.hazards {
+            hazard[S] += by;
+            hazard[E] += by;
+        }
+        self
+    }
+
     pub fn numbers(&self) -> Vec<u64> {
         let before_count = header_length(self.header[KIND]) - 1;
         let mut numbers = self.header[..before_count].to_vec();
@@ -131,11 +142,17 @@ pub fn range(numbers: &[u64], place: usize) -> (u64, u64) {
 
 /// The range of a number of the header that is not the hazard count.
 pub fn header_range(numbers: &[u64], place: usize) -> (u64, u64) {
-    const LAST: u64 = 2_000_000_000;
+    const LAST: u64 = 1_000_000_000_000;
+    const LONGEST: u64 = 2_000_000_000;
     match place {
         KIND => (1, 2),
         A => (0, LAST - 1),
-        B => (numbers[A] + 1, LAST),
+        B => {
+            let begin = numbers[A];
+            // The memory of an open job may have any number as its A.
+            let last = begin.saturating_add(LONGEST).min(LAST);
+            (begin.saturating_add(1), last)
+        }
         LF => (1, 200_000),
         LO => (0, 200_000),
         C => (1, 30_000),

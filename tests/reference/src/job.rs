@@ -1,11 +1,29 @@
 //! The job in bytes: 14 header numbers, 15 for kind 2, then six numbers for each
 //! hazard.
 
-use crate::number::{self, Fault};
+use crate::number::{self, Fault, Number};
 use crate::refusal::Refusal;
 
 /// The last station that a road may end at.
-pub const LAST_STATION: u64 = 2_000_000_000;
+pub const LAST_STATION: u64 = 1_000_000_000_000;
+
+/// How far a road may go.
+#[derive(Clone, Copy, Debug)]
+pub struct RoadLimits {
+    /// The last station that it may begin at.
+    pub last_begin: u64,
+    /// The last station that it may end at.
+    pub last_end: u64,
+    /// B − A is at most this.
+    pub longest: u64,
+}
+
+/// Stations on the national chainage.
+pub const NATIONAL: RoadLimits = RoadLimits {
+    last_begin: LAST_STATION - 1,
+    last_end: LAST_STATION,
+    longest: 2_000_000_000,
+};
 
 /// A job whose numbers are all in form and in range. The paper's letters are
 /// named in the comments.
@@ -72,9 +90,13 @@ pub fn count_number(kind: u64) -> u64 {
 /// Reads a job. The numbers are looked at as they stand, each for refusals 1
 /// and 2 and for its range (3 or 4); then comes refusal 7.
 pub fn read(bytes: &[u8]) -> Result<Job, Refusal> {
-    let mut reader = Reader { bytes, at: 0 };
-    let job = read_numbers(&mut reader)?;
-    nothing_follows(&reader)?;
+    read_all(&mut Reader::new(bytes))
+}
+
+/// The same by a reader of other numbers or other roads.
+pub fn read_all(reader: &mut Reader) -> Result<Job, Refusal> {
+    let job = read_numbers(reader)?;
+    nothing_follows(reader)?;
     Ok(job)
 }
 
@@ -100,8 +122,10 @@ pub fn read_numbers(reader: &mut Reader) -> Result<Job, Refusal> {
 /// The header without the hazard count.
 pub fn read_header(reader: &mut Reader) -> Result<Job, Refusal> {
     let kind = reader.header(1, 1, 2)?;
-    let road_begin = reader.header(2, 0, LAST_STATION - 1)?;
-    let road_end = reader.header(3, road_begin + 1, LAST_STATION)?;
+    let limits = reader.limits;
+    let road_begin = reader.header(2, 0, limits.last_begin)?;
+    let last_end = limits.last_end.min(road_begin + limits.longest);
+    let road_end = reader.header(3, road_begin + 1, last_end)?;
     Ok(Job {
         kind,
         road_begin,
@@ -175,9 +199,23 @@ pub struct Reader<'a> {
     pub bytes: &'a [u8],
     /// Where the next number begins.
     pub at: usize,
+    pub number: ReadNumber,
+    pub limits: RoadLimits,
 }
 
+/// Reads the number of these bytes that begins there.
+pub type ReadNumber = fn(&[u8], usize) -> Result<Number, Fault>;
+
 impl Reader<'_> {
+    pub fn new(bytes: &[u8]) -> Reader<'_> {
+        Reader {
+            bytes,
+            at: 0,
+            number: number::read,
+            limits: NATIONAL,
+        }
+    }
+
     /// Header number `no`, which has to be from `low` to `high`.
     pub fn header(&mut self, no: u64, low: u64, high: u64) -> Result<u64, Refusal> {
         self.next(low, high, Refusal::header_range(no))
@@ -190,7 +228,7 @@ impl Reader<'_> {
 
     fn next(&mut self, low: u64, high: u64, outside: Refusal) -> Result<u64, Refusal> {
         let begin = self.at;
-        let number = number::read(self.bytes, begin).map_err(|fault| match fault {
+        let number = (self.number)(self.bytes, begin).map_err(|fault| match fault {
             Fault::Ends => Refusal::job_ends(begin),
             Fault::Form => Refusal::number_form(begin),
         })?;

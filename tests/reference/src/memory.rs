@@ -11,18 +11,28 @@ use crate::job::{self, Hazard, Job};
 use crate::number;
 use crate::open::{OpenJob, STATES, Standing};
 
-/// Numbers of the header, four bytes each: those of kind 2, the last the count.
+/// Numbers of the header: those of kind 2, the last the count.
 pub const HEADER: usize = 15;
 
+/// The bytes of a number of the header.
+pub const NUMBER_BYTES: usize = 8;
+
 /// The bytes of the header.
-pub const HEADER_BYTES: usize = 4 * HEADER;
+pub const HEADER_BYTES: usize = NUMBER_BYTES * HEADER;
 
 /// Places for hazards in a row.
 pub const PLACES: usize = 256;
 
-/// The bytes of a place: s, e, n and f in four bytes each, the name in two, the
-/// side and the level in one each.
-pub const PLACE_BYTES: usize = 20;
+// Where each part of a place begins, and where the place ends: s and e have eight
+// bytes each, n, f and the name two, the side and the level one.
+pub const START_AT: usize = 0;
+pub const END_AT: usize = 8;
+pub const NEAR_AT: usize = 16;
+pub const FAR_AT: usize = 18;
+pub const NAME_AT: usize = 20;
+pub const SIDE_AT: usize = 22;
+pub const LEVEL_AT: usize = 23;
+pub const PLACE_BYTES: usize = 24;
 
 /// The bytes of a row of places.
 pub const ROW_BYTES: usize = PLACES * PLACE_BYTES;
@@ -30,8 +40,11 @@ pub const ROW_BYTES: usize = PLACES * PLACE_BYTES;
 /// The bytes of the open job as it is now.
 pub const NOW_BYTES: usize = HEADER_BYTES + ROW_BYTES;
 
-/// The bytes of a kept state: used and count in four bytes each, then its row.
-pub const STATE_BYTES: usize = 8 + ROW_BYTES;
+/// The bytes of a kept state's mark of being used, and those of its count.
+pub const MARK_BYTES: usize = 8;
+
+/// The bytes of a kept state: used, count, then its row.
+pub const STATE_BYTES: usize = 2 * MARK_BYTES + ROW_BYTES;
 
 /// The bytes of the whole memory.
 pub const BYTES: usize = NOW_BYTES + STATES * STATE_BYTES;
@@ -40,28 +53,40 @@ pub const BYTES: usize = NOW_BYTES + STATES * STATE_BYTES;
 pub fn write(open: &OpenJob, memory: &mut [u8]) {
     let mut bytes = Vec::new();
     for value in header_numbers(&open.header) {
-        bytes.extend(four_bytes(value));
+        bytes.extend(value.to_le_bytes());
     }
-    write_row(&open.standing, &mut bytes);
+    bytes.extend((open.standing.len() as u64).to_le_bytes());
+    write_places(&open.standing, &mut bytes);
     for kept in &open.kept {
-        bytes.extend(four_bytes(kept.is_some().into()));
         let nothing = Standing::new();
-        write_row(kept.as_ref().unwrap_or(&nothing), &mut bytes);
+        let standing = kept.as_ref().unwrap_or(&nothing);
+        bytes.extend(u64::from(kept.is_some()).to_le_bytes());
+        bytes.extend((standing.len() as u64).to_le_bytes());
+        write_places(standing, &mut bytes);
     }
     memory.copy_from_slice(&bytes);
 }
 
-/// The count of the hazards, then their places and those that are not used.
-fn write_row(standing: &Standing, bytes: &mut Vec<u8>) {
-    bytes.extend(four_bytes(standing.len() as u64));
+/// The places of the hazards and those that are not used.
+fn write_places(standing: &Standing, bytes: &mut Vec<u8>) {
     let end = bytes.len() + ROW_BYTES;
     for (name, hazard) in standing {
-        for value in [hazard.start, hazard.end, hazard.near, hazard.far] {
-            bytes.extend(four_bytes(value));
-        }
-        bytes.extend([*name, 0, hazard.side as u8, hazard.level as u8]);
+        bytes.extend(place_bytes(u16::from(*name), hazard));
     }
     bytes.resize(end, 0);
+}
+
+/// The bytes of a place. An accepted offset is at most 60,000.
+pub fn place_bytes(name: u16, hazard: &Hazard) -> [u8; PLACE_BYTES] {
+    let mut bytes = [0; PLACE_BYTES];
+    bytes[START_AT..END_AT].copy_from_slice(&hazard.start.to_le_bytes());
+    bytes[END_AT..NEAR_AT].copy_from_slice(&hazard.end.to_le_bytes());
+    bytes[NEAR_AT..FAR_AT].copy_from_slice(&(hazard.near as u16).to_le_bytes());
+    bytes[FAR_AT..NAME_AT].copy_from_slice(&(hazard.far as u16).to_le_bytes());
+    bytes[NAME_AT..SIDE_AT].copy_from_slice(&name.to_le_bytes());
+    bytes[SIDE_AT] = hazard.side as u8;
+    bytes[LEVEL_AT] = hazard.level as u8;
+    bytes
 }
 
 /// The numbers of a header in the paper's order, without the hazard count. Kind
@@ -85,11 +110,6 @@ pub fn header_numbers(job: &Job) -> [u64; HEADER - 1] {
     ]
 }
 
-/// Every value of an accepted job is below 2 to the 32nd.
-fn four_bytes(value: u64) -> [u8; 4] {
-    (value as u32).to_le_bytes()
-}
-
 /// The open job that this memory is; none where the memory is not what `write`
 /// makes of a header and hazards that are accepted.
 pub fn read(memory: &[u8]) -> Option<OpenJob> {
@@ -97,9 +117,10 @@ pub fn read(memory: &[u8]) -> Option<OpenJob> {
         return None;
     }
     let (now, states) = memory.split_at(NOW_BYTES);
-    let (header, row) = now.split_at(HEADER_BYTES - 4);
-    let header: Vec<u64> = header.chunks(4).map(value).collect();
-    let standing = read_row(&header, row)?;
+    let (header, places) = now.split_at(HEADER_BYTES);
+    let mut header: Vec<u64> = header.chunks(NUMBER_BYTES).map(value).collect();
+    let count = header.pop()?;
+    let standing = read_places(&header, count, places)?;
     let mut kept = [const { None }; STATES];
     for (kept, state) in kept.iter_mut().zip(states.chunks(STATE_BYTES)) {
         *kept = read_state(&header, state)?;
@@ -113,18 +134,17 @@ pub fn read(memory: &[u8]) -> Option<OpenJob> {
 
 /// A state with its row, or one that is not kept.
 fn read_state(header: &[u64], state: &[u8]) -> Option<Option<Standing>> {
-    let (used, row) = state.split_at(4);
+    let (marks, places) = state.split_at(2 * MARK_BYTES);
+    let (used, count) = marks.split_at(MARK_BYTES);
     match value(used) {
-        0 => all_0(row).then_some(None),
-        1 => Some(Some(read_row(header, row)?)),
+        0 => all_0(state).then_some(None),
+        1 => Some(Some(read_places(header, value(count), places)?)),
         _ => None,
     }
 }
 
-/// The hazards of a row by their names: its count, then its places.
-fn read_row(header: &[u64], row: &[u8]) -> Option<Standing> {
-    let (count, places) = row.split_at(4);
-    let count = value(count);
+/// The hazards of a row by their names, as many as the count says.
+fn read_places(header: &[u64], count: u64, places: &[u8]) -> Option<Standing> {
     if count > PLACES as u64 {
         return None;
     }
@@ -132,7 +152,7 @@ fn read_row(header: &[u64], row: &[u8]) -> Option<Standing> {
     if !all_0(unused) {
         return None;
     }
-    let places: Vec<(u64, Hazard)> = used.chunks(PLACE_BYTES).map(place).collect();
+    let places: Vec<(u64, Hazard)> = used.chunks(PLACE_BYTES).map(read_place).collect();
     let rising = places.windows(2).all(|pair| pair[0].0 < pair[1].0);
     let in_a_byte = places.iter().all(|(name, _)| *name <= 255);
     if !rising || !in_a_byte {
@@ -149,23 +169,23 @@ pub fn all_0(bytes: &[u8]) -> bool {
     bytes.iter().fold(0, |bits, byte| bits | byte) == 0
 }
 
-/// The value of a few bytes, lowest first.
-fn value(bytes: &[u8]) -> u64 {
+/// The value of up to eight bytes, lowest first.
+pub fn value(bytes: &[u8]) -> u64 {
     let highest_first = bytes.iter().rev();
     highest_first.fold(0, |value, byte| value << 8 | u64::from(*byte))
 }
 
 /// The name and the hazard of a place.
-fn place(bytes: &[u8]) -> (u64, Hazard) {
+pub fn read_place(place: &[u8]) -> (u64, Hazard) {
     let hazard = Hazard {
-        start: value(&bytes[0..4]),
-        end: value(&bytes[4..8]),
-        near: value(&bytes[8..12]),
-        far: value(&bytes[12..16]),
-        side: value(&bytes[18..19]),
-        level: value(&bytes[19..20]),
+        start: value(&place[START_AT..END_AT]),
+        end: value(&place[END_AT..NEAR_AT]),
+        near: value(&place[NEAR_AT..FAR_AT]),
+        far: value(&place[FAR_AT..NAME_AT]),
+        side: place[SIDE_AT].into(),
+        level: place[LEVEL_AT].into(),
     };
-    (value(&bytes[16..18]), hazard)
+    (value(&place[NAME_AT..SIDE_AT]), hazard)
 }
 
 /// The job of these header numbers and hazards, if it is an accepted one: its

@@ -1,11 +1,8 @@
 //! The number form: groups of seven bits, lowest first, one group a byte, the
 //! top bit set on all but the last byte, shortest form only.
 
-/// The greatest value that a number may have.
-pub const GREATEST: u64 = 4_294_967_295;
-
-/// A number takes at most this many bytes.
-pub const MOST_BYTES: usize = 5;
+/// A number takes at most this many bytes; whatever value they hold is read.
+pub const MOST_BYTES: usize = 6;
 
 const TOP_BIT: u8 = 0x80;
 const GROUP: u8 = 0x7F;
@@ -22,8 +19,8 @@ pub struct Number {
 pub enum Fault {
     /// The bytes end before or inside the number.
     Ends,
-    /// The fifth byte has the top bit set, the value is too great, or the
-    /// number is not in shortest form.
+    /// The sixth byte has the top bit set, or the number is not in shortest
+    /// form.
     Form,
 }
 
@@ -49,16 +46,16 @@ pub fn read(bytes: &[u8], begin: usize) -> Result<Number, Fault> {
             return finish(value, index + 1, at + 1);
         }
     }
-    // A number has at most five bytes, so a fifth byte with the top bit set is
-    // a fault of form, whatever follows it or does not.
+    // A number has at most six bytes, so a sixth byte with the top bit set is a
+    // fault of form, whatever follows it or does not.
     Err(Fault::Form)
 }
 
 fn finish(value: u64, taken: usize, next: usize) -> Result<Number, Fault> {
-    if value > GREATEST || groups(value) != taken {
-        return Err(Fault::Form);
+    match groups(value) == taken {
+        true => Ok(Number { value, next }),
+        false => Err(Fault::Form),
     }
-    Ok(Number { value, next })
 }
 
 /// Writes a value behind `bytes`, in as many groups as its bits need.
@@ -83,7 +80,7 @@ mod tests {
 
     #[test]
     fn group_ends() {
-        let ends: [(u64, &[u8]); 9] = [
+        let ends: [(u64, &[u8]); 13] = [
             (0, &[0x00]),
             (127, &[0x7F]),
             (128, &[0x80, 0x01]),
@@ -92,7 +89,11 @@ mod tests {
             (2_097_152, &[0x80, 0x80, 0x80, 0x01]),
             (268_435_455, &[0xFF, 0xFF, 0xFF, 0x7F]),
             (268_435_456, &[0x80, 0x80, 0x80, 0x80, 0x01]),
-            (GREATEST, &[0xFF, 0xFF, 0xFF, 0xFF, 0x0F]),
+            (4_294_967_295, &[0xFF, 0xFF, 0xFF, 0xFF, 0x0F]),
+            (4_294_967_296, &[0x80, 0x80, 0x80, 0x80, 0x10]),
+            (34_359_738_367, &[0xFF, 0xFF, 0xFF, 0xFF, 0x7F]),
+            (34_359_738_368, &[0x80, 0x80, 0x80, 0x80, 0x80, 0x01]),
+            (4_398_046_511_103, &[0xFF, 0xFF, 0xFF, 0xFF, 0xFF, 0x7F]),
         ];
         for (value, bytes) in ends {
             assert_eq!(written(value), bytes);
@@ -106,7 +107,9 @@ mod tests {
         assert_eq!(read(&[], 0), Err(Fault::Ends));
         assert_eq!(read(&[0x05], 1), Err(Fault::Ends));
         assert_eq!(read(&[0x80], 0), Err(Fault::Ends));
-        assert_eq!(read(&[0xFF, 0xFF, 0xFF, 0xFF], 0), Err(Fault::Ends));
+        for length in 1..MOST_BYTES {
+            assert_eq!(read(&vec![0xFF; length], 0), Err(Fault::Ends));
+        }
         assert_eq!(read(&[0x05], usize::MAX), Err(Fault::Ends));
     }
 
@@ -116,10 +119,10 @@ mod tests {
             &[0x80, 0x00],
             &[0x85, 0x80, 0x00],
             &[0x80, 0x80, 0x80, 0x80, 0x00],
-            &[0x80, 0x80, 0x80, 0x80, 0x10],
-            &[0xFF, 0xFF, 0xFF, 0xFF, 0x7F],
-            &[0x80, 0x80, 0x80, 0x80, 0x80],
-            &[0x80, 0x80, 0x80, 0x80, 0x80, 0x01],
+            &[0xFF, 0xFF, 0xFF, 0xFF, 0xFF, 0x00],
+            &[0x80, 0x80, 0x80, 0x80, 0x80, 0x80],
+            &[0xFF, 0xFF, 0xFF, 0xFF, 0xFF, 0xFF],
+            &[0x80, 0x80, 0x80, 0x80, 0x80, 0x80, 0x01],
         ];
         for bytes in wrong {
             assert_eq!(read(bytes, 0), Err(Fault::Form), "{bytes:02X?}");

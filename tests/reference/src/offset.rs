@@ -12,10 +12,14 @@ pub const GREATEST: u64 = 20_000;
 /// is no longer than wanted; none if there is none. The refusals are those of the
 /// job, then 14.
 pub fn offset(job: &[u8], hazard: u64, longest: u64) -> Result<Option<u64>, Refusal> {
-    let job = accepted(job)?;
-    let (hazard, approach) = envelope::adjacent_approach(&job, hazard)?;
+    of_accepted(&accepted(job)?, hazard, longest)
+}
+
+/// The same of an accepted job.
+pub fn of_accepted(job: &Job, hazard: u64, longest: u64) -> Result<Option<u64>, Refusal> {
+    let (hazard, approach) = envelope::adjacent_approach(job, hazard)?;
     let suits =
-        |offset: &u64| clear(&job, &hazard, *offset) && length(&job, &approach, *offset) <= longest;
+        |offset: &u64| clear(job, &hazard, *offset) && length(job, &approach, *offset) <= longest;
     Ok((0..=GREATEST).find(suits))
 }
 

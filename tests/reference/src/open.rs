@@ -28,10 +28,14 @@ pub struct OpenJob {
 impl OpenJob {
     /// Opens a job: bytes that carry no hazard.
     pub fn open(bytes: &[u8]) -> Result<OpenJob, Refusal> {
-        let mut reader = Reader { bytes, at: 0 };
-        let header = job::read_header(&mut reader)?;
+        OpenJob::read(&mut Reader::new(bytes))
+    }
+
+    /// The same by a reader of other numbers or other roads.
+    pub fn read(reader: &mut Reader) -> Result<OpenJob, Refusal> {
+        let header = job::read_header(reader)?;
         reader.header(job::count_number(header.kind), 0, 0)?;
-        job::nothing_follows(&reader)?;
+        job::nothing_follows(reader)?;
         Ok(OpenJob {
             header,
             standing: Standing::new(),

@@ -32,8 +32,8 @@ pub fn writing(runs: &[Run]) -> Vec<u8> {
     bytes
 }
 
-/// At most 511 runs, lengths from 1, levels 1 to 6, ends up to 2,000,000,000,
-/// rising, touching runs of different level.
+/// At most 511 runs, lengths from 1, levels 1 to 6, ends up to
+/// 1,000,000,000,000, rising, touching runs of different level.
 pub fn is_run_list(runs: &[Run]) -> bool {
     runs.len() <= MOST_RUNS
         && runs.iter().all(is_run)

@@ -25,7 +25,8 @@ fn any_bytes_return() {
         let side = random.below(3);
         let _ = plan(&any, side, &mut [0; 9]);
         let _ = level(&any, side, random.draw());
-        let _ = corners(&any, random.below(3), random.below(3_000_000_000), 0);
+        let sheet = random.below(1_200_000_000_000);
+        let _ = corners(&any, random.below(3), sheet, 0);
         let _ = offset(&any, random.below(3), random.draw());
         let _ = quantity(&any, random.between(1, 6), 0, u64::MAX);
         let ranges = [random.draw(), random.draw(), 0, u64::MAX];

@@ -174,8 +174,8 @@ fn no_accepted_job_is_8192_bytes_long() {
     // The longest numbers that any field admits.
     let header = [
         2,
-        1_000_000_000,
-        2_000_000_000,
+        999_000_000_000,
+        1_000_000_000_000,
         200_000,
         200_000,
         30_000,
@@ -188,9 +188,9 @@ fn no_accepted_job_is_8192_bytes_long() {
         200_000,
         10_000,
     ];
-    let hazards = vec![[1, 1_500_000_000, 1_600_000_000, 60_000, 60_000, 6]; 256];
+    let hazards = vec![[1, 999_500_000_000, 999_600_000_000, 60_000, 60_000, 6]; 256];
     let job = Draft { header, hazards };
-    assert_eq!(job.bytes().len(), 4_648);
+    assert_eq!(job.bytes().len(), 5_162);
     assert!(job.bytes().len() < program::PASSED_ON);
     assert_eq!(program::text(&job.bytes()), "total 0 0\n");
 }

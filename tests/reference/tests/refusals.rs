@@ -51,9 +51,9 @@ fn row_2_number_form() {
     let wrong: [&[u8]; 5] = [
         &[0x80, 0x00],
         &[0x81, 0x80, 0x00],
-        &[0x80, 0x80, 0x80, 0x80, 0x10],
-        &[0x80, 0x80, 0x80, 0x80, 0x80],
         &[0x80, 0x80, 0x80, 0x80, 0x80, 0x00],
+        &[0x80, 0x80, 0x80, 0x80, 0x80, 0x80],
+        &[0x80, 0x80, 0x80, 0x80, 0x80, 0x80, 0x00],
     ];
     for draft in both_kinds() {
         for index in 0..draft.numbers().len() {
@@ -67,16 +67,39 @@ fn row_2_number_form() {
 
 #[test]
 fn row_2_at_the_very_end() {
-    // A fifth byte with the top bit set is there, so the number is faulty in
+    // A sixth byte with the top bit set is there, so the number is faulty in
     // form even where the job ends behind it.
-    assert_eq!(refused(&[0x80; 5]), (2, 0));
-    assert_eq!(refused(&[0x80; 4]), (1, 0));
+    assert_eq!(refused(&[0x80; 6]), (2, 0));
+    for length in 0..6 {
+        assert_eq!(refused(&vec![0x80; length]), (1, 0));
+    }
+}
+
+/// A number in its form that is too great for its field is 3 or 4, and never 2.
+#[test]
+fn great_values_are_out_of_range() {
+    for draft in both_kinds() {
+        let header = draft.numbers().len() - FIELDS;
+        for index in 0..draft.numbers().len() {
+            for value in [1 << 32, (1 << 35) - 1, 1 << 35, (1 << 42) - 1] {
+                let (job, _) = with_number_bytes(&draft, index, &number_bytes(&[value]));
+                let refusal = refused(&job);
+                match index {
+                    // Some of these are stations that a road may begin at, with
+                    // the printed B before them.
+                    A if value < 1_000_000_000_000 => assert_eq!(refusal, (3, 3)),
+                    _ if index < header => assert_eq!(refusal, (3, index as u64 + 1)),
+                    _ => assert_eq!(refusal, (4, 0)),
+                }
+            }
+        }
+    }
 }
 
 /// Least and greatest value of each header number of kind 2, with A = 0.
 const HEADER_RANGES: [(u64, u64); 15] = [
     (1, 2),
-    (0, 1_999_999_999),
+    (0, 999_999_999_999),
     (1, 2_000_000_000),
     (1, 200_000),
     (0, 200_000),
@@ -116,7 +139,7 @@ fn header_ranges(header: &Draft, ranges: &[(u64, u64)]) {
             assert_eq!(refusal(no, low - 1), Some(no as u64), "{no}");
         }
     }
-    for kind in [0, 3, 4, 255, 4_294_967_295] {
+    for kind in [0, 3, 4, 255, (1 << 32) - 1, (1 << 32) + 1, (1 << 42) - 1] {
         assert_eq!(refusal(1, kind), Some(1), "kind {kind}");
     }
 }
@@ -140,8 +163,11 @@ fn row_3_the_other_kind() {
 #[test]
 fn row_3_road_end_after_begin() {
     let road = |a, b| printed().with_hazards(&[]).with(A, a).with(B, b);
-    assert_eq!(road(1_999_999_999, 2_000_000_000).right(), []);
-    assert_eq!(road(2_000_000_000, 2_000_000_000).refused(), (3, 2));
+    let last = 1_000_000_000_000;
+    assert_eq!(road(last - 1, last).right(), []);
+    assert_eq!(road(last, last).refused(), (3, 2));
+    assert_eq!(road(last, last + 1).refused(), (3, 2));
+    assert_eq!(road(last - 1, last + 1).refused(), (3, 3));
     assert_eq!(road(500, 500).refused(), (3, 3));
     assert_eq!(road(500, 501).right(), []);
 }

@@ -218,29 +218,33 @@ fn schedule(memory: &[u8], side: u64) -> Vec<u8> {
 #[test]
 fn the_memory_byte_by_byte() {
     let mut memory = opened();
-    assert_eq!(memory.len(), 46_204);
+    assert_eq!(memory.len(), 55_544);
     let header = [
-        1, 0, 1_000_000, 101_000, 0, 9_000, 0, 3_000, 1_000, 15, 1, 13_340, 0, 1, 0u32,
+        1, 0, 1_000_000, 101_000, 0, 9_000, 0, 3_000, 1_000, 15, 1, 13_340, 0, 1, 0u64,
     ];
-    assert_eq!(memory[..60], header.map(u32::to_le_bytes).concat());
-    assert!(memory[60..].iter().all(|byte| *byte == 0));
+    assert_eq!(memory[..120], header.map(u64::to_le_bytes).concat());
+    assert!(memory[120..].iter().all(|byte| *byte == 0));
 
     let second = [1, 300_000, 310_001, 5_001, 60_000, 6];
     assert_eq!(add(&mut memory, 255, hazard(PRINTED_HAZARD)), Ok(0));
     assert_eq!(add(&mut memory, 7, hazard(second)), Ok(0));
-    assert_eq!(memory[56..60], 2u32.to_le_bytes());
-    let first = [300_000, 310_001, 5_001, 60_000u32].map(u32::to_le_bytes);
-    assert_eq!(memory[60..76], first.concat());
-    assert_eq!(memory[76..80], [7, 0, 1, 6]);
-    let behind = [200_000, 210_000, 5_000, 9_000u32].map(u32::to_le_bytes);
-    assert_eq!(memory[80..96], behind.concat());
-    assert_eq!(memory[96..100], [255, 0, 0, 3]);
-    assert!(memory[100..].iter().all(|byte| *byte == 0));
+    assert_eq!(memory[112..120], 2u64.to_le_bytes());
+    let stations = [300_000, 310_001u64].map(u64::to_le_bytes);
+    assert_eq!(memory[120..136], stations.concat());
+    let offsets = [5_001, 60_000u16].map(u16::to_le_bytes);
+    assert_eq!(memory[136..140], offsets.concat());
+    assert_eq!(memory[140..144], [7, 0, 1, 6]);
+    let stations = [200_000, 210_000u64].map(u64::to_le_bytes);
+    assert_eq!(memory[144..160], stations.concat());
+    let offsets = [5_000, 9_000u16].map(u16::to_le_bytes);
+    assert_eq!(memory[160..164], offsets.concat());
+    assert_eq!(memory[164..168], [255, 0, 0, 3]);
+    assert!(memory[168..].iter().all(|byte| *byte == 0));
 
     // A withdrawal closes the row and clears the place behind it.
     assert_eq!(withdraw(&mut memory, 7), Ok(0));
-    assert_eq!(memory[96..100], [0; 4]);
-    assert_eq!(memory[76..80], [255, 0, 0, 3]);
+    assert_eq!(memory[144..168], [0; 24]);
+    assert_eq!(memory[140..144], [255, 0, 0, 3]);
     assert_eq!(withdraw(&mut memory, 255), Ok(0));
     assert_eq!(memory, opened());
 }
@@ -452,18 +456,21 @@ fn broken_with(right: &[u8], at: usize, bytes: &[u8]) -> bool {
 }
 
 /// Whether memory with another header number is broken; numbers from 1.
-fn broken_with_number(right: &[u8], no: usize, value: u32) -> bool {
-    broken_with(right, 4 * (no - 1), &value.to_le_bytes())
+fn broken_with_number(right: &[u8], no: usize, value: u64) -> bool {
+    broken_with(right, 8 * (no - 1), &value.to_le_bytes())
 }
 
 #[test]
 fn memory_that_breaks_the_rules() {
     let right = two_standing(PRINTED);
     let with = |at: usize, bytes: &[u8]| broken_with(&right, at, bytes);
-    let number = |no: usize, value: u32| broken_with_number(&right, no, value);
+    let number = |no: usize, value: u64| broken_with_number(&right, no, value);
     assert!(number(1, 0) && number(1, 3) && !number(1, 1) && !number(1, 2));
+    assert!(number(1, (1 << 32) + 1) && number(1, (1 << 63) + 1));
     assert!(number(2, 1_000_000) && !number(2, 100_000));
+    assert!(number(2, 1 << 32) && number(2, u64::MAX));
     assert!(number(3, 0) && number(3, 2_000_000_001) && !number(3, 2_000_000_000));
+    assert!(number(3, 1_000_000_000_000) && number(3, (1 << 32) + 1_000_000));
     assert!(number(4, 0) && number(4, 200_001) && !number(4, 200_000));
     assert!(number(6, 0) && number(6, 30_001));
     assert!(number(10, 0) && number(10, 101) && !number(10, 100));
@@ -473,22 +480,26 @@ fn memory_that_breaks_the_rules() {
     assert!(number(14, 0) && number(14, 2) && number(14, 10_000) && !number(14, 1));
     // The count: a hazard too few or too many.
     assert!(number(15, 0) && number(15, 1) && number(15, 3));
-    assert!(number(15, 257) && number(15, u32::MAX));
+    assert!(number(15, 257) && number(15, (1 << 32) + 2) && number(15, u64::MAX));
     // A header under which a hazard is refused 5 or 4; an envelope is cut.
     assert!(number(8, 4_001) && !number(8, 4_000));
     assert!(number(2, 200_001) && !number(2, 200_000) && !number(2, 155_774));
     assert!(number(3, 309_999) && !number(3, 310_000));
     // Names.
-    assert!(with(76, &[9]) && with(76, &[10]) && !with(76, &[8]));
-    assert!(with(96, &[9, 1]) && with(96, &[0, 1]) && !with(96, &[255]));
+    assert!(with(140, &[9]) && with(140, &[10]) && !with(140, &[8]));
+    assert!(with(164, &[9, 1]) && with(164, &[0, 1]) && !with(164, &[255]));
     // Hazards.
-    assert!(with(78, &[2]) && !with(78, &[1]));
-    assert!(with(79, &[0]) && with(79, &[7]) && !with(79, &[6]));
-    assert!(with(68, &3_999u32.to_le_bytes()) && !with(68, &4_000u32.to_le_bytes()));
-    assert!(with(60, &310_000u32.to_le_bytes()) && !with(60, &309_999u32.to_le_bytes()));
-    assert!(!with(60, &0u32.to_le_bytes()));
+    assert!(with(142, &[2]) && !with(142, &[1]));
+    assert!(with(143, &[0]) && with(143, &[7]) && !with(143, &[6]));
+    let offset = |at: usize, value: u16| with(at, &value.to_le_bytes());
+    assert!(offset(136, 3_999) && !offset(136, 4_000) && offset(136, 9_001));
+    assert!(offset(138, 60_001) && !offset(138, 60_000) && offset(138, 4_999));
+    let station = |at: usize, value: u64| with(at, &value.to_le_bytes());
+    assert!(station(120, 310_000) && !station(120, 309_999) && !station(120, 0));
+    assert!(station(128, 300_000) && !station(128, 300_001) && !station(128, 1_000_000));
+    assert!(station(128, 1_000_001) && station(128, (1 << 32) + 310_000));
     // Places that are not used.
-    for at in [100, 119, 120, 3_000, 5_179, 5_184, 5_188, 46_203] {
+    for at in [168, 191, 192, 3_000, 6_263, 6_268, 6_272, 55_479] {
         assert!(with(at, &[1]) && !with(at, &[0]));
     }
     assert!(broken(&[0; memory::BYTES]) && broken(&[0xFF; memory::BYTES]));
@@ -640,8 +651,9 @@ fn the_header_of_kind_2() {
 #[test]
 fn an_open_job_in_whole_panels() {
     let mut memory = opened_in(PRINTED.in_panels(4_000));
-    assert_eq!(memory[..4], 2u32.to_le_bytes());
-    assert_eq!(memory[52..60], [4_000, 0u32].map(u32::to_le_bytes).concat());
+    assert_eq!(memory[..8], 2u64.to_le_bytes());
+    let panel_and_count = [4_000, 0u64].map(u64::to_le_bytes);
+    assert_eq!(memory[104..120], panel_and_count.concat());
     assert_eq!(add(&mut memory, 3, hazard(PRINTED_HAZARD)), Ok(0));
     let job = printed().in_panels(4_000).bytes();
     assert_eq!(schedule(&memory, 0), planned(&job, 0).unwrap());
@@ -667,15 +679,15 @@ fn opening_in_whole_panels() {
     }
     // Panel length 1 stays of kind 2, although it acts as kind 1.
     let memory = opened_in(PRINTED.in_panels(1));
-    assert_eq!(memory[..4], 2u32.to_le_bytes());
-    assert_eq!(memory[4..], opened()[4..]);
+    assert_eq!(memory[..8], 2u64.to_le_bytes());
+    assert_eq!(memory[8..], opened()[8..]);
 }
 
 #[test]
 fn memory_in_whole_panels() {
     let right = two_standing(PRINTED.in_panels(4_000));
-    let number = |no: usize, value: u32| broken_with_number(&right, no, value);
-    assert!(number(14, 0) && number(14, 10_001) && number(14, u32::MAX));
+    let number = |no: usize, value: u64| broken_with_number(&right, no, value);
+    assert!(number(14, 0) && number(14, 10_001) && number(14, (1 << 32) + 1));
     assert!(!number(14, 1) && !number(14, 10_000));
     assert!(number(1, 0) && number(1, 1) && number(1, 3), "kind");
     // The hazard at 200,000 has a raised approach of 48,000, which is cut.
@@ -752,16 +764,16 @@ fn a_variant_is_tried_and_left() {
     let first = memory.clone();
     assert_eq!(keep(&mut memory, 3), Ok(0));
     let kept = memory.clone();
-    assert_eq!(memory[..5_180], first[..5_180], "what stands stays");
+    assert_eq!(memory[..6_264], first[..6_264], "what stands stays");
     assert_eq!(withdraw(&mut memory, 7), Ok(0));
     assert_eq!(withdraw(&mut memory, 9), Ok(0));
     assert_eq!(add(&mut memory, 9, hazard(PRINTED_HAZARD)), Ok(0));
-    assert_eq!(memory[5_180..], kept[5_180..], "what is kept stays");
+    assert_eq!(memory[6_264..], kept[6_264..], "what is kept stays");
     assert_eq!(keep(&mut memory, 0), Ok(0));
     assert_eq!(names(&memory), [9]);
     assert_eq!(return_to(&mut memory, 3), Ok(0));
     assert_eq!(schedule(&memory, 0), schedule(&first, 0));
-    assert_eq!(memory[..5_180], first[..5_180]);
+    assert_eq!(memory[..6_264], first[..6_264]);
     // A return does not use its state up, and leaves the others.
     assert_eq!(return_to(&mut memory, 0), Ok(0));
     assert_eq!(names(&memory), [9]);
@@ -788,7 +800,7 @@ fn an_empty_job_can_be_kept() {
     assert_eq!(return_to(&mut memory, 5), Ok(0));
     assert_eq!(names(&memory), []);
     // Without the mark of the kept state it is a job just opened.
-    memory[5_180 + 5 * 5_128] = 0;
+    memory[6_264 + 5 * 6_160] = 0;
     assert_eq!(memory, opened());
 }
 
@@ -797,17 +809,17 @@ fn the_kept_states_byte_by_byte() {
     let mut memory = two_standing(PRINTED);
     assert_eq!(keep(&mut memory, 0), Ok(0));
     assert_eq!(keep(&mut memory, 7), Ok(0));
-    for state in [5_180, 41_076] {
-        assert_eq!(memory[state..state + 4], 1u32.to_le_bytes(), "used");
-        assert_eq!(memory[state + 4..state + 8], 2u32.to_le_bytes(), "count");
+    for state in [6_264, 49_384] {
+        assert_eq!(memory[state..state + 8], 1u64.to_le_bytes(), "used");
+        assert_eq!(memory[state + 8..state + 16], 2u64.to_le_bytes(), "count");
         assert_eq!(
-            memory[state + 8..state + 5_128],
-            memory[60..5_180],
+            memory[state + 16..state + 6_160],
+            memory[120..6_264],
             "places"
         );
     }
-    assert!(memory[10_308..41_076].iter().all(|byte| *byte == 0));
-    assert_eq!(memory.len(), 41_076 + 5_128);
+    assert!(memory[12_424..49_384].iter().all(|byte| *byte == 0));
+    assert_eq!(memory.len(), 49_384 + 6_160);
 }
 
 #[test]
@@ -855,28 +867,30 @@ fn kept_states_that_break_the_rules() {
     assert_eq!(withdraw(&mut right, 7), Ok(0));
     assert_eq!(withdraw(&mut right, 9), Ok(0));
     assert!(!broken(&right));
-    let state = 5_180 + 2 * 5_128;
+    let state = 6_264 + 2 * 6_160;
     let with = |at: usize, bytes: &[u8]| broken_with(&right, state + at, bytes);
-    let four = |at: usize, value: u32| with(at, &value.to_le_bytes());
+    let offset = |at: usize, value: u16| with(at, &value.to_le_bytes());
+    let number = |at: usize, value: u64| with(at, &value.to_le_bytes());
     // Used and count.
-    assert!(four(0, 0) && four(0, 2) && four(0, 256) && !four(0, 1));
-    assert!(four(4, 0) && four(4, 1) && four(4, 3) && four(4, 257));
+    assert!(number(0, 0) && number(0, 2) && number(0, 256) && !number(0, 1));
+    assert!(number(8, 0) && number(8, 1) && number(8, 3) && number(8, 257));
     // Names.
-    assert!(with(24, &[9]) && with(24, &[10]) && !with(24, &[8]));
-    assert!(with(44, &[9, 1]) && !with(44, &[255, 0]));
+    assert!(with(36, &[9]) && with(36, &[10]) && !with(36, &[8]));
+    assert!(with(60, &[9, 1]) && !with(60, &[255, 0]));
     // Hazards under the one header: 4 and 5; an envelope is cut.
-    assert!(with(26, &[2]) && with(27, &[0]) && with(27, &[7]) && !with(27, &[6]));
-    assert!(four(16, 3_999) && !four(16, 4_000));
-    assert!(four(8, 310_000) && !four(8, 309_999) && !four(8, 0));
+    assert!(with(38, &[2]) && with(39, &[0]) && with(39, &[7]) && !with(39, &[6]));
+    assert!(offset(32, 3_999) && !offset(32, 4_000));
+    assert!(number(16, 310_000) && !number(16, 309_999) && !number(16, 0));
+    assert!(number(16, 1 << 32) && number(24, (1 << 32) + 310_000));
     assert!(broken_with_number(&right, 2, 200_001));
     assert!(!broken_with_number(&right, 2, 200_000));
     // Places that are not used, and a state that is not kept.
-    for at in [48, 5_127] {
+    for at in [64, 6_159] {
         assert!(with(at, &[1]) && !with(at, &[0]));
     }
-    let next = 5_128;
-    assert!(!four(next, 1), "an empty job kept");
-    assert!(four(next, 2) && four(next + 4, 1) && with(next + 8, &[1]));
+    let next = 6_160;
+    assert!(!number(next, 1), "an empty job kept");
+    assert!(number(next, 2) && number(next + 8, 1) && with(next + 16, &[1]));
 }
 
 // 8: approaches that run into the neighbouring contract.
@@ -1173,7 +1187,7 @@ fn corners_are_counted_from_the_sheet_corner() {
         "no -0.0"
     );
     assert_eq!(from(200_000, 5_059)[0], (-44_227, 0));
-    let last = 2_000_000_000;
+    let last = 1_000_000_000_000;
     assert_eq!(
         from(last, last)[2],
         (200_000 - last as i64, 3_000 - last as i64)
@@ -1204,7 +1218,7 @@ fn refusals_of_corners() {
     let whole = printed().bytes();
     let sheet = (0, 0);
     // 8 comes first.
-    for out in [2_000_000_001, 1 << 32, u64::MAX] {
+    for out in [1_000_000_000_001, 1 << 42, (1 << 53) + 1, u64::MAX] {
         for sheet in [(out, 0), (0, out), (out, out)] {
             assert_eq!(refused(&[], 0, sheet), (8, 0));
             assert_eq!(refused(&whole, 9, sheet), (8, 0));
@@ -1375,4 +1389,127 @@ fn refusals_of_the_smallest_offset() {
     }
     let unreached = printed().with_hazard(N, 9_000).bytes();
     assert_eq!(refused(&unreached, 0), (14, 0));
+}
+
+// 11: stations on the national chainage.
+
+const LAST_STATION: u64 = 1_000_000_000_000;
+
+#[test]
+fn a_road_far_from_the_datum() {
+    // The printed run goes from 155,773 to 210,000.
+    let over_32_bits = (1 << 32) - 200_000;
+    for by in [0, 5, over_32_bits, 1 << 35, LAST_STATION - 1_000_000] {
+        let job = printed().moved(by);
+        assert_eq!(job.right(), [(by + 155_773, by + 210_000, 3)]);
+        assert_eq!(job.overhangs(0), (0, 0));
+        let at = |station| level(&job.bytes(), 0, by + station).unwrap();
+        assert_eq!([155_772, 155_773, 209_999, 210_000].map(at), [0, 3, 3, 0]);
+        let text = reference::program::text(&job.bytes());
+        let run = format!("R {} {} 3\n", by + 155_773, by + 210_000);
+        assert_eq!(text, run + "total 54227 0\n");
+    }
+    assert_eq!(printed().moved(LAST_STATION - 999_999).refused(), (3, 3));
+}
+
+#[test]
+fn the_greatest_length_of_a_road() {
+    let road = |begin, end| PRINTED.with(A, begin).with(B, end);
+    let longest = 2_000_000_000;
+    for begin in [0, 1, 1 << 32, LAST_STATION - longest] {
+        assert_eq!(road(begin, begin + longest).right(), []);
+        assert_eq!(road(begin, begin + longest + 1).refused(), (3, 3));
+    }
+    // Before the limit of B itself.
+    let begin = LAST_STATION - longest + 1;
+    assert_eq!(road(begin, LAST_STATION).right(), []);
+    assert_eq!(road(begin, LAST_STATION + 1).refused(), (3, 3));
+    assert_eq!(road(0, LAST_STATION).refused(), (3, 3));
+    assert_eq!(road(LAST_STATION - 1, LAST_STATION).right(), []);
+}
+
+#[test]
+fn envelopes_at_the_last_station() {
+    // 28,056 of far traffic behind the hazard.
+    let road = two_way(0).with(FLARE_B, 0);
+    let road = road.with(A, LAST_STATION - 2_000_000).with(B, LAST_STATION);
+    let at = |start, end| {
+        road.clone()
+            .with_hazards(&[[0, start, end, 5_000, 9_000, 3]])
+    };
+    let job = at(LAST_STATION - 1, LAST_STATION);
+    let run = (LAST_STATION - 1 - 67_334, LAST_STATION, 3);
+    assert_eq!(job.right(), [run]);
+    assert_eq!(job.overhangs(0), (0, 28_056));
+    assert_eq!(corners_of(&job)[0].0, LAST_STATION as i64 - 1 - 67_334);
+    assert_eq!(at(LAST_STATION - 1, LAST_STATION + 1).refused(), (4, 0));
+}
+
+#[test]
+fn a_schedule_up_to_the_last_station() {
+    let whole = number_bytes(&[1, 0, LAST_STATION, 6]);
+    assert_eq!(whole.len(), 9, "a number of six bytes");
+    assert_eq!(quantity(&whole, 6, 0, u64::MAX), Ok(LAST_STATION));
+    assert_eq!(
+        quantity(&whole, 6, 5, LAST_STATION - 5),
+        Ok(LAST_STATION - 10)
+    );
+    let found = reference::lookup(&whole, &[], 0, LAST_STATION - 1);
+    assert_eq!((found.start, found.length), (1, 8));
+    let behind = reference::lookup(&whole, &[], 0, LAST_STATION);
+    assert_eq!(behind.outcome, reference::Outcome::None);
+    // The sum of gap and length alone passes the last station.
+    for (gap, length) in [
+        (0, LAST_STATION + 1),
+        (1, LAST_STATION),
+        (LAST_STATION, 1),
+        ((1 << 42) - 1, (1 << 42) - 1),
+    ] {
+        let refusal = quantity(&number_bytes(&[1, gap, length, 6]), 6, 0, 1).unwrap_err();
+        assert_eq!((refusal.number, refusal.value), (10, 0));
+    }
+    // Sums that pass 2 to the 32nd.
+    let two = number_bytes(&[2, 3_000_000_000, 3_000_000_000, 1, 0, 1, 2]);
+    assert_eq!(quantity(&two, 1, 0, 1 << 32), Ok((1 << 32) - 3_000_000_000));
+    assert_eq!(quantity(&two, 2, 6_000_000_000, 6_000_000_002), Ok(1));
+    // Counts and levels have the same form, and their own ranges.
+    assert!(quantity(&number_bytes(&[1 << 32, 0, 5, 6]), 6, 0, 1).is_err());
+    assert!(quantity(&number_bytes(&[1, 0, 5, (1 << 32) + 6]), 6, 0, 1).is_err());
+}
+
+#[test]
+fn an_open_job_far_from_the_datum() {
+    let by = (1 << 32) - 200_000;
+    let job = printed().moved(by);
+    let mut memory = opened_in(job.clone().with_hazards(&[]));
+    assert_eq!(memory[8..16], by.to_le_bytes());
+    assert_eq!(add(&mut memory, 3, hazard(job.hazards[0])), Ok(0));
+    assert_eq!(memory[120..128], (1u64 << 32).to_le_bytes());
+    assert_eq!(schedule(&memory, 0), planned(&job.bytes(), 0).unwrap());
+    assert_eq!(keep(&mut memory, 0), Ok(0));
+    assert_eq!(withdraw(&mut memory, 3), Ok(0));
+    assert_eq!(return_to(&mut memory, 0), Ok(0));
+    assert_eq!(schedule(&memory, 0), planned(&job.bytes(), 0).unwrap());
+    // The road in the memory.
+    let number = |no, value| broken_with_number(&memory, no, value);
+    assert!(number(3, by + 2_000_000_001) && !number(3, by + 2_000_000_000));
+    assert!(number(2, (1 << 32) + 1) && !number(2, 1 << 32));
+}
+
+#[test]
+fn corners_counted_from_a_sheet_far_away() {
+    let by = LAST_STATION - 1_000_000;
+    let corners = |sheet| corners_from(&printed().moved(by), 0, sheet);
+    let here = corners((by + 155_773, 3_000));
+    assert_eq!(here, [(0, 2_059), (30_887, 0), (44_227, 0)]);
+    let far = corners((0, LAST_STATION));
+    let last = LAST_STATION as i64;
+    assert_eq!(far[2], (last - 800_000, 3_000 - last));
+    assert_eq!(corners((LAST_STATION, 0))[2], (-800_000, 3_000));
+    // An approach that passes the last station.
+    let left = PRINTED.with(LO, 200_000).with(FLARE_B, 0);
+    let left = left.with(A, LAST_STATION - 1).with(B, LAST_STATION);
+    let hazards = [[1, LAST_STATION - 1, LAST_STATION, 5_000, 9_000, 1]];
+    let upstream = corners_of(&left.with_hazards(&hazards))[0];
+    assert_eq!(upstream, (last + 133_334, 3_000));
 }

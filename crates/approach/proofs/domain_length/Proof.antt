@@ -1,7 +1,7 @@
--- `approach::domain_length` meets its contract: the formula's length fits in 32 bits. Assumes nothing.
-use native.Mathlib.Omega.{arith}
-use borrow.Author.Needs.{needs}
-use Rattle.approach.proofs.ApproachLaws.{length-fits}
+-- `approach::domain_length` meets its contract: the formula with the chosen b is the rule.
+-- Assumes nothing.
+use mathlib.Core.Path.{_∙_}
+use Rattle.approach.proofs.ApproachLaws.{flare-domain, flare-length}
 use Rattle.approach.proofs.domain_length.Statement.{statement}
 use Rattle.approach.proofs.domain_length.Tie as tie
 
@@ -9,6 +9,6 @@ pub domain-length-spec : {M : Type 1} → statement M
 domain-length-spec =
     tie.close
     (tie.spec
-    (λ c κs. search needs)
-    (λ c. omega (arith, c .whole-length .ensures, length-fits _ _ _ _ _ _ (c .before .pre)))
-    (λ c. c .whole-length .ensures))
+    (λ c κs. c .pre)
+    (λ c κs. rw (c .flare-across .ensures) (flare-domain _ _ _ _ _ _ (c .before .pre)))
+    (λ c. c .formula-length .ensures ∙ rw (c .before .flare-across .ensures) (flare-length _ _ _ _ _ _ (c .before .before .pre))))

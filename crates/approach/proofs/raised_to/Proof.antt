@@ -1,11 +1,11 @@
--- `approach::raised_to` meets its contract: its steps are the definition's, no step leaves 32 bits, and panel length 1 raises nothing.
+-- `approach::raised_to` meets its contract: its steps are the definition's, no step leaves 64 bits, and panel length 1 raises nothing.
 -- Assumes nothing.
 use Prim.Native.Nat.{ℕ, _*_, _/_, _≤_}
 use native.Mathlib.Omega.{arith}
 use native.Mathlib.Nat.{div-mul-le-self}
 use mathlib.Core.Path.{_≡_, refl, sym}
 use mir.Val.{Fits}
-use mir.Syntax.{w32}
+use mir.Syntax.{w64}
 use borrow.Author.Needs.{needs}
 use Rattle.approach.specs.Approach.{ceilDiv}
 use Rattle.approach.specs.Panel.{raised}
@@ -14,7 +14,7 @@ use Rattle.approach.proofs.raised_to.Statement.{statement}
 use Rattle.approach.proofs.raised_to.Tie as tie
 
 -- Whole panels up to a length are no longer than it.
-product-fits : (x p : ℕ) → x ≤ 210000 → Fits w32 (x / p * p)
+product-fits : (x p : ℕ) → x ≤ 210000 → Fits w64 (x / p * p)
 product-fits x p l = omega (arith, div-mul-le-self x p)
 
 one-raised : (panel length : ℕ) → 1 ≤ panel → panel ≤ 1 → length ≡ raised panel length

@@ -44,7 +44,7 @@ returns c =
     let l = c .before .loop in
     let a = c .before .before .args in (
       omega (arith, ap length (last c)),
-      ap (sets (l .out) (l .i)) (sym (last c)) ∙ l .inv .3 ∙ sym (placed-sets (a .out .now) (a .at) (writeNumber (a .x)) (c .before .before .pre)),
+      ap (sets (l .out) (l .i)) (sym (last c)) ∙ l .inv .3 ∙ sym (placed-sets (a .out .now) (a .at) (writeNumber (a .x)) (c .before .before .pre .1)),
     )
 
 pub put-number-spec : {M : Type 1} → statement M

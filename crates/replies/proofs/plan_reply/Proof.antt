@@ -10,7 +10,7 @@ use Rattle.replies.proofs.plan_reply.Tie as tie
 
 returns : tie.Need-returns
 unfolding planReplyOf
-returns c = ap (λ (p : Plan). planReplyOf (planReply p)) (sym (c .before .before .before .before .reply .given .1))
+returns c = ap (λ (p : Plan). planReplyOf (planReply p)) (sym (c .before .before .reply .given .1))
 
 returns-2 : tie.Need-returns-2
 unfolding planReplyOf
@@ -20,4 +20,4 @@ returns-2 c =
 
 pub plan-reply-spec : {M : Type 1} → statement M
 plan-reply-spec =
-    tie.close (tie.spec (λ c. search needs) (λ c. search needs) (λ c. search needs) (λ c. search needs) (λ c κs. search needs) (λ c κs. search needs) returns returns-2)
+    tie.close (tie.spec (λ c. search needs) (λ c. search needs) (λ c κs. search needs) (λ c κs. search needs) returns returns-2)

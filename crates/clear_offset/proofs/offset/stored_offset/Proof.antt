@@ -35,11 +35,11 @@ pub stored-offset-spec : {M : Type 1} → statement M
 stored-offset-spec =
     tie.close
     (tie.spec
-    (λ c. search needs)
     returns
     (λ c. search needs)
     (λ c. search needs)
     (λ c κs. search needs)
+    (λ c. search needs)
     returns-2
     smallest-of-requires
     returns-3)

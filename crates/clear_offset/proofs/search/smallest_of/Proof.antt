@@ -64,6 +64,7 @@ smallest-of-spec =
     Inv-loop
     μ-loop
     (λ c. search needs)
+    (λ c. search needs)
     (λ c κs. search needs)
     (λ c. search needs)
     loop-holds
@@ -71,7 +72,6 @@ smallest-of-spec =
     (λ c. search needs)
     length-at-requires
     (λ c. omega (arith, left (c .before)))
-    (λ c. search needs)
     (λ c. omega (arith, left (c .before .before)))
     loop-again
     (λ c. search needs)

@@ -40,4 +40,4 @@ returns-3 c =
 pub job-corners-spec : {M : Type 1} → statement M
 job-corners-spec =
     tie.close
-    (tie.spec (λ c. search needs) (λ c κs. search needs) returns (λ c. search needs) (λ c. search needs) (λ c κs. search needs) (λ c κs. search needs) returns-2 hazard-corners-requires returns-3)
+    (tie.spec (λ c κs. search needs) returns (λ c. search needs) (λ c. search needs) (λ c κs. search needs) (λ c. search needs) (λ c κs. search needs) returns-2 hazard-corners-requires returns-3)

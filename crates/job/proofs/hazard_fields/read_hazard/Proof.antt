@@ -93,7 +93,7 @@ add-read-field c =
     let last = most (a .header .begin) (a .header .end - 1) (a .index) (a .s .now) (one (at-one d) .next) (r .result) (two d) (r .ensures) (d .reading2 .given .1) in
     omega arith
 
--- A side is at most 1, a level at most 6.
+-- A side is at most 1, a level at most 6, an offset at most 60,000.
 side-most : (c : tie.After-reading) → one c .value ≤ 1
 side-most c =
     let r = c .before .before .read-field in
@@ -107,11 +107,29 @@ level-most c =
     let a = at-one (at-two (at-three (at-four g))) .before .before .before .before .args in
     most 1 6 (a .index) (a .s .now) (five g .next) (r .result) (c .reading6 .given .0 .0) (r .ensures) (c .reading6 .given .1)
 
+near-most : (c : tie.After-reading4) → four c .value ≤ 60000
+near-most c =
+    let r = c .before .before .read-field4 in
+    let a = at-one (at-two (at-three c)) .before .before .before .before .args in
+    most 0 60000 (a .index) (a .s .now) (three (at-three c) .next) (r .result) (four c) (r .ensures) (c .reading4 .given .1)
+
+far-most : (c : tie.After-reading5) → five c .value ≤ 60000
+far-most c =
+    let r = c .before .before .read-field5 in
+    let a = at-one (at-two (at-three (at-four c))) .before .before .before .before .args in
+    most (four (at-four c) .value) 60000 (a .index) (a .s .now) (four (at-four c) .next) (r .result) (five c) (r .ensures) (c .reading5 .given .1)
+
 side-fits : tie.Need-cast-t37
 side-fits c = omega (arith, side-most (at-one (at-two (at-three (at-four (c .before .before .before .before .before .before))))))
 
-level-fits : tie.Need-cast-t38
-level-fits c = omega (arith, level-most (c .before .before .before))
+near-fits : tie.Need-cast-t38
+near-fits c = omega (arith, near-most (at-four (c .before .before .before .before .before .before .before)))
+
+far-fits : tie.Need-cast-t39
+far-fits c = omega (arith, far-most (c .before .before .before .before .before .before .before .before))
+
+level-fits : tie.Need-cast-t40
+level-fits c = omega (arith, level-most (c .before .before .before .before .before))
 
 returns-3 : tie.Need-returns-3
 unfolding hazardRanges
@@ -140,8 +158,8 @@ returns-6 c =
 returns-7 : tie.Need-returns-7
 unfolding hazardRanges
 returns-7 c =
-    let r = c .before .before .before .before .before in
-    hazard-read (one-less (left-five (r .before .before)) (r .read-field6 .ensures) (c .before .before .before .reading6 .given .1))
+    let r = c .before .before .before .before .before .before .before in
+    hazard-read (one-less (left-five (r .before .before)) (r .read-field6 .ensures) (c .before .before .before .before .before .reading6 .given .1))
 
 pub read-hazard-spec : {M : Type 1} → statement M
 read-hazard-spec =
@@ -151,4 +169,4 @@ read-hazard-spec =
     add-read-field (λ c κs. search needs) (λ c. search needs) (λ c. search needs) returns-3
     (λ c κs. search needs) (λ c. search needs) (λ c. search needs) returns-4
     (λ c κs. search needs) (λ c. search needs) (λ c. search needs) returns-5
-    (λ c κs. search needs) (λ c. search needs) (λ c. search needs) returns-6 side-fits level-fits returns-7)
+    (λ c κs. search needs) (λ c. search needs) (λ c. search needs) returns-6 side-fits near-fits far-fits level-fits returns-7)

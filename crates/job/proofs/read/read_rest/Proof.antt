@@ -15,7 +15,7 @@ abbrev μ-loop : tie.MeasureT-loop
 μ-loop s first header job₀ count at₀ i₀ job at i = header .count - i
 
 loop-holds : tie.Need-loop-holds Inv-loop μ-loop
-loop-holds c = none-stored (c .before .unfilled .ensures)
+loop-holds c = none-stored (c .unfilled .ensures)
 
 returns : tie.Need-returns Inv-loop μ-loop
 returns c =
@@ -38,6 +38,6 @@ returns-3 c = replies-done (c .before .before .loop .inv) (c .before .loop-test 
 pub read-rest-spec : {M : Type 1} → statement M
 read-rest-spec =
     tie.close
-    (tie.spec Inv-loop μ-loop (λ c κs. search needs) (λ c. omega arith) loop-holds (λ c κs. search needs) (λ c. search needs)
+    (tie.spec Inv-loop μ-loop (λ c κs. search needs) loop-holds (λ c κs. search needs) (λ c. search needs)
     (λ c κs. search needs) (λ c. omega arith) (λ c. search needs) (λ c. search needs) (λ c κs. search needs) returns (λ c. omega arith) (λ c. omega arith) loop-again
     (λ c κs. search needs) returns-2 returns-3)

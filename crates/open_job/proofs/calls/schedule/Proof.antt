@@ -6,7 +6,7 @@ use borrow.Author.Needs.{needs}
 use Rattle.schedule.specs.Plan.{bytesWritten}
 use Rattle.open_memory.specs.Memory.{isOpenJob}
 use Rattle.open_memory.proofs.RuleLaws.{open-accepted}
-use Rattle.open_job.proofs.CallLaws.{schedule-bad, schedule-eight, schedule-stored, schedule-done}
+use Rattle.open_job.proofs.CallLaws.{schedule-bad, schedule-eight, schedule-stored, schedule-most, schedule-done}
 use Rattle.open_job.proofs.calls.schedule.Statement.{statement}
 use Rattle.open_job.proofs.calls.schedule.Tie as tie
 
@@ -36,7 +36,7 @@ plan-envelopes-requires c κs =
     let r = c .before .before .before .before in
     let t = r .before .before in
     let s = t .before .before .before in
-    schedule-stored (s .args .job) (s .args .side) (good t) (size s) (r .side-envelopes .result) (r .side-envelopes .ensures)
+    (schedule-stored (s .args .job) (s .args .side) (good t) (size s) (r .side-envelopes .result) (r .side-envelopes .ensures), schedule-most (s .args .job) (s .args .side) (good t) (size s) (r .side-envelopes .result) (r .side-envelopes .ensures))
 
 returns-2 : tie.Need-returns-2
 returns-2 c =

@@ -19,25 +19,25 @@ size : (c : tie.Start Inv-loop μ-loop) → length (c .args .t1 .hazards) ≡ 25
 size c = simp length-map at (c .good .0 .1 .1 .1 .0 .1 .0 .1)
 
 loop-holds : tie.Need-loop-holds Inv-loop μ-loop
-loop-holds c = let s = c .before .before in rank-start (s .args .t1) (size s) (s .pre) (s .args .name)
+loop-holds c = let s = c .before in rank-start (s .args .t1) (size s) (s .pre) (s .args .name)
 
 returns : tie.Need-returns Inv-loop μ-loop
 returns c =
     let t = c .before .before .before .before in
-    let s = t .before .before .before in
+    let s = t .before .before in
     rank-here (s .args .t1) (size s) (s .pre) (s .args .name) (t .loop .inv) (omega arith) (c .if1 .taken)
 
 loop-again : tie.Need-loop-again Inv-loop μ-loop
 loop-again c =
     let t = c .before .before .before .before in
-    let s = t .before .before .before in
+    let s = t .before .before in
     rank-next (s .args .t1) (size s) (s .pre) (s .args .name) (t .loop .inv) (omega arith) (c .if1 .left)
 
 returns-2 : tie.Need-returns-2 Inv-loop μ-loop
 returns-2 c =
     let t = c .before in
-    let s = t .before .before .before in
+    let s = t .before .before in
     rank-last (s .args .t1) (size s) (s .pre) (s .args .name) (t .loop .inv) (c .loop-test .left)
 
 pub place-of-spec : {M : Type 1} → statement M
-place-of-spec = tie.close (tie.spec Inv-loop μ-loop (λ c. search needs) loop-holds (λ c. search needs) (λ c. search needs) returns (λ c. search needs) (λ c. search needs) loop-again returns-2)
+place-of-spec = tie.close (tie.spec Inv-loop μ-loop loop-holds (λ c. search needs) (λ c. search needs) returns (λ c. search needs) (λ c. search needs) loop-again returns-2)

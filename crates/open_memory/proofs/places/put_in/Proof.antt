@@ -19,7 +19,7 @@ size : (c : tie.Start Inv-loop μ-loop) → length (c .args .job .hazards) ≡ 2
 size c = simp length-map at (c .good .0 .1 .1 .1 .0 .1 .0 .1)
 
 loop-holds : tie.Need-loop-holds Inv-loop μ-loop
-loop-holds c = let s = c .before .before .before in up-start (s .args .job) (size s) (s .pre .0) (s .pre .1 .0) (s .args .at) (s .pre .1 .1) (s .args .new)
+loop-holds c = let s = c .before .before in up-start (s .args .job) (size s) (s .pre .0) (s .pre .1 .0) (s .args .at) (s .pre .1 .1) (s .args .new)
 
 array-copy-out-p : tie.Need-array-copy-out-p Inv-loop μ-loop
 array-copy-out-p c = omega (arith, c .before .loop .inv .room)
@@ -30,7 +30,7 @@ array-set-from-hazards c = omega (arith, c .before .before .loop .inv .room)
 loop-again : tie.Need-loop-again Inv-loop μ-loop
 loop-again c =
     let t = c .before .before in
-    let s = t .before .before .before .before in
+    let s = t .before .before .before in
     up-next (s .args .job) (size s) (s .pre .0) (s .pre .1 .0) (s .args .at) (s .pre .1 .1) (s .args .new) (t .loop .inv) (omega arith)
 
 array-set-from-hazards-2 : tie.Need-array-set-from-hazards-2 Inv-loop μ-loop
@@ -39,11 +39,11 @@ array-set-from-hazards-2 c = omega (arith, c .before .loop .inv .room)
 returns : tie.Need-returns Inv-loop μ-loop
 returns c =
     let t = c .before .before .before in
-    let s = t .before .before .before .before in
+    let s = t .before .before .before in
     rw (c .with-count .ensures) (up-end (s .args .job) (size s) (s .pre .0) (s .pre .1 .0) (s .args .at) (s .pre .1 .1) (s .args .new) (t .loop .inv) (c .before .before .loop-test .left))
 
 pub put-in-spec : {M : Type 1} → statement M
 put-in-spec =
     tie.close
-    (tie.spec Inv-loop μ-loop (λ c. search needs) loop-holds (λ c. search needs) array-copy-out-p (λ c. search needs) array-set-from-hazards (λ c. search needs) (λ c. search needs) loop-again
+    (tie.spec Inv-loop μ-loop loop-holds (λ c. search needs) array-copy-out-p (λ c. search needs) array-set-from-hazards (λ c. search needs) (λ c. search needs) loop-again
     (λ c. search needs) array-set-from-hazards-2 (λ c. search needs) (λ c κs. search needs) returns)

@@ -12,18 +12,21 @@ use Rattle.open_memory.proofs.places.stands_at.Tie as tie
 size : (c : tie.Start) → length (c .args .t1 .hazards) ≡ 256
 size c = simp length-map at (c .good .0 .1 .1 .1 .0 .1 .0 .1)
 
+mul-p : tie.Need-mul-p
+mul-p c = let s = c .before .before in omega (arith, open-header (s .args .t1) (s .pre .0) .count)
+
 element-copy-out-p : tie.Need-element-copy-out-p
-element-copy-out-p c = let s = c .before .before .before in omega (arith, open-header (s .args .t1) (s .pre .0) .count)
+element-copy-out-p c = let s = c .before .before in omega (arith, open-header (s .args .t1) (s .pre .0) .count)
 
 returns : tie.Need-returns
 returns c =
-    let s = c .before .before .before .before .before in
+    let s = c .before .before .before .before in
     stands-tested (s .args .t1) (s .pre .0) (size s) (s .args .name) (s .args .at) (s .pre .1) (c .before .before .if1 .taken)
 
 returns-2 : tie.Need-returns-2
 returns-2 c =
-    let s = c .before .before .before in
+    let s = c .before .before in
     stands-beyond (s .args .t1) (s .pre .0) (size s) (s .args .name) (s .args .at) (s .pre .1) (c .if1 .left)
 
 pub stands-at-spec : {M : Type 1} → statement M
-stands-at-spec = tie.close (tie.spec (λ c. search needs) (λ c. search needs) element-copy-out-p returns returns-2)
+stands-at-spec = tie.close (tie.spec mul-p element-copy-out-p returns returns-2)

@@ -1,35 +1,26 @@
 -- `open_memory::places::under_name` meets its contract: numbers in range fit the narrower ones. Assumes nothing.
 use native.Mathlib.Omega.{arith}
 use borrow.Author.Needs.{needs}
-use Rattle.job.proofs.JobLaws.{HeaderFits, HazardFits}
+use Rattle.job.proofs.JobLaws.{HazardFits}
 use Rattle.open_memory.specs.Memory.{hazardGiven}
-use Rattle.open_memory.proofs.RangeLaws.{header-fits, hazard-fits}
+use Rattle.open_memory.proofs.RangeLaws.{hazard-fits}
 use Rattle.open_memory.proofs.places.under_name.Statement.{statement}
 use Rattle.open_memory.proofs.places.under_name.Tie as tie
-
-header : (c : tie.Start) → HeaderFits (c .args .header)
-header c = header-fits (c .args .header) (c .pre .0)
 
 hazard : (c : tie.Start) → HazardFits (c .args .header) (hazardGiven (c .args .z))
 hazard c = hazard-fits (c .args .header) (hazardGiven (c .args .z)) (c .pre .1)
 
-start : tie.Need-cast-t4
-start c = let s = c .before in record { fits = omega (arith, hazard s .long, hazard s .ends, header s .road-end) }
+near : tie.Need-cast-t4
+near c = let s = c .before in record { fits = omega (arith, hazard s .offsets, hazard s .far-top) }
 
-end : tie.Need-cast-t5
-end c = let s = c .before .before in record { fits = omega (arith, hazard s .ends, header s .road-end) }
+far : tie.Need-cast-t5
+far c = let s = c .before .before in record { fits = omega (arith, hazard s .far-top) }
 
-near : tie.Need-cast-t6
-near c = let s = c .before .before .before in record { fits = omega (arith, hazard s .offsets, hazard s .far-top) }
+side : tie.Need-cast-t6
+side c = let s = c .before .before .before in record { fits = omega (arith, hazard s .side) }
 
-far : tie.Need-cast-t7
-far c = let s = c .before .before .before .before in record { fits = omega (arith, hazard s .far-top) }
-
-side : tie.Need-cast-t8
-side c = let s = c .before .before .before .before .before in record { fits = omega (arith, hazard s .side) }
-
-level : tie.Need-cast-t9
-level c = let s = c .before .before .before .before .before .before in record { fits = omega (arith, hazard s .level-top) }
+level : tie.Need-cast-t7
+level c = let s = c .before .before .before .before in record { fits = omega (arith, hazard s .level-top) }
 
 pub under-name-spec : {M : Type 1} → statement M
-under-name-spec = tie.close (tie.spec start end near far side level (λ c. search needs))
+under-name-spec = tie.close (tie.spec near far side level (λ c. search needs))

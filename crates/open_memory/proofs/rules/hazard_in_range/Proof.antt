@@ -16,4 +16,4 @@ returns c =
     simp (and-assoc, from-zero, below-next, and-true, last)
 
 pub hazard-in-range-spec : {M : Type 1} → statement M
-hazard-in-range-spec = tie.close (tie.spec (λ c. search needs) (λ c. search needs) (λ c. search needs) returns)
+hazard-in-range-spec = tie.close (tie.spec returns)

@@ -19,27 +19,27 @@ size : (c : tie.Start Inv-loop μ-loop) → length (c .args .t1 .hazards) ≡ 25
 size c = simp length-map at (c .good .0 .1 .1 .1 .0 .1 .0 .1)
 
 loop-holds : tie.Need-loop-holds Inv-loop μ-loop
-loop-holds c = let s = c .before .before in unused-start (s .args .t1) (size s) (s .pre)
+loop-holds c = let s = c .before in unused-start (s .args .t1) (size s) (s .pre)
 
 loop-again : tie.Need-loop-again Inv-loop μ-loop
 loop-again c =
     let t = c .before .before .before .before in
-    let s = t .before .before .before in
+    let s = t .before .before in
     unused-next (s .args .t1) (size s) (s .pre) (t .loop .inv) (omega arith) (sym (c .before .is-unused .ensures) ∙ c .if1 .taken)
 
 returns : tie.Need-returns Inv-loop μ-loop
 returns c =
     let t = c .before .before .before .before in
-    let s = t .before .before .before in
+    let s = t .before .before in
     unused-not (s .args .t1) (size s) (s .pre) (t .loop .inv) (omega arith) (sym (c .before .is-unused .ensures) ∙ c .if1 .left)
 
 returns-2 : tie.Need-returns-2 Inv-loop μ-loop
 returns-2 c =
     let t = c .before in
-    let s = t .before .before .before in
+    let s = t .before .before in
     unused-all (s .args .t1) (size s) (s .pre) (t .loop .inv) (omega arith)
 
 pub rest-unused-spec : {M : Type 1} → statement M
 rest-unused-spec =
     tie.close
-    (tie.spec Inv-loop μ-loop (λ c. search needs) loop-holds (λ c. search needs) (λ c. search needs) (λ c κs. search needs) (λ c. search needs) (λ c. search needs) loop-again returns returns-2)
+    (tie.spec Inv-loop μ-loop loop-holds (λ c. search needs) (λ c. search needs) (λ c κs. search needs) (λ c. search needs) (λ c. search needs) loop-again returns returns-2)

@@ -17,4 +17,4 @@ returns-3 : tie.Need-returns-3
 returns-3 c = sym (ap accepted (so-far-none _ _ _ _ (c .if1 .left))) ∙ sym (ap (placeReply _) (c .before .before .from .given .1)) ∙ c .before .before .before .before .walk .ensures .1
 
 pub place-in-spec : {M : Type 1} → statement M
-place-in-spec = tie.close (tie.spec (λ c κs. search needs) (λ c. search needs) (λ c. search needs) returns (λ c. search needs) returns-2 returns-3)
+place-in-spec = tie.close (tie.spec (λ c κs. search needs) (λ c. search needs) (λ c. search needs) returns returns-2 returns-3)

@@ -22,6 +22,9 @@ returns c = tallied-head _ _ _ _ (sym (c .before .before .read-head .ensures) �
 loop-holds : tie.Need-loop-holds Inv-loop μ-loop
 loop-holds c = between-start _ _ _ _ _ (sym (c .before .before .before .read-head .ensures) ∙ ap headReply (c .before .count .given .1)) (c .before .before .before .before .before .before .pre)
 
+next-record-requires : tie.Need-next-record-requires Inv-loop μ-loop
+next-record-requires c κs = c .before .loop .inv .ends
+
 returns-2 : tie.Need-returns-2 Inv-loop μ-loop
 returns-2 c =
     let l = c .before .before .before .before .loop in
@@ -54,5 +57,5 @@ pub walk-ranges-spec : {M : Type 1} → statement M
 walk-ranges-spec =
     tie.close
     (tie.spec Inv-loop μ-loop (λ c κs. search needs) (λ c. search needs) (λ c. search needs) returns loop-holds
-    (λ c κs. search needs) (λ c. search needs) (λ c. search needs) returns-2 (λ c. omega arith) add-run-requires
-    (λ c. omega arith) loop-again returns-3 (λ c. omega arith) returns-4)
+    next-record-requires (λ c. search needs) (λ c. search needs) returns-2 (λ c. omega arith) add-run-requires
+    (λ c. omega arith) loop-again returns-3 returns-4)

@@ -9,9 +9,10 @@ use borrow.Author.Needs.{needs}
 use borrow.Author.Tests.{eq-eqb, ne-eqb}
 use Rattle.refusal.specs.Answer.{accepted, refused}
 use Rattle.number.proofs.NumberLaws.{Bytes, index-bytes}
+use Rattle.runs.specs.RunList.{lastStation}
 use Rattle.runs.proofs.RunLaws.{Next}
 use Rattle.queries.specs.Walk.{headReply, Passed, recordAt, recordReply, walkRecords, overlap, overlapAt, overlaps, overlapSum}
-use Rattle.queries.specs.Lookup.{placeIn}
+use Rattle.queries.specs.Lookup.{placeInBy, placeIn}
 use Rattle.queries.proofs.StepLaws.{thenRuns, walk-start, head-refused, walk-refused, walk-over, walk-left-over, record-read}
 use Rattle.queries.proofs.QuantityLaws.{sum-turn, overlap-most}
 use Rattle.queries.proofs.PlaceLaws.{finding, place-start, passed-by, passed-here, finding-over}
@@ -22,6 +23,7 @@ abbrev Inv-loop : tie.InvT-loop
 Inv-loop s level p q station count first left₀ at₀ end₀ last₀ sum₀ from₀ to₀ reached₀ left at end last sum from to reached =
     (overlapSum s level p q ≡ thenRuns (walkRecords left end last s at) (λ rs. sum + overlaps rs level p q)) × (sum ≤ end)
     × (placeIn s station ≡ thenRuns (walkRecords left end last s at) (finding from to reached end at station)) × (reached ≤ end)
+    × (end ≤ lastStation)
 
 abbrev μ-loop : tie.MeasureT-loop
 μ-loop s level p q station count first left₀ at₀ end₀ last₀ sum₀ from₀ to₀ reached₀ left at end last sum from to reached = left
@@ -30,7 +32,7 @@ bytes : (c : tie.After-shared-slice-known Inv-loop μ-loop) → Bytes (c .before
 bytes c = index-bytes _ (λ i. omega (arith, c .shared-slice-known .given i))
 
 returns : tie.Need-returns Inv-loop μ-loop
-unfolding overlapSum placeIn
+unfolding overlapSum placeInBy
 returns c =
     let s = c .before .before .before .before .args .s .now in
     let none = head-refused s (sym (c .before .before .read-head .ensures) ∙ ap headReply (c .enum-told .given .1)) in
@@ -45,7 +47,11 @@ loop-holds c =
       omega arith,
       place-start (a .s .now) (a .station) _ (bytes (c .before .before .before .before)) head,
       omega arith,
+      omega arith,
     )
+
+read-record-requires : tie.Need-read-record-requires Inv-loop μ-loop
+read-record-requires c κs = c .before .loop .inv .4
 
 -- In the loop's body, once the record is read.
 abbrev Body : Type 0
@@ -142,7 +148,7 @@ loop-again c =
     λ from to reached f t e h. rw (f, t, e) h in
     let placed : Behind b (c .if2 .from) (c .if2 .to) (c .if2 .reached) =
     ⊎-elim (λ w. set _ _ _ (w .1) (w .2) (w .3) (here b (w .0 .taken))) (λ w. set _ _ _ (w .1) (w .2) (w .3) (by b (w .0 .left))) (c .if2 .came) in
-    (summed d, most d, placed .0, placed .1)
+    (summed d, most d, placed .0, placed .1, follows b .ends)
 
 -- The overlap's sum has room in 64 bits.
 room : tie.Need-add-sum Inv-loop μ-loop
@@ -171,5 +177,5 @@ pub walk-spec : {M : Type 1} → statement M
 walk-spec =
     tie.close
     (tie.spec Inv-loop μ-loop (λ c κs. search needs) (λ c. search needs) (λ c. search needs) returns loop-holds
-    (λ c κs. search needs) (λ c. search needs) (λ c. search needs) returns-2 (λ c κs. search needs) room
-    (λ c. search needs) (λ c. omega arith) (λ c. omega arith) loop-again returns-3 returns-4)
+    read-record-requires (λ c. search needs) (λ c. search needs) returns-2 (λ c κs. search needs) room
+    (λ c. omega arith) (λ c. omega arith) loop-again returns-3 returns-4)

@@ -1,11 +1,10 @@
--- `schedule::walk::following_run` meets its contract: each test is a rule of run lists. Assumes nothing.
+-- `queries::walk::following_run` meets its contract: each test is a rule of run lists. Assumes nothing.
 use mathlib.Core.Path.{_≡_, sym}
-use mathlib.Core.Logic.{⊎-elim}
-use Prim.Native.Nat.{_+_}
 use native.Mathlib.Omega.{arith}
 use Rattle.refusal.specs.Answer.{refused}
 use Rattle.runs.proofs.RunLaws.{Next}
-use Rattle.queries.specs.Walk.{followingRun}
+use Rattle.queries.specs.Walk.{followingRun, recordReply}
+use Rattle.queries.specs.declared.walk.Record.the-variants as Record
 use Rattle.queries.proofs.WalkLaws.{runAfter, run-follows, run-refused}
 use Rattle.queries.proofs.walk.following_run.Statement.{statement}
 use Rattle.queries.proofs.walk.following_run.Tie as tie
@@ -33,14 +32,22 @@ returns-4 c = refuse (c .before .before .before .before) (λ n. omega (arith, n 
 returns-5 : tie.Need-returns-5
 returns-5 c = refuse (c .before .before .before .before .before .before) (λ n. n .differs (omega (arith, c .before .if5 .taken)) (c .if6 .taken))
 
+-- Where it may, whether it touches the one before or not.
+follow : (c : tie.Start) → Follows c → let a = c .args in
+    recordReply (Record.Next (runAfter (a .end) (a .gap) (a .length) (a .own)) (a .next)) ≡ followingRun (a .end) (a .level) (a .gap) (a .length) (a .own) (a .next)
+follow c n = let a = c .args in sym (run-follows (a .end) (a .level) (a .gap) (a .length) (a .own) (a .next) n)
+
 returns-6 : tie.Need-returns-6
 returns-6 c =
-    let a = c .before .before .before .before .before .args in
-    let apart : a .end ≡ a .end + a .gap → a .level ≡ a .own → ⊥ = λ touch same. ⊎-elim (λ w. w .1 .left same) (λ w. w .left (omega arith)) (c .if5 .came) in
-    sym (run-follows (a .end) (a .level) (a .gap) (a .length) (a .own) (a .next)
-    (record { after = omega arith; long = omega arith; ends = omega arith; low = omega arith; top = omega arith; differs = apart }))
+    follow (c .before .before .before .before .before .before)
+    (record { after = omega arith; long = omega arith; ends = omega arith; low = omega arith; top = omega arith; differs = λ touch same. c .if6 .left same })
+
+returns-7 : tie.Need-returns-7
+returns-7 c =
+    follow (c .before .before .before .before .before)
+    (record { after = omega arith; long = omega arith; ends = omega arith; low = omega arith; top = omega arith; differs = λ touch same. c .if5 .left (omega arith) })
 
 pub following-run-spec : {M : Type 1} → statement M
 following-run-spec =
     tie.close
-    (tie.spec (λ c. omega arith) (λ c. omega arith) returns returns-2 returns-3 returns-4 returns-5 (λ c. omega arith) (λ c. omega arith) returns-6)
+    (tie.spec (λ c. omega arith) (λ c. omega arith) returns returns-2 returns-3 returns-4 returns-5 returns-6 returns-7)

@@ -61,7 +61,6 @@ covered-length-spec =
     (λ c. omega arith)
     (λ c. omega (arith, small (c .before .before) .long))
     (λ c. omega (arith, small (c .before .before) .fits))
-    (λ c. omega (arith, small (c .before .before) .fits))
     (λ c. omega arith)
     (λ c. omega arith)
     loop-again

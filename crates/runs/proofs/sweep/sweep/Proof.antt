@@ -22,12 +22,6 @@ loop-holds c =
     let a = c .before .before .before .before .args in
     (omega arith, refl, refl, refl, sweeping-first (a .keys .now) (a .ends .now) (a .n) (a .g) (replicate 8 0) (a .starts .now) (a .levels .now) (zeros 8))
 
-cast-s : tie.Need-cast-s Inv-loop μ-loop
-cast-s c =
-    let l = c .before .before .loop in
-    let sound = c .before .before .before .before .before .before .before .pre .0 .sound (l .i) (c .before .loop-test .taken) in
-    omega (arith, sound .long, sound .ends)
-
 step-requires : tie.Need-step-requires Inv-loop μ-loop
 step-requires c κs =
     let l = c .before .before .before .before .before .loop in
@@ -86,7 +80,6 @@ sweep-spec =
     loop-holds
     (λ c. search needs)
     (λ c. search needs)
-    cast-s
     (λ c. search needs)
     step-requires
     (λ c. search needs)

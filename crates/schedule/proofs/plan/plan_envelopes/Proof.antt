@@ -11,7 +11,7 @@ place-requires : tie.Need-place-requires
 place-requires c κs =
     let start = c .before .before .before in
     rw (c .required-runs .ensures, runs-stored (requiredRuns (envelopesOf (start .args .envelopes)) (start .args .continuity)))
-    (runs-listed (start .args .envelopes) (start .args .continuity) (start .pre))
+    (runs-listed (start .args .envelopes) (start .args .continuity) (start .pre .0), start .pre .1)
 
 returns : tie.Need-returns
 returns c =

@@ -5,7 +5,7 @@ use borrow.Author.Needs.{needs}
 use Rattle.job.specs.Job.{jobOf}
 use Rattle.planning.proofs.SideLaws.{stored-envelopes}
 use Rattle.schedule.specs.Plan.{bytesWritten}
-use Rattle.schedule.proofs.PlanLaws.{tested-done, tested-refused}
+use Rattle.schedule.proofs.PlanLaws.{tested-done, tested-refused, tested-bytes}
 use Rattle.schedule.proofs.plan.plan_stored.Statement.{statement}
 use Rattle.schedule.proofs.plan.plan_stored.Tie as tie
 
@@ -13,7 +13,10 @@ plan-envelopes-requires : tie.Need-plan-envelopes-requires
 plan-envelopes-requires c κs =
     let r = c .before .before .before .before .before .before in
     let start = r .before .before in
-    stored-envelopes (jobOf (start .args .job)) (start .args .side) (r .side-envelopes .result) (r .side-envelopes .ensures) (start .pre) (c .before .before .before .before .enum-told .given .1)
+    let done = c .before .before .before .before .enum-told .given .1 in (
+      stored-envelopes (jobOf (start .args .job)) (start .args .side) (r .side-envelopes .result) (r .side-envelopes .ensures) (start .pre) done,
+      tested-bytes (jobOf (start .args .job)) (start .args .side) (r .side-envelopes .result) (r .side-envelopes .ensures) (start .pre) done,
+    )
 
 returns : tie.Need-returns
 returns c =

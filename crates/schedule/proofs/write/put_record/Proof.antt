@@ -13,18 +13,22 @@ use Rattle.schedule.proofs.write.put_record.Tie as tie
 put-number-requires : tie.Need-put-number-requires
 put-number-requires c κs =
     let a = c .before .before .args in
-    omega (arith, record-sum (a .end) (a .start) (a .stop) (a .level), c .before .before .pre .1)
+    let f = c .before .before .pre .0 in
+    (omega (arith, f .long, f .ends), omega (arith, record-sum (a .end) (a .start) (a .stop) (a .level), c .before .before .pre .1))
 
 put-number-requires-2 : tie.Need-put-number-requires-2
 put-number-requires-2 c κs =
     let a = c .before .before .before .before .before .before .args in
-    let first = c .before .before .before .put-number in
-    omega (
-      arith,
-      record-sum (a .end) (a .start) (a .stop) (a .level),
-      c .before .before .before .before .before .before .pre .1,
-      ap length (first .ensures .1),
-      placed-length (a .out .now) (a .at) (writeNumber (a .start - a .end)),
+    let f = c .before .before .before .before .before .before .pre .0 in
+    let first = c .before .before .before .put-number in (
+      omega (arith, f .ends),
+      omega (
+        arith,
+        record-sum (a .end) (a .start) (a .stop) (a .level),
+        c .before .before .before .before .before .before .pre .1,
+        ap length (first .ensures .1),
+        placed-length (a .out .now) (a .at) (writeNumber (a .start - a .end)),
+      ),
     )
 
 put-number-requires-3 : tie.Need-put-number-requires-3
@@ -32,14 +36,17 @@ put-number-requires-3 c κs =
     let a = c .before .before .before .before .before .before .before .before .before .before .args in
     let first = c .before .before .before .before .before .before .before .put-number in
     let second = c .before .before .before .put-number2 in
-    omega (
-      arith,
-      record-sum (a .end) (a .start) (a .stop) (a .level),
-      c .before .before .before .before .before .before .before .before .before .before .pre .1,
-      ap length (first .ensures .1),
-      placed-length (a .out .now) (a .at) (writeNumber (a .start - a .end)),
-      ap length (second .ensures .1),
-      placed-length (first .last .0) (first .result) (writeNumber (a .stop - a .start)),
+    let f = c .before .before .before .before .before .before .before .before .before .before .pre .0 in (
+      omega (arith, f .top),
+      omega (
+        arith,
+        record-sum (a .end) (a .start) (a .stop) (a .level),
+        c .before .before .before .before .before .before .before .before .before .before .pre .1,
+        ap length (first .ensures .1),
+        placed-length (a .out .now) (a .at) (writeNumber (a .start - a .end)),
+        ap length (second .ensures .1),
+        placed-length (first .last .0) (first .result) (writeNumber (a .stop - a .start)),
+      ),
     )
 
 returns : tie.Need-returns

@@ -11,7 +11,7 @@ use Rattle.number.specs.Number.{writeNumber, placed}
 use Rattle.number.proofs.NumberLaws.{placed-append, placed-length, placed-none}
 use Rattle.runs.specs.declared.RunList.{RunList}
 use Rattle.runs.specs.RunList.{runsOf, lastEnd}
-use Rattle.schedule.specs.Schedule.{writeRecord, writeRecords, writeSchedule}
+use Rattle.schedule.specs.Schedule.{writeRecord, writeRecords, writeScheduleBy, writeSchedule}
 use Rattle.runs.proofs.StoredLaws.{firstRuns, run, runs-length, count-top}
 use Rattle.schedule.proofs.WriteLaws.{run-fits, records-more, records-within, last-more, records-none, last-none}
 use Rattle.schedule.proofs.write.put_schedule.Statement.{statement}
@@ -39,7 +39,7 @@ abbrev recordAt : RunList → ℕ → List ℕ
 recordAt l i = writeRecord (lastEnd 0 (firstRuns (l .starts) (l .ends) (l .levels) i)) (run (l .starts) (l .ends) (l .levels) i)
 
 whole : (l : RunList) → writeSchedule (runsOf l) ≡ writeNumber (l .count) ++ records l (l .count)
-unfolding writeSchedule
+unfolding writeScheduleBy
 whole l = rw (runs-length (l .starts) (l .ends) (l .levels) (l .count))
 
 whole-length : (l : RunList) → length (writeSchedule (runsOf l)) ≡ head l + length (records l (l .count))
@@ -60,7 +60,8 @@ turn l i at end next out₀ out new a e o n w fits =
     )
 
 put-number-requires : tie.Need-put-number-requires Inv-loop μ-loop
-put-number-requires c κs = omega (arith, whole-length (c .before .before .args .t2), c .before .before .pre .1)
+put-number-requires c κs =
+    (omega (arith, top (c .before .before)), omega (arith, whole-length (c .before .before .args .t2), c .before .before .pre .1))
 
 loop-holds : tie.Need-loop-holds Inv-loop μ-loop
 loop-holds c =
@@ -133,7 +134,6 @@ put-schedule-spec =
     (tie.spec
     Inv-loop
     μ-loop
-    (λ c. omega (arith, top (c .before .before)))
     put-number-requires
     loop-holds
     (λ c. omega arith)

@@ -8,8 +8,8 @@ use Rattle.schedule.proofs.WriteLaws.{record-groups}
 use Rattle.schedule.proofs.write.record_length.Statement.{statement}
 use Rattle.schedule.proofs.write.record_length.Tie as tie
 
--- a group count is at most 5
-short : (n : ℕ) → n ≤ greatest → groupCount n ≤ 5
+-- a group count is at most 6
+short : (n : ℕ) → n ≤ greatest → groupCount n ≤ 6
 short n h = omega (arith, group-count n h, number-length n)
 
 add-result : tie.Need-add-result

@@ -8,7 +8,7 @@ use borrow.Author.Needs.{needs}
 use Rattle.runs.specs.RunList.{lastEnd}
 use Rattle.number.specs.Number.{writeNumber}
 use Rattle.number.proofs.NumberLaws.{number-length, group-count}
-use Rattle.schedule.specs.Schedule.{writeRecords, writeSchedule}
+use Rattle.schedule.specs.Schedule.{writeRecords, writeScheduleBy}
 use Rattle.runs.proofs.StoredLaws.{firstRuns, run, runs-length, count-top}
 use Rattle.schedule.proofs.WriteLaws.{run-fits, record-short, records-more, last-more, records-none, last-none}
 use Rattle.schedule.proofs.write.schedule_length.Statement.{statement}
@@ -16,7 +16,7 @@ use Rattle.schedule.proofs.write.schedule_length.Tie as tie
 
 abbrev Inv-loop : tie.InvT-loop
 Inv-loop list count bytes₀ end₀ i₀ bytes end i =
-    (i ≤ count) × (count ≤ 511) × (bytes ≤ 5 + 15 * i)
+    (i ≤ count) × (count ≤ 511) × (bytes ≤ 6 + 18 * i)
     × (bytes ≡ length (writeNumber count) + length (writeRecords 0 (firstRuns (list .starts) (list .ends) (list .levels) i)))
     × (end ≡ lastEnd 0 (firstRuns (list .starts) (list .ends) (list .levels) i))
 
@@ -62,7 +62,7 @@ loop-again c =
     )
 
 returns : tie.Need-returns Inv-loop μ-loop
-unfolding writeSchedule
+unfolding writeScheduleBy
 returns c =
     let l = c .before .before .before .args .t1 in
     let done : c .before .loop .i ≡ l .count = omega arith in
@@ -74,7 +74,6 @@ schedule-length-spec =
     (tie.spec
     Inv-loop
     μ-loop
-    (λ c. omega (arith, top c))
     (λ c κs. search needs)
     loop-holds
     (λ c. omega arith)

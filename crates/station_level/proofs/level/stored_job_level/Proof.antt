@@ -12,7 +12,7 @@ required-level-requires : tie.Need-required-level-requires
 required-level-requires c κs =
     let r = c .before .before .before .before in
     let s = r .before in
-    stored-envelopes (jobOf (s .args .job)) (s .args .side) (r .side-envelopes .result) (r .side-envelopes .ensures) (s .pre) (c .before .before .enum-told .given .1)
+    (stored-envelopes (jobOf (s .args .job)) (s .args .side) (r .side-envelopes .result) (r .side-envelopes .ensures) (s .pre) (c .before .before .enum-told .given .1), s .pre .header .continuity-top)
 
 returns : tie.Need-returns
 returns c =

@@ -25,7 +25,8 @@ loop-holds c = (omega arith, omega arith, λ es sound kept. read-none es sound (
 has-station-requires : tie.Need-has-station-requires Inv-loop μ-loop
 has-station-requires c κs =
     let l = c .before .before .before .before .before .loop in
-    omega (arith, c .before .before .later .ensures, l .inv .1, c .before .before .before .before .before .before .pre (l .v) (omega arith))
+    let pre = c .before .before .before .before .before .before .pre in
+    (omega (arith, c .before .before .later .ensures, l .inv .1, pre .0 (l .v) (omega arith)), pre .1)
 
 returns : tie.Need-returns Inv-loop μ-loop
 returns c =
@@ -39,7 +40,7 @@ loop-again c =
     let start = c .before .before .before .before .before .before .before .before in
     let l = c .before .before .before .before .before .before .before .loop in (
       omega arith,
-      omega (arith, c .before .before .before .before .later .ensures, l .inv .1, start .pre (l .v) (omega arith)),
+      omega (arith, c .before .before .before .before .later .ensures, l .inv .1, start .pre .0 (l .v) (omega arith)),
       λ es sound kept. level-lower es sound (start .args .t1) (start .args .continuity) (start .args .station) (l .v) (l .end) (l .start) kept (l .inv .2 es sound kept) (omega arith) (omega arith)
           (c .before .before .before .before .later .ensures) (c .before .before .earlier .ensures) (sym (c .before .has-station .ensures) ∙ c .if1 .left),
     )

@@ -9,12 +9,12 @@ use Rattle.station_level.proofs.nearest.required_level.Tie as tie
 highest-level-requires : tie.Need-highest-level-requires
 highest-level-requires c κs =
     let s = c .before in
-    ends-known (envelopesOf (s .args .envelopes)) (stored-sound (s .args .envelopes) (s .pre)) (s .args .station) (c .nearest-to .result) (c .nearest-to .ensures)
+    (ends-known (envelopesOf (s .args .envelopes)) (stored-sound (s .args .envelopes) (s .pre .0)) (s .args .station) (c .nearest-to .result) (c .nearest-to .ensures), s .pre .1)
 
 returns : tie.Need-returns
 returns c =
     let s = c .before .before in
-    c .highest-level .ensures (envelopesOf (s .args .envelopes)) (stored-sound (s .args .envelopes) (s .pre)) (c .before .nearest-to .ensures)
+    c .highest-level .ensures (envelopesOf (s .args .envelopes)) (stored-sound (s .args .envelopes) (s .pre .0)) (c .before .nearest-to .ensures)
 
 pub required-level-spec : {M : Type 1} → statement M
 required-level-spec = tie.close (tie.spec (λ c κs. search needs) highest-level-requires returns)
