@@ -109,6 +109,9 @@ static void print_refusal(const char *what, barrier_reply reply)
     case BARRIER_NO_APPROACH:
         printf("no such hazard, or adjacent traffic does not reach it\n");
         break;
+    case BARRIER_FULL:
+        printf("%d hazards stand already\n", BARRIER_HAZARDS_MAX);
+        break;
     default:
         printf("a number that barrier.h does not have\n");
     }

@@ -29,8 +29,8 @@ static const uint64_t header[HEADER_NUMBERS] = {
     0                /* hazard count: none yet */
 };
 
-/* The names under which the hazards stand. */
-enum { HEADWALL = 7, POLE = 20, CULVERT = 30, PIER = 31 };
+/* The names under which the hazards stand: their drawing numbers. */
+enum { HEADWALL = 7, POLE = 20, CULVERT = 1030, PIER = 1031 };
 
 /* The state number under which a state is kept, and one of which none is. */
 enum { BEFORE = 0, NEVER_KEPT = 1 };
@@ -119,10 +119,10 @@ static int show_variant(barrier_open_job *job)
 static int show_overhang(barrier_open_job *job)
 {
     printf("By the neighbouring contract\n");
-    return ends_with("add 30", barrier_add(job, CULVERT, culvert), BARRIER_DONE) &&
-           ends_with("add 31", barrier_add(job, PIER, pier), BARRIER_DONE) &&
+    return ends_with("add 1030", barrier_add(job, CULVERT, culvert), BARRIER_DONE) &&
+           ends_with("add 1031", barrier_add(job, PIER, pier), BARRIER_DONE) &&
            print_runs(job) &&
-           ends_with("withdraw 30", barrier_withdraw(job, CULVERT), BARRIER_DONE) &&
+           ends_with("withdraw 1030", barrier_withdraw(job, CULVERT), BARRIER_DONE) &&
            print_runs(job);
 }
 

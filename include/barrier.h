@@ -266,12 +266,12 @@
  *
  * A controller meets the hazards one by one, as the rod reaches them.  For it
  * a job can stay open: a header, and up to 256 hazards that come and go, each
- * under a name from 0 to 255.
+ * under a name from 0 to 65535: the number of its drawing, say.
  *
  *     barrier_open_job job;
  *     barrier_open(&job, bytes, bytes_len);         a header, no hazard
  *     barrier_add(&job, 7, headwall);               it stands under 7
- *     barrier_add(&job, 20, tree);
+ *     barrier_add(&job, 1020, tree);
  *     barrier_withdraw(&job, 7);                    7 is free again
  *     barrier_open_schedule(&job, BARRIER_RIGHT, out, out_len);
  *
@@ -285,7 +285,10 @@
  *   - A name stands once.  A withdrawn name can be added again, with the same
  *     hazard or another.  One hazard may stand under two names.
  *   - A hazard is tested when it is added, so that what stands is always an
- *     accepted job.  With 256 hazards every name stands.
+ *     accepted job.
+ *   - 256 hazards stand together at the most.  With so many, an add under a
+ *     name that does not stand is refused 15, whatever its hazard.  Room left
+ *     by a withdrawal is used again, under whichever name.
  *   - A refused call alters nothing, neither the open job nor the output.
  *   - Opening memory that has an open job already starts anew.
  *
@@ -294,8 +297,8 @@
  * names.
  *
  *     barrier_keep(&job, 0);                        what stands now
- *     barrier_withdraw(&job, 20);                   a variant
- *     barrier_return(&job, 0);                      20 stands as it did
+ *     barrier_withdraw(&job, 1020);                 a variant
+ *     barrier_return(&job, 0);                      1020 stands as it did
  *
  *   - After a return, what stands is what stood when that state was last kept,
  *     whatever was added and withdrawn since.
@@ -313,12 +316,12 @@
  * The memory may hold anything when a call gets it.  barrier_open does not
  * look at what it held.  Every other call tests all of it first, and refuses
  * it with 3 and 0 where it is not an open job: a header number outside its
- * range, a panel length other than 1 in kind 1, a name twice, out of order or
- * above 255, a hazard that an add would refuse with 4 or 5, or anything but 0
- * in a place where no hazard stands.  The names and hazards of kept states go
- * by the same rules, and where nothing is kept, all is 0.  So memory that was
- * never opened, or written over since, is refused; or it happens to be what
- * some calls would have left, and is taken for that.
+ * range, a panel length other than 1 in kind 1, more than 256 hazards, a name
+ * twice or out of order, a hazard that an add would refuse with 4 or 5, or
+ * anything but 0 in a place where no hazard stands.  The names and hazards of
+ * kept states go by the same rules, and where nothing is kept, all is 0.  So
+ * memory that was never opened, or written over since, is refused; or it
+ * happens to be what some calls would have left, and is taken for that.
  *
  * ---------------------------------------------------------------------------
  * REFUSALS, AND THEIR ORDER
@@ -356,6 +359,7 @@
  *                                       one under which nothing is kept
  *     14      0                         the job has no such hazard, or adjacent
  *                                       traffic does not reach it
+ *     15      0                         256 hazards stand already (add)
  *
  * The first that holds is returned, in this order:
  *
@@ -373,7 +377,8 @@
  *     barrier_lookup         8, then 10, of the asked side's schedule
  *     barrier_open           the header's numbers as barrier_plan reads them,
  *                            the hazard count's range being 0 alone; then 7
- *     barrier_add            3 with 0, then 12, then the hazard for 4 and for 5
+ *     barrier_add            3 with 0, then 12, then 15, then the hazard for 4
+ *                            and for 5
  *     barrier_withdraw       3 with 0, then 12
  *     barrier_open_schedule  3 with 0, then 8, then 9
  *     barrier_keep           3 with 0, then 13
@@ -451,6 +456,14 @@
  *     Of what was refused, roads, runs and sheet corners beyond 2000000000 are
  *     taken, and a number above 4294967295 is no longer refused 2 for that, but
  *     3 or 4 where it is too great for its field.
+ *   - In version 3.0.0 barrier_add and barrier_withdraw take a name in 16 bits
+ *     and no longer in 8: what an earlier header's call hands over in the upper
+ *     eight is not said, so that another name may be meant.  In the program's
+ *     text, what holds a name becomes a uint16_t; what counts the names by
+ *     BARRIER_NAME_MAX now has 65536 of them.  Lists of calls with names to 255
+ *     alone reply as before: where 256 hazards stand, all of these names do, so
+ *     that an add is refused 12 and never 15.  An open job of version 2.0.0 is
+ *     one of 3.0.0 too; the other way about, names above 255 are refused.
  *
  * The open job has 5176 bytes in version 0.4.0, 5180 in 0.5.0 to 0.6.1, 46204
  * in 0.7.0 to 1.2.0, and 55544 from 2.0.0 on, where it is aligned to 8 and no
@@ -471,9 +484,10 @@ extern "C" {
  * first number goes up where a call that was there before is called or replies
  * in another way, or an open job has another size, so that programs already
  * compiled break ("Linking"): 1.0.0 is such a version for its replies, 2.0.0
- * for its open job.  The second goes up with each addition.
+ * for its open job, 3.0.0 for its names.  The second goes up with each
+ * addition.
  */
-#define BARRIER_VERSION "2.0.0"
+#define BARRIER_VERSION "3.0.0"
 
 /*
  * CONSTANTS
@@ -489,6 +503,10 @@ extern "C" {
  * BARRIER_JOB_LONGEST is that sum, 42 + 256 * 20, and there are accepted jobs
  * of exactly this length.  The calls take jobs of any length, and refuse a
  * longer one for what is wrong with it.
+ *
+ * BARRIER_HAZARDS_MAX is how many hazards a job may have, and how many may
+ * stand together in an open one.  BARRIER_NAME_MAX is the greatest name there,
+ * which is the greatest number of 16 bits: every uint16_t is a name.
  *
  * BARRIER_STATION_MAX is the greatest B, and so the greatest end of a run, and
  * the greatest number of a sheet corner.  BARRIER_ROAD_MAX is the greatest
@@ -506,7 +524,7 @@ extern "C" {
 #define BARRIER_JOB_MAX 8192
 #define BARRIER_JOB_LONGEST 5162
 #define BARRIER_HAZARDS_MAX 256
-#define BARRIER_NAME_MAX 255
+#define BARRIER_NAME_MAX 65535
 #define BARRIER_STATES 8
 #define BARRIER_RUNS_MAX 511
 #define BARRIER_RANGES_MAX 64
@@ -549,7 +567,8 @@ enum barrier_number {
     BARRIER_TOO_MANY_RANGES = 11,
     BARRIER_NAME = 12,
     BARRIER_STATE = 13,
-    BARRIER_NO_APPROACH = 14
+    BARRIER_NO_APPROACH = 14,
+    BARRIER_FULL = 15
 };
 
 /*
@@ -557,7 +576,9 @@ enum barrier_number {
  *
  * Sides, levels, stations, state numbers, hazard indices, sheet corners and a
  * hazard's numbers are passed in 64 bits, so that a number that is too great is
- * refused and never cut down to one that is not.
+ * refused and never cut down to one that is not.  Names are passed in 16 bits,
+ * all of which are names: C cuts a greater number down before the call gets it,
+ * so a program whose numbers can be above BARRIER_NAME_MAX tests them itself.
  */
 
 /*
@@ -905,24 +926,28 @@ barrier_reply barrier_open(barrier_open_job *job, const uint8_t *bytes, size_t b
  *     hazard    its six numbers
  *
  * Done: value is 0.
- * Refused: 3 with 0, 12, 4 or 5; the last three with the name.  The open job
- * stays as it was.
+ * Refused: 3 with 0; 12 with the name; 15 with 0; 4 or 5 with the name.  The
+ * open job stays as it was.
+ *
+ * 15 is for an open job in which 256 hazards stand: withdraw one first.  A name
+ * that stands is refused 12 there too.
  *
  * A hazard whose envelope leaves the road is added; the schedule's reply has
  * its overhang.
  */
-barrier_reply barrier_add(barrier_open_job *job, uint8_t name, barrier_hazard hazard);
+barrier_reply barrier_add(barrier_open_job *job, uint16_t name, barrier_hazard hazard);
 
 /*
  * Withdraw: takes the hazard under a name out of an open job.
  *
  *     job     the open job
- *     name    the name under which the hazard stands
+ *     name    the name under which the hazard stands, 0 to BARRIER_NAME_MAX
  *
- * Done: value is 0, and the name can be added again.
+ * Done: value is 0, and the name can be added again; or another one, in the
+ * room that is left.
  * Refused: 3 with 0, or 12 with the name.  The open job stays as it was.
  */
-barrier_reply barrier_withdraw(barrier_open_job *job, uint8_t name);
+barrier_reply barrier_withdraw(barrier_open_job *job, uint16_t name);
 
 /*
  * Schedule of an open job: writes that of one side to the start of the output,

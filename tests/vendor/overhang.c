@@ -183,7 +183,7 @@ static void sample_is(const char *what, const struct sample *sample, const struc
     reply = barrier_open(&open_job, job, job_len);
     expect(what, reply.number == BARRIER_DONE);
     for (i = 0; i < sample->hazards_len; i++) {
-        reply = barrier_add(&open_job, (uint8_t)i, sample->hazards[i]);
+        reply = barrier_add(&open_job, (uint16_t)i, sample->hazards[i]);
         expect(what, reply.number == BARRIER_DONE && reply.value == 0);
     }
     job_len = write_job(sample, sample->hazards_len, job);
@@ -236,7 +236,7 @@ static void levels(void)
 }
 
 /* The right side without one hazard more: how many bytes, and the overhangs. */
-static void withdrawn(uint8_t name, uint64_t length, uint64_t before, uint64_t after)
+static void withdrawn(uint16_t name, uint64_t length, uint64_t before, uint64_t after)
 {
     uint8_t out[ROOM];
     const barrier_reply reply = barrier_withdraw(&open_job, name);

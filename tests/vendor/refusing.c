@@ -129,7 +129,7 @@ barrier_reply barrier_open(barrier_open_job *job, const uint8_t *bytes, size_t b
 }
 
 /* The example's third add has to be refused, or the later calls are not made. */
-barrier_reply barrier_add(barrier_open_job *job, uint8_t name, barrier_hazard hazard)
+barrier_reply barrier_add(barrier_open_job *job, uint16_t name, barrier_hazard hazard)
 {
     static int adds = 0;
     const barrier_reply done = {BARRIER_DONE, 0};
@@ -143,7 +143,7 @@ barrier_reply barrier_add(barrier_open_job *job, uint8_t name, barrier_hazard ha
     return REFUSED != nothing && adds == 3 ? stands : done;
 }
 
-barrier_reply barrier_withdraw(barrier_open_job *job, uint8_t name)
+barrier_reply barrier_withdraw(barrier_open_job *job, uint16_t name)
 {
     const barrier_reply done = {BARRIER_DONE, 0};
     const barrier_reply refused = {BARRIER_NAME, name};

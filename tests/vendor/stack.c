@@ -40,7 +40,7 @@ static barrier_open_job open_job, whole_job;
 static unsigned char header[64];
 static size_t header_length;
 static barrier_hazard last;
-static uint8_t last_name;
+static uint16_t last_name;
 static barrier_reply opened, added, withdrawn, kept, returned;
 static uint64_t ranges[128];
 
@@ -185,7 +185,7 @@ static void open_planned_job(void)
     open_empty();
     for (i = 0; i < hazards; i++) {
         last = hazard_at(&at);
-        last_name = (uint8_t)i;
+        last_name = (uint16_t)i;
         added = barrier_add(&open_job, last_name, last);
     }
     for (i = 0; i < BARRIER_STATES; i++)

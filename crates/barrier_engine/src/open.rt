@@ -41,7 +41,7 @@ pub extern "C" fn barrier_open(job: &mut OpenStates, bytes: &[u8]) -> Reply
 }
 
 #[no_mangle]
-pub extern "C" fn barrier_add(job: &mut OpenStates, name: u8, hazard: GivenHazard) -> Reply
+pub extern "C" fn barrier_add(job: &mut OpenStates, name: u16, hazard: GivenHazard) -> Reply
     ensures { λ r. ⌜ (now (job .exit) ≡ memoryAfter (addIn (now (job .entry)) name (hazardGiven hazard)) (now (job .entry))) × (r ≡ replyOf (replied (addIn (now (job .entry)) name (hazardGiven hazard)))) ⌝ }
 {
     let header = (*job).now.header;
@@ -59,7 +59,7 @@ pub extern "C" fn barrier_add(job: &mut OpenStates, name: u8, hazard: GivenHazar
 }
 
 #[no_mangle]
-pub extern "C" fn barrier_withdraw(job: &mut OpenStates, name: u8) -> Reply
+pub extern "C" fn barrier_withdraw(job: &mut OpenStates, name: u16) -> Reply
     ensures { λ r. ⌜ (now (job .exit) ≡ memoryAfter (withdrawIn (now (job .entry)) name) (now (job .entry))) × (r ≡ replyOf (replied (withdrawIn (now (job .entry)) name))) ⌝ }
 {
     let header = (*job).now.header;

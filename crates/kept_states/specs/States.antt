@@ -31,7 +31,7 @@ greatestStateNumber = 7
 abbrev pub nothingKept : KeptState
 nothingKept = record { used = 0; count = 0; hazards = replicate mostStanding unused }
 
--- The names and hazards of an open job.
+-- The names and hazards of an open job. "Kept states carry the wide names."
 abbrev pub keptFrom : StoredJob → KeptState
 keptFrom a = record { used = 1; count = a .header .count; hazards = a .hazards }
 

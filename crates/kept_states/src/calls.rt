@@ -20,7 +20,7 @@ ghost use Rattle.open_job.specs.Open.{Changes};
 ghost use Rattle.kept_states.specs.Parts.{addPart, withdrawPart, schedulePart, testNumber, returnPart};
 
 // A hazard is added to the state now.
-pub fn add(sound: bool, now: StoredJob, name: u8, hazard: GivenHazard) -> Change
+pub fn add(sound: bool, now: StoredJob, name: u16, hazard: GivenHazard) -> Change
     ensures { λ r. ⌜ Changes now (addPart sound now name (hazardGiven hazard)) r ⌝ }
 {
     if sound {
@@ -31,7 +31,7 @@ pub fn add(sound: bool, now: StoredJob, name: u8, hazard: GivenHazard) -> Change
 }
 
 // A hazard of the state now is withdrawn.
-pub fn withdraw(sound: bool, now: StoredJob, name: u8) -> Change
+pub fn withdraw(sound: bool, now: StoredJob, name: u16) -> Change
     ensures { λ r. ⌜ Changes now (withdrawPart sound now name) r ⌝ }
 {
     if sound {

@@ -36,11 +36,11 @@ use Rattle.schedule.specs.Schedule.{writeSchedule}
 use Rattle.schedule.specs.Plan.{fitted, planBy, plan}
 use Rattle.schedule.proofs.PlanLaws.{plan-bad-side, tested-bytes}
 use Rattle.open_job.specs.declared.Change.{Change}
-use Rattle.open_memory.specs.Memory.{greatestName, standing, laidOut, stands, inserted, hazardInRange, admit, isOpenJob}
+use Rattle.open_memory.specs.Memory.{standing, laidOut, stands, isFull, inserted, hazardInRange, admit, isOpenJob}
 use Rattle.open_job.specs.Open.{openJobBy, openJob, addTo, withdrawFrom, scheduleOf, Changes}
 use Rattle.open_memory.specs.Steps.{rank, putAt, takenAt}
-use Rattle.open_memory.proofs.RuleLaws.{admitted, admit-ranged, stand-few, open-header, open-standing, open-accepted}
-use Rattle.open_memory.proofs.PlaceLaws.{inserted-at, inserted-stand, inserted-length, without-at}
+use Rattle.open_memory.proofs.RuleLaws.{admit-ranged, open-header, open-standing, open-accepted}
+use Rattle.open_memory.proofs.PlaceLaws.{inserted-at, without-at}
 use Rattle.open_memory.proofs.WalkLaws.{standing-length}
 
 -- A call by value: refused, or done.
@@ -116,27 +116,29 @@ module _ (m : StoredJob) where
 
   -- Memory that keeps them.
   module _ (good : isOpenJob m ≡ true) where
+    -- As many stand as the header's count says.
+    pub full-count : length (m .hazards) ≡ 256 → isFull (standing m) ≡ leb 256 (m .header .count)
+    full-count size = ap (leb 256) (standing-length m size (open-header m good .count))
+
     -- Add
     pub add-stands : (name : ℕ) (z : Hazard) → stands name (standing m) ≡ true → addTo m name z ≡ refused 12 name
     unfolding addTo
     add-stands name z e = rw (good, e)
 
     module _ (name : ℕ) (z : Hazard) (fresh : stands name (standing m) ≡ false) where
-      pub add-tested : (x : Refusal) → refusal x ≡ admit (m .header) name z → addTo m name z ≡ refusal x
+      pub add-full : isFull (standing m) ≡ true → addTo m name z ≡ refused 15 0
       unfolding addTo
-      add-tested x e = rw (good, fresh, sym e)
+      add-full e = rw (good, fresh, e)
 
-      module _ (may : accepted tt ≡ admit (m .header) name z) where
-        -- There is room: the names are bytes.
-        pub add-room : length (m .hazards) ≡ 256 → name ≤ greatestName → m .header .count < 256
-        add-room size top =
-            let all = inserted-stand (m .header) 0 (named name z) (standing m) (omega arith) top (admitted (m .header) name z (rw (sym may))) fresh (open-standing m good) in
-            omega (arith, stand-few (m .header) 0 (inserted (named name z) (standing m)) (omega arith) all, inserted-length (named name z) (standing m), standing-length m size (open-header m good .count))
-
-        pub add-done : (at : ℕ) → at ≡ rank name (standing m) → addTo m name z ≡ accepted (laidOut (m .header) (putAt at (named name z) (standing m)))
+      module _ (room : isFull (standing m) ≡ false) where
+        pub add-tested : (x : Refusal) → refusal x ≡ admit (m .header) name z → addTo m name z ≡ refusal x
         unfolding addTo
-        add-done at place =
-            rw (good, fresh, sym may)
+        add-tested x e = rw (good, fresh, room, sym e)
+
+        pub add-done : accepted tt ≡ admit (m .header) name z → (at : ℕ) → at ≡ rank name (standing m) → addTo m name z ≡ accepted (laidOut (m .header) (putAt at (named name z) (standing m)))
+        unfolding addTo
+        add-done may at place =
+            rw (good, fresh, room, sym may)
             (ap (λ (ps : List NamedHazard). accepted (laidOut (m .header) ps)) (inserted-at (named name z) (standing m) fresh ∙ ap (λ (k : ℕ). putAt k (named name z) (standing m)) (sym place)))
 
     -- Withdraw

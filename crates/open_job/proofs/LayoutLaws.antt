@@ -6,7 +6,7 @@ use mathlib.Core.Path.{_≡_, refl, sym, ap, ap₂, _∙_}
 use mathlib.Core.Logic.{_↔_}
 use mathlib.Core.Bool.{true, not}
 use mathlib.Core.List.{List, [], _∷_, _++_, map}
-use lib.ListN.{length, drop, replicate, length-map, take-append-drop}
+use lib.ListN.{length, drop, replicate, length-map, length-take, take-append-drop}
 use lib.Seq.{take-append-seam, drop-append-seam, length-take-le}
 use Rattle.refusal.specs.Choice.{allOf}
 use Rattle.refusal.specs.Answer.{accepted, _>>=_, unless-refuse}
@@ -19,10 +19,10 @@ use Rattle.job.specs.Writing.{writeJob}
 use Rattle.job.specs.Reply.{unused}
 use Rattle.job.proofs.JobLaws.{HeaderFits}
 use Rattle.schedule.specs.Plan.{plan}
-use Rattle.open_memory.specs.Memory.{mostStanding, standing, counted, laidOut, madeFrom, stands, inserted, without, admit, admissible, isUnused, isOpenJob}
+use Rattle.open_memory.specs.Memory.{mostStanding, standing, counted, laidOut, madeFrom, stands, isFull, inserted, without, admit, admissible, isUnused, isOpenJob}
 use Rattle.open_job.specs.Open.{addTo, withdrawFrom, scheduleOf}
 use Rattle.open_memory.proofs.RangeLaws.{header-ranged, counted-fits}
-use Rattle.open_memory.proofs.RuleLaws.{Stand, admit-counted, stand-names, stand-admissible, stand-few, open-header, open-standing, open-clear}
+use Rattle.open_memory.proofs.RuleLaws.{Stand, admit-counted, stand-names, stand-admissible, open-header, open-standing, open-clear}
 
 admissible-counted : (h : Header) (n : ℕ) (ps : List NamedHazard) → allOf (admissible (counted h n)) ps ≡ allOf (admissible h) ps
 unfolding allOf
@@ -38,20 +38,17 @@ module _ (h : Header) (ps : List NamedHazard) where
   pub laid-standing : standing (laidOut h ps) ≡ ps
   laid-standing = take-append-seam ps (replicate (mostStanding - length ps) unused)
 
-  module _ (fits : HeaderFits h) (rules : Stand h 0 ps) where
-    pub laid-few : length ps ≤ 256
-    laid-few = omega (arith, stand-few h 0 ps (omega arith) rules)
-
+  module _ (fits : HeaderFits h) (rules : Stand h 0 ps) (few : length ps ≤ mostStanding) where
     pub laid-open : isOpenJob (laidOut h ps) ≡ true
     unfolding isOpenJob
     laid-open =
         let n = length ps in
-        let header = header-ranged (counted h n) (counted-fits h n fits laid-few) in
+        let header = header-ranged (counted h n) (counted-fits h n fits few) in
         let rest : allOf isUnused (drop n (ps ++ replicate (mostStanding - n) unused)) ≡ true = rw (drop-append-seam ps (replicate (mostStanding - n) unused)) (unused-all (mostStanding - n)) in
         rw (laid-standing, header, stand-names h 0 ps rules, admissible-counted h n ps, stand-admissible h 0 ps rules) rest
 
     -- The calls on it.
-    pub add-laid : (name : ℕ) (z : Hazard) → addTo (laidOut h ps) name z ≡ (unless-refuse (not (stands name ps)) 12 name >>= λ _. admit h name z >>= λ _. accepted (laidOut h (inserted (named name z) ps)))
+    pub add-laid : (name : ℕ) (z : Hazard) → addTo (laidOut h ps) name z ≡ (unless-refuse (not (stands name ps)) 12 name >>= λ _. unless-refuse (not (isFull ps)) 15 0 >>= λ _. admit h name z >>= λ _. accepted (laidOut h (inserted (named name z) ps)))
     unfolding addTo
     add-laid name z = rw (laid-open, laid-standing, admit-counted h name z (length ps))
 
@@ -70,7 +67,7 @@ pub record KeepsRules (m : StoredJob) : Type 0 where
   pub layout : m ≡ laidOut (m .header) (standing m)
 
 pub open-exactly : (m : StoredJob) → length (m .hazards) ≡ 256 → (isOpenJob m ≡ true) ↔ KeepsRules m
-open-exactly m size = (means, λ k. ap isOpenJob (k .layout) ∙ laid-open (m .header) (standing m) (k .header) (k .hazards))
+open-exactly m size = (means, λ k. ap isOpenJob (k .layout) ∙ laid-open (m .header) (standing m) (k .header) (k .hazards) (omega (arith, k .header .count, length-take (m .header .count) (m .hazards))))
   where
     means : isOpenJob m ≡ true → KeepsRules m
     means e =

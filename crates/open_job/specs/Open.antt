@@ -14,7 +14,7 @@ use Rattle.job.specs.Job.{named, jobOf, headerSize, readHeaderBy, headerOf}
 use Rattle.job.specs.Writing.{writeJob}
 use Rattle.planning.specs.Envelope.{acceptJobBy}
 use Rattle.schedule.specs.Plan.{PlannedSide, plan}
-use Rattle.open_memory.specs.Memory.{standing, laidOut, stands, inserted, without, admit, isOpenJob}
+use Rattle.open_memory.specs.Memory.{standing, laidOut, stands, isFull, inserted, without, admit, isOpenJob}
 use Rattle.open_job.specs.declared.Change.{Change}
 
 -- "Opening takes job bytes that carry no hazard; it refuses as plan does without 9, and a hazard count above 0 is 3": at that number, which is
@@ -30,11 +30,13 @@ abbrev pub openJob : (s : List ℕ) → Answer StoredJob
 openJob = openJobBy limits
 
 -- "Any call but opening, on memory whose header, names or hazards break these rules, is refused 3 with 0 before any other test."
--- "A name already standing (add) or not standing (withdraw) is 12, before 4, and returns the name." The name is a byte by the call's type.
+-- "A name already standing (add) or not standing (withdraw) is 12, before 4, and returns the name." Names are 0 to 65,535 by the call's type,
+-- 16 bits, so no test asks for it. "An add when 256 stand is 15, after 12 and before 4", and returns 0, as request 1 has it of later numbers.
 unfoldable pub addTo : StoredJob → (name : ℕ) → Hazard → Answer StoredJob
 addTo m name z =
     unless-refuse (isOpenJob m) 3 0 >>= λ _.
     unless-refuse (not (stands name (standing m))) 12 name >>= λ _.
+    unless-refuse (not (isFull (standing m))) 15 0 >>= λ _.
     admit (m .header) name z >>= λ _.
     accepted (laidOut (m .header) (inserted (named name z) (standing m)))
 

@@ -27,7 +27,7 @@ ghost use lib.ListN.{length};
 ghost use Rattle.refusal.specs.Refusal.{outcome};
 ghost use Rattle.refusal.specs.declared.Outcome.the-variants.{Refused};
 ghost use Rattle.schedule.specs.Plan.{planReply, bytesWritten, outputAfter};
-ghost use Rattle.open_memory.specs.Memory.{greatestName, hazardGiven, headerInRange, admit, isOpenJob};
+ghost use Rattle.open_memory.specs.Memory.{hazardGiven, headerInRange, admit, isOpenJob};
 ghost use Rattle.open_job.specs.Open.{openJob, addTo, withdrawFrom, scheduleOf, Changes};
 
 // A refusal, and the open job as it was.
@@ -70,10 +70,9 @@ fn test_given(header: Header, name: u16, hazard: GivenHazard) -> Outcome
     }
 }
 
-// To an open job: 12, then the hazard's own refusals, then it is put in.
+// To an open job: 12, 15, then the hazard's own refusals, then it is put in.
 fn add_named(job: StoredJob, name: u16, hazard: GivenHazard) -> Change
     requires { ⌜ isOpenJob job ≡ true ⌝ }
-    requires { ⌜ name ≤ greatestName ⌝ }
     ensures { λ r. ⌜ Changes job (addTo job name (hazardGiven hazard)) r ⌝ }
 {
     let at = place_of(job, name);
@@ -81,6 +80,9 @@ fn add_named(job: StoredJob, name: u16, hazard: GivenHazard) -> Change
         return unchanged(job, Refusal::Name(name as usize));
     }
     let header = job.header;
+    if 256 <= header.count {
+        return unchanged(job, Refusal::Full);
+    }
     let outcome = test_given(header, name, hazard);
     match outcome {
         Outcome::Done => {
@@ -95,11 +97,11 @@ fn add_named(job: StoredJob, name: u16, hazard: GivenHazard) -> Change
 }
 
 // A hazard is added under a name.
-pub fn add(job: StoredJob, name: u8, hazard: GivenHazard) -> Change
+pub fn add(job: StoredJob, name: u16, hazard: GivenHazard) -> Change
     ensures { λ r. ⌜ Changes job (addTo job name (hazardGiven hazard)) r ⌝ }
 {
     if is_open_job(job) {
-        add_named(job, name as u16, hazard)
+        add_named(job, name, hazard)
     } else {
         unchanged(job, Refusal::HeaderRange(0))
     }
@@ -122,11 +124,11 @@ fn withdraw_named(job: StoredJob, name: u16) -> Change
 }
 
 // The hazard under a name is withdrawn.
-pub fn withdraw(job: StoredJob, name: u8) -> Change
+pub fn withdraw(job: StoredJob, name: u16) -> Change
     ensures { λ r. ⌜ Changes job (withdrawFrom job name) r ⌝ }
 {
     if is_open_job(job) {
-        withdraw_named(job, name as u16)
+        withdraw_named(job, name)
     } else {
         unchanged(job, Refusal::HeaderRange(0))
     }

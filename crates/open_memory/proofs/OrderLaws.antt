@@ -1,11 +1,12 @@
 -- The memory's test as the code makes it: name and hazard of each place in one pass.
 -- Assumes nothing.
-use Prim.Native.Nat.{ℕ, _+_}
+use Prim.Native.Nat.{ℕ, _+_, _≤_}
 use mathlib.Core.Path.{_≡_, refl, sym, ap, _∙_}
-use mathlib.Core.Bool.{Bool, true, false, _&&_, not, and-false}
+use mathlib.Core.Bool.{Bool, true, false, _&&_, not, and-true, and-false}
 use mathlib.Core.List.{List, [], _∷_}
 use lib.ListN.{drop}
 use lib.Dec.{leb}
+use borrow.Author.Tests.{le-leb}
 use Rattle.refusal.specs.Choice.{allOf}
 use Rattle.refusal.specs.Answer.{unless-refuse, isAccepted}
 use Rattle.job.specs.declared.Header.{Header}
@@ -19,9 +20,9 @@ use Rattle.open_memory.specs.Steps.{inOrderFrom, allInOrder}
 module _ (h : Header) where
   -- One place, test by test.
   module _ (low : ℕ) (p : NamedHazard) where
-    pub order-ranged : hazardInRange h (unnamed p) ≡ true → (leb low (p .name) && leb (p .name) greatestName && not (standsNear h (unnamed p))) ≡ inOrderFrom h low p
+    pub order-ranged : p .name ≤ greatestName → hazardInRange h (unnamed p) ≡ true → (leb low (p .name) && not (standsNear h (unnamed p))) ≡ inOrderFrom h low p
     unfolding inOrderFrom admit testHazard
-    order-ranged e = rw e (go (leb low (p .name) && leb (p .name) greatestName) (not (standsNear h (unnamed p))))
+    order-ranged top e = rw (e, le-leb (p .name) greatestName top, and-true (leb low (p .name))) (go (leb low (p .name)) (not (standsNear h (unnamed p))))
       where
         go : (a b : Bool) → (a && b) ≡ (a && isAccepted (unless-refuse b 5 (p .name)))
         go a true = refl

@@ -72,7 +72,7 @@ module _ (h : Header) (n : ℕ) (z : Hazard) (a : Admitted h z) where
   unfolding reached reaches farther
   counted-passed = record { clear = a .passed .clear }
 
--- The hazards that stand: names that are bytes and rise, and each could be added.
+-- The hazards that stand: names that rise, and each could be added.
 abbrev pub Stand : Header → (low : ℕ) → List NamedHazard → Type 0
 Stand h low [] = Unit {0}
 Stand h low (p ∷ ps) = (low ≤ p .name) × (p .name ≤ greatestName) × Admitted h (unnamed p) × Stand h (p .name + 1) ps
@@ -81,12 +81,12 @@ pub stand-facts : (h : Header) (low : ℕ) (ps : List NamedHazard) → namesRise
 unfolding namesRise allOf
 stand-facts h low [] names may = tt
 stand-facts h low (p ∷ ps) names may =
-    let bytes = leb low (p .name) && leb (p .name) greatestName in
-    let here = and-left bytes (namesRise (p .name + 1) ps) names in (
+    let own = leb low (p .name) && leb (p .name) greatestName in
+    let here = and-left own (namesRise (p .name + 1) ps) names in (
       leb-true _ _ (and-left (leb low (p .name)) (leb (p .name) greatestName) here),
       leb-true _ _ (and-right (leb low (p .name)) (leb (p .name) greatestName) here),
       admitted h (p .name) (unnamed p) (and-left (admissible h p) (allOf (admissible h) ps) may),
-      stand-facts h (p .name + 1) ps (and-right bytes (namesRise (p .name + 1) ps) names) (and-right (admissible h p) (allOf (admissible h) ps) may),
+      stand-facts h (p .name + 1) ps (and-right own (namesRise (p .name + 1) ps) names) (and-right (admissible h p) (allOf (admissible h) ps) may),
     )
 
 pub stand-names : (h : Header) (low : ℕ) (ps : List NamedHazard) → Stand h low ps → namesRise low ps ≡ true
@@ -106,13 +106,6 @@ stand-each h low (q ∷ qs) t {p} m = go (List·Memᴰ·cases-cons m) (stand-eac
     go : (p ≡ q) ⊎ List·Memᴰ p qs → (List·Memᴰ p qs → Admitted h (unnamed p)) → Admitted h (unnamed p)
     go (inl e) r = rw e (t .2)
     go (inr k) r = r k
-
--- Rising names that are bytes: no more than there are bytes.
-pub stand-few : (h : Header) (low : ℕ) (ps : List NamedHazard) → low ≤ 256 → Stand h low ps → length ps + low ≤ 256
-stand-few h low [] l t = omega arith
-stand-few h low (p ∷ ps) l t =
-    let rest = stand-few h (p .name + 1) ps (omega (arith, t .1)) (t .3) in
-    omega (arith, t .0)
 
 -- Places in which no hazard stands
 unused-is : (p : NamedHazard) → isUnused p ≡ true → p ≡ unused

@@ -20,12 +20,12 @@ use Rattle.open_memory.specs.declared.GivenHazard.{GivenHazard}
 
 -- What stands
 
--- "Up to 256 hazards, each named by a byte 0 to 255."
+-- "Names become 0 to 65,535; 256 hazards may still stand together."
 abbrev pub mostStanding : ℕ
 mostStanding = 256
 
 abbrev pub greatestName : ℕ
-greatestName = 255
+greatestName = 65535
 
 -- The hazards that stand, with their names: the first in the memory, as many as the header's hazard count says.
 abbrev pub standing : StoredJob → List NamedHazard
@@ -63,6 +63,10 @@ madeFrom h zs = record { header = counted h (length zs); hazards = zs }
 unfoldable pub stands : (name : ℕ) → List NamedHazard → Bool
 stands name ps = someOf (λ (p : NamedHazard). eqb (p .name) name) ps
 
+-- As many stand as may stand together.
+abbrev pub isFull : List NamedHazard → Bool
+isFull ps = leb mostStanding (length ps)
+
 -- A hazard put before the first one with a greater name.
 unfoldable pub inserted : NamedHazard → List NamedHazard → List NamedHazard
 inserted p [] = p ∷ []
@@ -96,7 +100,7 @@ admit h name z = unless-refuse (hazardInRange h z) 4 name >>= λ _. testHazard h
 abbrev pub admissible : Header → NamedHazard → Bool
 admissible h p = isAccepted (admit h (p .name) (unnamed p))
 
--- Names that are bytes and rise from `low` on, so that none stands twice.
+-- Names up to the greatest that rise from `low` on, so that none stands twice.
 unfoldable pub namesRise : (low : ℕ) → List NamedHazard → Bool
 namesRise low [] = true
 namesRise low (p ∷ ps) = leb low (p .name) && leb (p .name) greatestName && namesRise (p .name + 1) ps

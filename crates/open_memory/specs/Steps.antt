@@ -19,7 +19,7 @@ use Rattle.open_memory.specs.Memory.{mostStanding, greatestName, inRange
 unfoldable pub lastInRange : Header → Bool
 lastInRange h = inRanges (lastRanges (h .kind)) (lastNumbers h) && (eqb (h .kind) 2 || eqb (h .panel) 1)
 
--- A name that is a byte from `low` on, and a hazard that could be added; and all of them, with rising names.
+-- A name from `low` on, and a hazard that could be added; and all of them, with rising names.
 unfoldable pub inOrderFrom : Header → (low : ℕ) → NamedHazard → Bool
 inOrderFrom h low p = leb low (p .name) && leb (p .name) greatestName && admissible h p
 

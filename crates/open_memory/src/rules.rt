@@ -102,14 +102,14 @@ fn given(p: NamedHazard) -> GivenHazard
     }
 }
 
-// A name that is a byte from low on, and a hazard that could be added under it.
+// A name from low on, and a hazard that could be added under it. Every name of 16 bits is one.
 fn in_order_from(h: Header, low: u32, p: NamedHazard) -> bool
     requires { ⌜ headerInRange h ≡ true ⌝ }
     ensures { λ r. ⌜ r ≡ inOrderFrom h low p ⌝ }
 {
     let name = p.name as u32;
     if hazard_in_range(h, given(p)) {
-        (low <= name) & (name <= 255) & !stands_near(h, unnamed(p))
+        (low <= name) & !stands_near(h, unnamed(p))
     } else {
         false
     }

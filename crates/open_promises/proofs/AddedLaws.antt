@@ -12,7 +12,7 @@ use Rattle.job.specs.declared.Header.{Header}
 use Rattle.job.specs.declared.Hazard.{Hazard}
 use Rattle.job.specs.declared.NamedHazard.{NamedHazard}
 use Rattle.job.specs.Job.{named, unnamed}
-use Rattle.open_memory.specs.Memory.{stands, admit}
+use Rattle.open_memory.specs.Memory.{stands, isFull, admit}
 use Rattle.open_promises.specs.Lists.{Edit, add, withdraw, Call, standAfter, standAfterAll, Added, AddedPromise, CountPromise, addedSince, editsThatCount, States, opened}
 use Rattle.open_promises.proofs.ModelLaws.{returned, follow-all}
 use Rattle.open_promises.proofs.StandingLaws.{member-first, member-last, without-cases, without-other}
@@ -23,6 +23,7 @@ use Rattle.open_promises.proofs.StandingLaws.{member-first, member-last
 record Adds (h : Header) (past : List NamedHazard) (c : Edit) (p : NamedHazard) : Type 0 where
   is : c ≡ add (p .name) (unnamed p)
   fresh : stands (p .name) past ≡ false
+  room : isFull past ≡ false
   admitted : isAccepted (admit h (p .name) (unnamed p)) ≡ true
 
 -- What stands after it: what stood and is not withdrawn, and what it adds.
@@ -33,25 +34,26 @@ module _ (h : Header) (past : List NamedHazard) (p : NamedHazard) where
   one-to : (c : Edit) → List·Memᴰ p (standAfter h past c) → StaysOrComes h past c p
   unfolding standAfter
   one-to (withdraw name) m = let w = without-cases name p past m in inl (w .0, λ e. w .1 (let same : p .name ≡ name = cc in same))
-  one-to (add name z) m = go (stands name past) (isAccepted (admit h name z)) refl refl m
+  one-to (add name z) m = go (stands name past) (isFull past) (isAccepted (admit h name z)) refl refl refl m
     where
       stays : List·Memᴰ p past → StaysOrComes h past (add name z) p
       stays k = inl (k, λ e. let w : _≡_ {A = ℕ} 0 1 = cc in omega arith)
 
-      comes : stands name past ≡ false → isAccepted (admit h name z) ≡ true → List·Memᴰ p past ⊎ List·Memᴰ p (named name z ∷ []) → StaysOrComes h past (add name z) p
-      comes e f (inl k) = stays k
-      comes e f (inr k) = inr (subst (Adds h past (add name z)) (sym (List·Memᴰ·eq-of-singleton k)) (record { is = refl; fresh = e; admitted = f }))
+      comes : stands name past ≡ false → isFull past ≡ false → isAccepted (admit h name z) ≡ true → List·Memᴰ p past ⊎ List·Memᴰ p (named name z ∷ []) → StaysOrComes h past (add name z) p
+      comes e r f (inl k) = stays k
+      comes e r f (inr k) = inr (subst (Adds h past (add name z)) (sym (List·Memᴰ·eq-of-singleton k)) (record { is = refl; fresh = e; room = r; admitted = f }))
 
-      go : (b a : Bool) → stands name past ≡ b → isAccepted (admit h name z) ≡ a → List·Memᴰ p (if b || not a then past else past ++ named name z ∷ []) → StaysOrComes h past (add name z) p
-      go true a e f k = stays k
-      go false false e f k = stays k
-      go false true e f k = comes e f (List·Memᴰ·append-cases past k)
+      go : (b r a : Bool) → stands name past ≡ b → isFull past ≡ r → isAccepted (admit h name z) ≡ a → List·Memᴰ p (if b || r || not a then past else past ++ named name z ∷ []) → StaysOrComes h past (add name z) p
+      go true r a e q f k = stays k
+      go false true a e q f k = stays k
+      go false false false e q f k = stays k
+      go false false true e q f k = comes e q f (List·Memᴰ·append-cases past k)
 
   one-from : (c : Edit) → StaysOrComes h past c p → List·Memᴰ p (standAfter h past c)
   unfolding standAfter
   one-from (withdraw name) (inl w) = without-other name p past (w .0) (λ e. w .1 (ap withdraw e))
   one-from (withdraw name) (inr a) = absurd (let e = a .is in let w : _≡_ {A = ℕ} 0 1 = cc in omega arith)
-  one-from (add name z) (inl w) = go (stands name past || not (isAccepted (admit h name z)))
+  one-from (add name z) (inl w) = go (stands name past || isFull past || not (isAccepted (admit h name z)))
     where
       go : (b : Bool) → List·Memᴰ p (if b then past else past ++ named name z ∷ [])
       go true = w .0
@@ -61,7 +63,7 @@ module _ (h : Header) (past : List NamedHazard) (p : NamedHazard) where
       let same : name ≡ p .name = cc in
       let hazard : z ≡ unnamed p = cc in
       let own : named name z ≡ p = ap₂ named same hazard in
-      rw (own, ap (λ (n : ℕ). stands n past) same ∙ a .fresh, ap₂ (λ (n : ℕ) (y : Hazard). isAccepted (admit h n y)) same hazard ∙ a .admitted) (member-last past p)
+      rw (own, ap (λ (n : ℕ). stands n past) same ∙ a .fresh, a .room, ap₂ (λ (n : ℕ) (y : Hazard). isAccepted (admit h n y)) same hazard ∙ a .admitted) (member-last past p)
 
 -- A list of edits
 
@@ -79,27 +81,27 @@ module _ (h : Header) (past : List NamedHazard) (c : Edit) (cs : List Edit) (p :
 
   went : Stands h (standAfter h past c) cs p → Stands h past (c ∷ cs) p
   unfolding standAfterAll
-  went (inr a) = inr (record { before = c ∷ a .before; since = a .since; split = ap (_∷_ c) (a .split); fresh = a .fresh; admitted = a .admitted; not-withdrawn = a .not-withdrawn })
+  went (inr a) = inr (record { before = c ∷ a .before; since = a .since; split = ap (_∷_ c) (a .split); fresh = a .fresh; room = a .room; admitted = a .admitted; not-withdrawn = a .not-withdrawn })
   went (inl w) = go (one-to h past p c (w .0))
     where
       go : StaysOrComes h past c p → Stands h past (c ∷ cs) p
       go (inl k) = inl (k .0, none-withdraws (k .1) (w .1))
-      go (inr k) = inr (record { before = []; since = cs; split = ap (λ (x : Edit). x ∷ cs) (k .is); fresh = k .fresh; admitted = k .admitted; not-withdrawn = w .1 })
+      go (inr k) = inr (record { before = []; since = cs; split = ap (λ (x : Edit). x ∷ cs) (k .is); fresh = k .fresh; room = k .room; admitted = k .admitted; not-withdrawn = w .1 })
 
   came : Stands h past (c ∷ cs) p → Stands h (standAfter h past c) cs p
   unfolding standAfterAll
   came (inl w) = inl (one-from h past p c (inl (w .0, λ e. w .1 (List·Memᴰ·head e))), λ k. w .1 (List·Memᴰ·tail k))
-  came (inr a) = go (a .before) (a .split) (a .fresh)
+  came (inr a) = go (a .before) (a .split) (a .fresh) (a .room)
     where
-      go : (before : List Edit) → c ∷ cs ≡ before ++ add (p .name) (unnamed p) ∷ a .since → stands (p .name) (standAfterAll h past before) ≡ false → Stands h (standAfter h past c) cs p
-      go [] e f =
+      go : (before : List Edit) → c ∷ cs ≡ before ++ add (p .name) (unnamed p) ∷ a .since → stands (p .name) (standAfterAll h past before) ≡ false → isFull (standAfterAll h past before) ≡ false → Stands h (standAfter h past c) cs p
+      go [] e f r =
           let first : c ≡ add (p .name) (unnamed p) = cc in
           let rest : a .since ≡ cs = cc in
-          inl (one-from h past p c (inr (record { is = first; fresh = f; admitted = a .admitted })), rw rest at (a .not-withdrawn))
-      go (b ∷ bs) e f =
+          inl (one-from h past p c (inr (record { is = first; fresh = f; room = r; admitted = a .admitted })), rw rest at (a .not-withdrawn))
+      go (b ∷ bs) e f r =
           let first : b ≡ c = cc in
           let rest : cs ≡ bs ++ add (p .name) (unnamed p) ∷ a .since = cc in
-          inr (record { before = bs; since = a .since; split = rest; fresh = rw first at f; admitted = a .admitted; not-withdrawn = a .not-withdrawn })
+          inr (record { before = bs; since = a .since; split = rest; fresh = rw first at f; room = rw first at r; admitted = a .admitted; not-withdrawn = a .not-withdrawn })
 
 list-to : (h : Header) (past : List NamedHazard) (cs : List Edit) (p : NamedHazard) → List·Memᴰ p (standAfterAll h past cs) → Stands h past cs p
 unfolding standAfterAll

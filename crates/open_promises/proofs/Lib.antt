@@ -6,3 +6,4 @@ pub mod MemoryLaws
 pub mod ListLaws
 pub mod MeaningLaws
 pub mod BeforeLaws
+pub mod NamesLaws

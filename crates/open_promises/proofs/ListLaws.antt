@@ -1,16 +1,17 @@
 -- The promises for lists of calls.
 -- Assumes nothing.
-use Prim.Native.Nat.{ℕ, _≤_}
+use Prim.Native.Nat.{ℕ, _≤_, _<_}
 use native.Mathlib.Omega.{arith}
 use mathlib.Core.Path.{_≡_, refl, sym, ap, subst, _∙_}
 use mathlib.Core.Logic.{_↔_}
 use mathlib.Core.Bool.{Bool, true, false, not}
 use mathlib.Core.List.{List, [], _∷_, _++_, map, List·Memᴰ, Memᴰ·map, Memᴰ·of-map}
-use lib.ListN.{length, set, replicate, length-map, length-set}
+use lib.ListN.{length, set, replicate, length-map, length-set, length-take}
 use lib.Seq.{getD-set-same, getD-set-other}
 use lib.Dec.{leb}
-use borrow.Author.Tests.{leb-true, leb-false}
+use borrow.Author.Tests.{leb-true, leb-false, lt-leb}
 use Rattle.refusal.specs.Answer.{Answer, accepted, refused, _>>=_, unless-refuse}
+use Rattle.refusal.specs.Limits.{limits}
 use Rattle.refusal.proofs.TestLaws.{not-both}
 use Rattle.refusal.proofs.AnswerLaws.{bound, tested}
 use Rattle.job.specs.declared.Header.{Header}
@@ -22,38 +23,31 @@ use Rattle.job.specs.Reply.{headerAt}
 use Rattle.job.proofs.JobLaws.{HeaderFits}
 use Rattle.job.proofs.RestLaws.{job-step}
 use Rattle.job.proofs.OpeningLaws.{job-header, header-done, opening-empty}
-use Rattle.planning.specs.Envelope.{testHazards, acceptJobBy, acceptJob}
+use Rattle.planning.specs.Envelope.{acceptJob}
 use Rattle.planning.proofs.EnvelopeLaws.{accepted-fits}
+use Rattle.planning.proofs.LimitLaws.{accepted-read}
 use Rattle.planning.proofs.AcceptedLaws.{fitting-accepted}
-use Rattle.open_memory.specs.Memory.{standing, counted, laidOut, madeFrom, stands, inserted, without, admit, isOpenJob}
+use Rattle.open_memory.specs.Memory.{mostStanding, standing, counted, laidOut, madeFrom, stands, isFull, inserted, without, admit, isOpenJob}
 use Rattle.open_memory.proofs.RuleLaws.{Admitted, Stand, stand-each, open-header, open-standing}
 use Rattle.open_memory.proofs.PlaceLaws.{without-stand}
 use Rattle.open_job.specs.Open.{openJob, addTo, withdrawFrom, scheduleOf, memoryAfter, replied}
 use Rattle.open_job.proofs.CallLaws.{opening-read}
-use Rattle.open_job.proofs.LayoutLaws.{laid-standing, laid-few, laid-open, add-laid, withdraw-laid, schedule-laid}
+use Rattle.open_job.proofs.LayoutLaws.{laid-standing, laid-open, add-laid, withdraw-laid, schedule-laid}
 use Rattle.kept_states.specs.declared.KeptState.{KeptState}
 use Rattle.kept_states.specs.declared.OpenStates.{OpenStates}
 use Rattle.kept_states.specs.States.{mostKept, greatestStateNumber, nothingKept, keptFrom, stateOf, isUsed, keptSound, keptStates, keptUnder, statesFrom, areOpenStates, openStatesBy, openStates, addIn, withdrawIn, scheduleIn, keepIn, returnIn}
 use Rattle.kept_states.proofs.StateLaws.{kept-under, none-above, states-sound, now-open, each-sound}
-use Rattle.open_promises.specs.Lists.{add, withdraw, Call, edit, schedule, keepAs, returnTo, Kept, nothing, state, States, isKept, opened, statesAfterAll, hazardsAfter, addedSince, afterCall, afterCalls, CallsFrom, AnswersAs, SchedulePromise, Holds, HoldsKept, Standing, StandingPromise, AgainPromise, ReturnPromise, UntouchedPromise, KeepPromise}
+use Rattle.open_promises.specs.Lists.{add, withdraw, Call, edit, schedule, keepAs, returnTo, Kept, nothing, state, States, isKept, opened, statesAfterAll, hazardsAfter, addedSince, afterCall, afterCalls, CallsFrom, AnswersAs, SchedulePromise, Holds, HoldsKept, Standing, StandingPromise, AgainPromise, RoomPromise, ReturnPromise, UntouchedPromise, KeepPromise}
 use Rattle.open_promises.proofs.SameLaws.{made-fits, same-plans}
 use Rattle.open_promises.proofs.ModelLaws.{returned}
-use Rattle.open_promises.proofs.StandingLaws.{Agree, stands-same, without-stands, placedAfter}
+use Rattle.open_promises.proofs.StandingLaws.{Agree, stand-distinct, stands-same, without-stands, without-length, one-less, placedAfter}
 use Rattle.open_promises.proofs.MemoryLaws.{AgreeKept, laidKept, agree-stand, kept-used, not-used, laid-states, Follows, follows-all, follows-opened}
 
 -- An empty job with an accepted header opens, and nothing stands.
 
-accepted-read : (s : List ℕ) (j : Job) → acceptJob s ≡ accepted j → readJob s ≡ accepted j
-unfolding acceptJobBy
-accepted-read s j e =
-    let b1 = bound (readJob s) _ j e in
-    let b2 = bound (testHazards (b1 .first .header) 0 (b1 .first .hazards)) _ j (b1 .rest) in
-    let same : b1 .first ≡ j = let z = b2 .rest in cc in
-    b1 .taken ∙ ap accepted same
-
 pub opened-empty : (s : List ℕ) (j : Job) → acceptJob s ≡ accepted j → j .hazards ≡ [] → openJob s ≡ accepted (laidOut (j .header) [])
 opened-empty s j e none =
-    let read = accepted-read s j e in
+    let read = accepted-read limits s j e in
     let b = bound (headerAt s) (λ x. readRest (x .header) (x .header .count) [] s (x .next)) j (sym (job-step s) ∙ read) in
     let count : b .first .header .count ≡ 0 = ap (λ (h : Header). h .count) (sym (job-header s (b .taken) read)) ∙ sym (accepted-fits s j e .fits .hazards .count) ∙ ap length none in
     opening-read s ∙ rw (opening-empty s (b .taken) count, header-done s read)
@@ -65,16 +59,19 @@ states-empty s j e none = rw (opened-empty s j e none)
 -- The replies on memory that is laid out.
 
 module _ (h : Header) (fits : HeaderFits h) {ps past : List NamedHazard} (k : Agree h ps past) where
-  add-replied : (name : ℕ) (z : Hazard) → replied (addTo (laidOut h ps) name z) ≡ (unless-refuse (not (stands name past)) 12 name >>= λ _. admit h name z >>= λ _. accepted 0)
-  add-replied name z = ap replied (add-laid h ps fits (k .rules) name z) ∙ rw (stands-same h k name) (go (stands name past) (admit h name z))
+  add-replied : (name : ℕ) (z : Hazard) → replied (addTo (laidOut h ps) name z) ≡ (unless-refuse (not (stands name past)) 12 name >>= λ _. unless-refuse (not (isFull past)) 15 0 >>= λ _. admit h name z >>= λ _. accepted 0)
+  add-replied name z = ap replied (add-laid h ps fits (k .rules) (k .few) name z) ∙ rw (stands-same h k name, k .number) (go (stands name past) (isFull past) (admit h name z))
     where
-      go : (b : Bool) (a : Answer (Unit {0})) → replied (unless-refuse (not b) 12 name >>= λ _. a >>= λ _. accepted (laidOut h (inserted (named name z) ps))) ≡ (unless-refuse (not b) 12 name >>= λ _. a >>= λ _. accepted 0)
-      go true a = refl
-      go false (accepted u) = refl
-      go false (refused n v) = refl
+      go : (b f : Bool) (a : Answer (Unit {0}))
+          → replied (unless-refuse (not b) 12 name >>= λ _. unless-refuse (not f) 15 0 >>= λ _. a >>= λ _. accepted (laidOut h (inserted (named name z) ps)))
+          ≡ (unless-refuse (not b) 12 name >>= λ _. unless-refuse (not f) 15 0 >>= λ _. a >>= λ _. accepted 0)
+      go true f a = refl
+      go false true a = refl
+      go false false (accepted u) = refl
+      go false false (refused n v) = refl
 
   withdraw-replied : (name : ℕ) → replied (withdrawFrom (laidOut h ps) name) ≡ (unless-refuse (stands name past) 12 name >>= λ _. accepted 0)
-  withdraw-replied name = ap replied (withdraw-laid h ps fits (k .rules) name) ∙ rw (stands-same h k name) (go (stands name past))
+  withdraw-replied name = ap replied (withdraw-laid h ps fits (k .rules) (k .few) name) ∙ rw (stands-same h k name) (go (stands name past))
     where
       go : (b : Bool) → replied (unless-refuse b 12 name >>= λ _. accepted (laidOut h (without name ps))) ≡ (unless-refuse b 12 name >>= λ _. accepted 0)
       go true = refl
@@ -83,7 +80,8 @@ module _ (h : Header) (fits : HeaderFits h) {ps past : List NamedHazard} (k : Ag
   holds : Holds h past (laidOut h ps)
   holds = record {
     layout = ap (laidOut h) (sym (laid-standing h ps));
-    few = omega (arith, laid-few h ps fits (k .rules), k .number);
+    few = omega (arith, k .few, k .number);
+    many = ap length (laid-standing h ps) ∙ k .number;
     each = λ p. rw (laid-standing h ps) (k .same p);
   }
 
@@ -179,8 +177,8 @@ module _ (s : List ℕ) (j : Job) (calls : List Call) (m : OpenStates) (from : C
   answers zs most each = record {
     is-accepted = fitting-accepted (madeFrom (j .header) zs) (made-fits (j .header) zs fits most (λ z k. may z (back z k)));
     schedule = λ side room.
-        schedule-now m good side room ∙ ap (λ (a : StoredJob). scheduleOf a side room) (done .laid .now) ∙ schedule-laid (j .header) (placed .now) fits (standing-now .rules) side room
-        ∙ same-plans (j .header) fits (map unnamed (placed .now)) zs (rw (length-map (placed .now) unnamed) (laid-few (j .header) (placed .now) fits (standing-now .rules))) most may (λ z k. each z .1 (across z (λ p. standing-now .same p .0) k)) back side room;
+        schedule-now m good side room ∙ ap (λ (a : StoredJob). scheduleOf a side room) (done .laid .now) ∙ schedule-laid (j .header) (placed .now) fits (standing-now .rules) (standing-now .few) side room
+        ∙ same-plans (j .header) fits (map unnamed (placed .now)) zs (rw (length-map (placed .now) unnamed) (standing-now .few)) most may (λ z k. each z .1 (across z (λ p. standing-now .same p .0) k)) back side room;
   }
     where
       standing-now : Agree (j .header) (placed .now) (hazardsAfter (j .header) calls .now)
@@ -249,44 +247,78 @@ untouched-promise m (schedule side room) number other = refl
 untouched-promise m (keepAs n) number other = keep-kept m number n (λ e. other (ap keepAs e)) (areOpenStates m) (leb n greatestStateNumber)
 untouched-promise m (returnTo n) number other = return-kept m number (stateOf (m .now .header) (keptUnder m n)) (areOpenStates m) (leb n greatestStateNumber) (isUsed (keptUnder m n))
 
--- A name that is withdrawn stands no more.
+-- After a withdrawal its name stands no more, and there is room.
 
 sound-counted : (h : Header) (n : ℕ) (k : KeptState) → keptSound h k ≡ keptSound (counted h n) k
 unfolding keptSound
 sound-counted h n k = refl
 
-module _ (m : OpenStates) (good : areOpenStates m ≡ true) (name : ℕ) where
+module _ (m : OpenStates) (good : areOpenStates m ≡ true) (name : ℕ) (stood : stands name (standing (m .now)) ≡ true) where
   abbrev left : List NamedHazard
   left = without name (standing (m .now))
 
+  old : Stand (m .now .header) 0 (standing (m .now))
+  old = open-standing (m .now) (now-open m good)
+
   rules : Stand (m .now .header) 0 left
-  rules = without-stand (m .now .header) 0 name (standing (m .now)) (open-standing (m .now) (now-open m good))
+  rules = without-stand (m .now .header) 0 name (standing (m .now)) old
 
   header : HeaderFits (m .now .header)
   header = open-header (m .now) (now-open m good)
 
-  left-open : areOpenStates (statesFrom (laidOut (m .now .header) left) (keptStates m)) ≡ true
+  fewer : length left < mostStanding
+  fewer = omega (arith, one-less name (standing (m .now)) (stand-distinct (m .now .header) 0 (standing (m .now)) old) stood, header .count, length-take (m .now .header .count) (m .now .hazards))
+
+  abbrev next : OpenStates
+  next = statesFrom (laidOut (m .now .header) left) (keptStates m)
+
+  left-open : areOpenStates next ≡ true
   left-open =
-      states-sound (statesFrom (laidOut (m .now .header) left) (keptStates m)) (laid-open (m .now .header) left header rules)
+      states-sound next (laid-open (m .now .header) left header rules (omega (arith, fewer)))
       (λ number. sym (sound-counted (m .now .header) (length left) (keptUnder m number)) ∙ each-sound m good number)
 
-  added-again : (z : Hazard) → replied (addTo (laidOut (m .now .header) left) name z) ≡ (admit (m .now .header) name z >>= λ _. accepted 0)
-  added-again z = ap replied (add-laid (m .now .header) left header rules name z) ∙ rw (without-stands name (standing (m .now))) (go (admit (m .now .header) name z))
+  -- So an add is refused by its name and its hazard alone.
+  next-added : (other : ℕ) (z : Hazard) → replied (addIn next other z) ≡ (unless-refuse (not (stands other left)) 12 other >>= λ _. admit (m .now .header) other z >>= λ _. accepted 0)
+  next-added other z =
+      add-now next left-open other z ∙ ap replied (add-laid (m .now .header) left header rules (omega (arith, fewer)) other z)
+      ∙ rw (lt-leb mostStanding (length left) fewer) (go (stands other left) (admit (m .now .header) other z))
     where
-      go : (a : Answer (Unit {0})) → replied (a >>= λ _. accepted (laidOut (m .now .header) (inserted (named name z) (without name (standing (m .now)))))) ≡ (a >>= λ _. accepted 0)
-      go (accepted u) = refl
-      go (refused n v) = refl
+      go : (b : Bool) (a : Answer (Unit {0}))
+          → replied (unless-refuse (not b) 12 other >>= λ _. a >>= λ _. accepted (laidOut (m .now .header) (inserted (named other z) left)))
+          ≡ (unless-refuse (not b) 12 other >>= λ _. a >>= λ _. accepted 0)
+      go true a = refl
+      go false (accepted u) = refl
+      go false (refused n v) = refl
 
-pub again-promise : AgainPromise
+-- A withdrawal that is not refused.
+record Withdrawn (m after : OpenStates) (name : ℕ) : Type 0 where
+  good : areOpenStates m ≡ true
+  stood : stands name (standing (m .now)) ≡ true
+  same : next m good name stood ≡ after
+
+withdrawn : (m after : OpenStates) (name : ℕ) → withdrawIn m name ≡ accepted after → Withdrawn m after name
 unfolding withdrawIn withdrawFrom
-again-promise m next name e z =
-    let b1 = bound (unless-refuse (areOpenStates m) 3 0) _ next e in
-    let good = tested (areOpenStates m) 3 0 (b1 .first) (b1 .taken) in
-    let b2 = bound (withdrawFrom (m .now) name) _ next (b1 .rest) in
+withdrawn m after name e =
+    let b1 = bound (unless-refuse (areOpenStates m) 3 0) _ after e in
+    let b2 = bound (withdrawFrom (m .now) name) _ after (b1 .rest) in
     let b3 = bound (unless-refuse (isOpenJob (m .now)) 3 0) _ (b2 .first) (b2 .taken) in
     let b4 = bound (unless-refuse (stands name (standing (m .now))) 12 name) _ (b2 .first) (b3 .rest) in
     let now : laidOut (m .now .header) (without name (standing (m .now))) ≡ b2 .first = let q = b4 .rest in cc in
-    let same : statesFrom (b2 .first) (keptStates m) ≡ next = let q = b2 .rest in cc in
-    let whole = ap (λ (a : StoredJob). statesFrom a (keptStates m)) now ∙ same in
-    subst (λ (n : OpenStates). replied (addIn n name z) ≡ (admit (m .now .header) name z >>= λ _. accepted 0)) whole
-    (add-now (statesFrom (laidOut (m .now .header) (without name (standing (m .now)))) (keptStates m)) (left-open m good name) name z ∙ added-again m good name z)
+    let same : statesFrom (b2 .first) (keptStates m) ≡ after = let q = b2 .rest in cc in
+    record {
+      good = tested (areOpenStates m) 3 0 (b1 .first) (b1 .taken);
+      stood = tested (stands name (standing (m .now))) 12 name (b4 .first) (b4 .taken);
+      same = ap (λ (a : StoredJob). statesFrom a (keptStates m)) now ∙ same;
+    }
+
+pub again-promise : AgainPromise
+again-promise m after name e z =
+    let w = withdrawn m after name e in
+    subst (λ (n : OpenStates). replied (addIn n name z) ≡ (admit (m .now .header) name z >>= λ _. accepted 0)) (w .same)
+    (next-added m (w .good) name (w .stood) name z ∙ rw (without-stands name (standing (m .now))))
+
+pub room-promise : RoomPromise
+room-promise m after name e other z =
+    let w = withdrawn m after name e in
+    subst (λ (n : OpenStates). replied (addIn n other z) ≡ (unless-refuse (not (stands other (standing (n .now)))) 12 other >>= λ _. admit (m .now .header) other z >>= λ _. accepted 0)) (w .same)
+    (next-added m (w .good) name (w .stood) other z ∙ rw (laid-standing (m .now .header) (without name (standing (m .now)))))

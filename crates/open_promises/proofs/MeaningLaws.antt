@@ -7,9 +7,9 @@ use mathlib.Core.Path.{_≡_, refl, sym, ap, subst, _∙_}
 use mathlib.Core.Logic.{_⊎_, inl, inr}
 use mathlib.Core.Bool.{true}
 use mathlib.Core.List.{List, [], _∷_, _++_, map, append-assoc, append-nil, List·Memᴰ, List·Memᴰ·head, List·Memᴰ·tail, List·Memᴰ·cases-cons, List·Memᴰ·not-nil, List·Memᴰ·append-cases, Memᴰ·of-map}
-use lib.ListN.{length, getD, replicate}
+use lib.ListN.{length, getD, replicate, length-append, length-take}
 use lib.Dec.{eqb}
-use borrow.Author.Tests.{le-leb, le-ltb, eqb-true, eq-eqb, ne-eqb}
+use borrow.Author.Tests.{le-leb, lt-leb, le-ltb, eqb-true, eq-eqb, ne-eqb}
 use Rattle.refusal.specs.Choice.{if_then_else_, keep}
 use Rattle.refusal.specs.Answer.{Answer, accepted}
 use Rattle.job.specs.declared.Header.{Header}
@@ -19,7 +19,7 @@ use Rattle.job.specs.Writing.{writeJob}
 use Rattle.job.proofs.JobLaws.{HeaderFits}
 use Rattle.planning.specs.Envelope.{acceptJob}
 use Rattle.planning.proofs.AcceptedLaws.{fitting-accepted}
-use Rattle.open_memory.specs.Memory.{standing, counted, laidOut, madeFrom, inserted, without, isOpenJob}
+use Rattle.open_memory.specs.Memory.{mostStanding, standing, counted, laidOut, madeFrom, inserted, without, isOpenJob}
 use Rattle.open_memory.proofs.RangeLaws.{counted-fits}
 use Rattle.open_memory.proofs.RuleLaws.{Admitted, admits, counted-hazard, counted-passed, Stand}
 use Rattle.open_memory.proofs.PlaceLaws.{none-below}
@@ -76,18 +76,19 @@ middle h low [] p ps t = t .2
 middle h low (q ∷ qs) p ps t = middle h (q .name + 1) qs p ps (t .3)
 
 module _ (h : Header) where
-  add-last : (qs : List NamedHazard) (p : NamedHazard) (ps : List NamedHazard) → Stand h 0 (qs ++ p ∷ ps) → placedAfter h qs (add (p .name) (unnamed p)) ≡ qs ++ p ∷ []
+  add-last : (qs : List NamedHazard) (p : NamedHazard) (ps : List NamedHazard) → Stand h 0 (qs ++ p ∷ ps) → length qs < mostStanding → placedAfter h qs (add (p .name) (unnamed p)) ≡ qs ++ p ∷ []
   unfolding placedAfter
-  add-last qs p ps t =
+  add-last qs p ps t room =
       let less : (q : NamedHazard) → List·Memᴰ q qs → q .name < p .name = λ q m. below h 0 qs p ps t m in
       let fresh = stands-intro (p .name) qs (λ q m e. omega (arith, less q m)) in
-      rw (fresh, admits h (p .name) (unnamed p) (middle h 0 qs p ps t)) (last-inserted p qs less)
+      rw (fresh, lt-leb mostStanding (length qs) room, admits h (p .name) (unnamed p) (middle h 0 qs p ps t)) (last-inserted p qs less)
 
-  adds-leave : (qs ps : List NamedHazard) → Stand h 0 (qs ++ ps) → placedAfterAll h qs (adds ps) ≡ qs ++ ps
+  adds-leave : (qs ps : List NamedHazard) → Stand h 0 (qs ++ ps) → length qs + length ps ≤ mostStanding → placedAfterAll h qs (adds ps) ≡ qs ++ ps
   unfolding adds placedAfterAll
-  adds-leave qs [] t = sym (append-nil qs)
-  adds-leave qs (p ∷ ps) t =
-      ap (λ (l : List NamedHazard). placedAfterAll h l (adds ps)) (add-last qs p ps t) ∙ adds-leave (qs ++ p ∷ []) ps (rw (append-assoc qs (p ∷ []) ps) t) ∙ append-assoc qs (p ∷ []) ps
+  adds-leave qs [] t few = sym (append-nil qs)
+  adds-leave qs (p ∷ ps) t few =
+      ap (λ (l : List NamedHazard). placedAfterAll h l (adds ps)) (add-last qs p ps t (omega arith))
+      ∙ adds-leave (qs ++ p ∷ []) ps (rw (append-assoc qs (p ∷ []) ps) t) (omega (arith, length-append qs (p ∷ []))) ∙ append-assoc qs (p ∷ []) ps
 
   withdraw-first : (low : ℕ) (p : NamedHazard) (ps : List NamedHazard) → Stand h low (p ∷ ps) → placedAfter h (p ∷ ps) (withdraw (p .name)) ≡ ps
   unfolding placedAfter without keep
@@ -130,13 +131,13 @@ module _ (h : Header) (what : ℕ → Kept (List NamedHazard)) (rules : (number 
     others : (k : ℕ) → n ≤ k → t .kept k ≡ nothing
 
   -- One more is kept.
-  whole : (n : ℕ) (t : States (List NamedHazard)) (ps : List NamedHazard) → n ≤ 7 → t .now ≡ [] → Stand h 0 ps
+  whole : (n : ℕ) (t : States (List NamedHazard)) (ps : List NamedHazard) → n ≤ 7 → t .now ≡ [] → Stand h 0 ps → length ps ≤ mostStanding
       → statesAfterAll (placedAfter h) t (keepOne (state ps) n) ≡ record { now = []; kept = λ k. if eqb n k then state ps else t .kept k }
   unfolding keepOne statesAfterAll
-  whole n t ps most none r =
+  whole n t ps most none r few =
       let back = map edit (withdrawals ps) in
       let filled : statesAfterAll (placedAfter h) t (map edit (adds ps)) ≡ record { now = ps; kept = t .kept } =
-      edits-leave h t (adds ps) ∙ ap (λ (l : List NamedHazard). record { now = l; kept = t .kept }) (ap (λ (l : List NamedHazard). placedAfterAll h l (adds ps)) none ∙ adds-leave h [] ps r) in
+      edits-leave h t (adds ps) ∙ ap (λ (l : List NamedHazard). record { now = l; kept = t .kept }) (ap (λ (l : List NamedHazard). placedAfterAll h l (adds ps)) none ∙ adds-leave h [] ps r (omega arith)) in
       after-append (placedAfter h) t (map edit (adds ps)) (keepAs n ∷ back)
       ∙ ap (λ (u : States (List NamedHazard)). statesAfterAll (placedAfter h) u (keepAs n ∷ back)) filled
       ∙ ap (λ (u : States (List NamedHazard)). statesAfterAll (placedAfter h) u back) kept
@@ -155,7 +156,7 @@ module _ (h : Header) (what : ℕ → Kept (List NamedHazard)) (rules : (number 
           there : (k : ℕ) → Dec (n ≡ k) → k < suc n → t .kept k ≡ what k
           there k (yes q) l = b .others k (omega arith) ∙ sym (ap what (sym q) ∙ e)
           there k (no q) l = b .lower k (omega arith)
-      go (state ps) e r = subst (KeptBelow (suc n)) (sym (whole n t ps most (b .now) r)) (record { now = refl; lower = λ k l. there k (ℕ-discrete n k) l; others = λ k l. beyond k l })
+      go (state ps) e r = subst (KeptBelow (suc n)) (sym (whole n t ps most (b .now) (r .0) (r .1))) (record { now = refl; lower = λ k l. there k (ℕ-discrete n k) l; others = λ k l. beyond k l })
         where
           there : (k : ℕ) → Dec (n ≡ k) → k < suc n → (if eqb n k then state ps else t .kept k) ≡ what k
           there k (yes q) l = rw (eq-eqb n k q) (sym (ap what (sym q) ∙ e))
@@ -209,7 +210,7 @@ withdrawals-nameable (p ∷ ps) e m = go (List·Memᴰ·cases-cons m) (withdrawa
 makes-one : (h : Header) (x : Kept (List NamedHazard)) (n : ℕ) → StandKept h x → Makes (keepOne x n)
 unfolding keepOne
 makes-one h nothing n r = λ e m. absurd (List·Memᴰ·not-nil m)
-makes-one h (state ps) n r = makes-both (map edit (adds ps)) (keepAs n ∷ map edit (withdrawals ps)) (makes-edits (adds ps) (adds-nameable h 0 ps r)) rest
+makes-one h (state ps) n r = makes-both (map edit (adds ps)) (keepAs n ∷ map edit (withdrawals ps)) (makes-edits (adds ps) (adds-nameable h 0 ps (r .0))) rest
   where
     rest : Makes (keepAs n ∷ map edit (withdrawals ps))
     rest e m = go (List·Memᴰ·cases-cons m)
@@ -249,7 +250,7 @@ told h k size (inr w) =
     let used : k .used ≡ 1 = eqb-true _ _ (w .0) in
     record {
       what = state (standing a);
-      rules = stand-counted (a .header) 0 0 (standing a) (r .hazards);
+      rules = (stand-counted (a .header) 0 0 (standing a) (r .hazards), omega (arith, r .header .count, length-take (a .header .count) (a .hazards)));
       same = (λ i. record { used = used i; count = k .count; hazards = k .hazards }) ∙ ap keptFrom (r .layout);
     }
 
@@ -273,6 +274,9 @@ module _ (m : OpenStates) (good : areOpenStates m ≡ true) (size : length (m .n
 
   rules : Stand h 0 (standing (m .now))
   rules = stand-counted (m .now .header) 0 0 (standing (m .now)) (now .hazards)
+
+  few : length (standing (m .now)) ≤ mostStanding
+  few = omega (arith, now .header .count, length-take (m .now .header .count) (m .now .hazards))
 
   under : (number : ℕ) → Told h (keptUnder m number)
   under number = told (m .now .header) (keptUnder m number) (size-under number) (sound-cases (keptUnder m number) (m .now .header) (each-sound m good number))
@@ -300,7 +304,7 @@ module _ (m : OpenStates) (good : areOpenStates m ≡ true) (size : length (m .n
   last-is =
       let t = statesAfterAll (placedAfter h) (opened []) (keepBelow (λ number. under number .what) 8) in
       after-append (placedAfter h) (opened []) (keepBelow (λ number. under number .what) 8) (map edit (adds (standing (m .now)))) ∙ edits-leave h t (adds (standing (m .now)))
-      ∙ ap (λ (l : List NamedHazard). record { now = l; kept = t .kept }) (ap (λ (l : List NamedHazard). placedAfterAll h l (adds (standing (m .now)))) (all-kept .now) ∙ adds-leave h [] (standing (m .now)) rules)
+      ∙ ap (λ (l : List NamedHazard). record { now = l; kept = t .kept }) (ap (λ (l : List NamedHazard). placedAfterAll h l (adds (standing (m .now)))) (all-kept .now) ∙ adds-leave h [] (standing (m .now)) rules (omega (arith, few)))
 
   kept-is : (number : ℕ) → keptUnder m number ≡ laidKept h (last .kept number)
   kept-is number = go (decLt number 8) ∙ sym (ap (λ (t : States (List NamedHazard)). laidKept h (t .kept number)) last-is)

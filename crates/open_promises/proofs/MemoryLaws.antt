@@ -16,7 +16,7 @@ use Rattle.job.specs.declared.Header.{Header}
 use Rattle.job.specs.declared.NamedHazard.{NamedHazard}
 use Rattle.job.specs.declared.StoredJob.{StoredJob}
 use Rattle.job.proofs.JobLaws.{HeaderFits}
-use Rattle.open_memory.specs.Memory.{counted, laidOut, isOpenJob}
+use Rattle.open_memory.specs.Memory.{mostStanding, counted, laidOut, isOpenJob}
 use Rattle.open_memory.proofs.RuleLaws.{Stand}
 use Rattle.open_job.specs.Open.{memoryAfter, addTo, withdrawFrom}
 use Rattle.open_job.proofs.LayoutLaws.{laid-open}
@@ -76,19 +76,20 @@ pub record Laid (h : Header) (t : States (List NamedHazard)) (m : OpenStates) : 
 -- The rules, of each state.
 abbrev pub StandKept : Header → Kept (List NamedHazard) → Type 0
 StandKept h nothing = Unit {0}
-StandKept h (state ps) = Stand h 0 ps
+StandKept h (state ps) = Stand h 0 ps × (length ps ≤ mostStanding)
 
 pub record StandAll (h : Header) (t : States (List NamedHazard)) : Type 0 where
   pub now : Stand h 0 (t .now)
+  pub few : length (t .now) ≤ mostStanding
   pub kept : (number : ℕ) → StandKept h (t .kept number)
 
 pub agree-stand : (h : Header) (t s : States (List NamedHazard)) → AgreeAll h t s → StandAll h t
-agree-stand h t s both = record { now = both .now .rules; kept = λ number. go (t .kept number) (s .kept number) (both .kept number) }
+agree-stand h t s both = record { now = both .now .rules; few = both .now .few; kept = λ number. go (t .kept number) (s .kept number) (both .kept number) }
   where
     go : (x y : Kept (List NamedHazard)) → AgreeKept h x y → StandKept h x
     go nothing y a = tt
     go (state ps) nothing a = absurd a
-    go (state ps) (state past) a = a .rules
+    go (state ps) (state past) a = (a .rules, a .few)
 
 pub not-used : isUsed nothingKept ≡ false
 unfolding isUsed
@@ -101,11 +102,11 @@ module _ (h : Header) (fits : HeaderFits h) where
 
   module _ {t : States (List NamedHazard)} {m : OpenStates} (laid : Laid h t m) (rules : StandAll h t) where
     pub laid-states : areOpenStates m ≡ true
-    laid-states = states-sound m (ap isOpenJob (laid .now) ∙ laid-open h (t .now) fits (rules .now)) one
+    laid-states = states-sound m (ap isOpenJob (laid .now) ∙ laid-open h (t .now) fits (rules .now) (rules .few)) one
       where
         go : (x : Kept (List NamedHazard)) → StandKept h x → (n : ℕ) → keptSound (counted h n) (laidKept h x) ≡ true
         go nothing r n = nothing-sound (counted h n)
-        go (state ps) r n = sym (sound-used (keptFrom (laidOut h ps)) (counted h n) (kept-used ps)) ∙ laid-open h ps fits r
+        go (state ps) r n = sym (sound-used (keptFrom (laidOut h ps)) (counted h n) (kept-used ps)) ∙ laid-open h ps fits (r .0) (r .1)
 
         one : (number : ℕ) → keptSound (m .now .header) (keptUnder m number) ≡ true
         one number = ap₂ (λ (a : StoredJob) (k : KeptState). keptSound (a .header) k) (laid .now) (laid .kept number) ∙ go (t .kept number) (rules .kept number) (length (t .now))
@@ -122,7 +123,7 @@ module _ (h : Header) (fits : HeaderFits h) where
 
     laid-edit : (e : Edit) → Laid h (record { now = placedAfter h (t .now) e; kept = t .kept }) (afterCall m (edit e))
     laid-edit e = subst (Laid h (record { now = placedAfter h (t .now) e; kept = t .kept })) (sym (edit-after e)) (record {
-      now = ap (λ (a : StoredJob). memoryAfter (edited a e) a) (laid .now) ∙ edit-memory h (t .now) fits (rules .now) e;
+      now = ap (λ (a : StoredJob). memoryAfter (edited a e) a) (laid .now) ∙ edit-memory h (t .now) fits (rules .now) (rules .few) e;
       kept = laid .kept;
     })
 
@@ -193,6 +194,6 @@ follows-all h fits t s m f (c ∷ cs) may =
 -- After an opening nothing stands, and nothing is kept.
 pub follows-opened : (h : Header) → Follows h (opened []) (opened []) (statesFrom (laidOut h []) (replicate mostKept nothingKept))
 follows-opened h = record {
-  agree = record { now = record { rules = tt; same = λ p. (λ x. x, λ x. x); number = refl; apart = tt }; kept = λ number. tt };
+  agree = record { now = record { rules = tt; few = omega arith; same = λ p. (λ x. x, λ x. x); number = refl; apart = tt }; kept = λ number. tt };
   laid = record { now = refl; kept = λ number. kept-under (laidOut h []) (replicate mostKept nothingKept) refl number ∙ none-under number };
 }

@@ -7,8 +7,8 @@ use mathlib.Core.Logic.{_⊎_, inl, inr, _↔_}
 use mathlib.Core.Bool.{Bool, true, false, _||_, not, false≢true}
 use mathlib.Core.List.{List, [], _∷_, _++_, List·Memᴰ, List·Memᴰ·head, List·Memᴰ·tail, List·Memᴰ·cases-cons, List·Memᴰ·not-nil, List·Memᴰ·append-cases, List·Memᴰ·eq-of-singleton}
 use lib.ListN.{length, length-append}
-use lib.Dec.{ltb, eqb}
-use borrow.Author.Tests.{eq-eqb, ne-eqb, eqb-true}
+use lib.Dec.{ltb, leb, eqb}
+use borrow.Author.Tests.{eq-eqb, ne-eqb, eqb-true, leb-false}
 use Rattle.refusal.specs.Choice.{if_then_else_, someOf, keep}
 use Rattle.refusal.specs.Answer.{Answer, accepted, refused, _>>=_, unless-refuse, isAccepted}
 use Rattle.refusal.proofs.TestLaws.{decided, any-elim, any-intro, keep-elim, keep-intro}
@@ -17,7 +17,7 @@ use Rattle.job.specs.declared.Hazard.{Hazard}
 use Rattle.job.specs.declared.NamedHazard.{NamedHazard}
 use Rattle.job.specs.Job.{named}
 use Rattle.job.proofs.JobLaws.{HeaderFits}
-use Rattle.open_memory.specs.Memory.{greatestName, laidOut, stands, inserted, without, admit}
+use Rattle.open_memory.specs.Memory.{mostStanding, greatestName, laidOut, stands, isFull, inserted, without, admit}
 use Rattle.job.specs.declared.StoredJob.{StoredJob}
 use Rattle.open_job.specs.Open.{memoryAfter, addTo, withdrawFrom}
 use Rattle.open_promises.specs.Lists.{Edit, add, withdraw, Nameable, standAfter}
@@ -86,11 +86,11 @@ without-other name x ps m differ = keep-intro (λ (p : NamedHazard). not (eqb (p
 
 -- Names by which no two hazards stand
 
-abbrev Distinct : List NamedHazard → Type 0
+abbrev pub Distinct : List NamedHazard → Type 0
 Distinct [] = Unit {0}
 Distinct (p ∷ ps) = (stands (p .name) ps ≡ false) × Distinct ps
 
-stand-distinct : (h : Header) (low : ℕ) (ps : List NamedHazard) → Stand h low ps → Distinct ps
+pub stand-distinct : (h : Header) (low : ℕ) (ps : List NamedHazard) → Stand h low ps → Distinct ps
 stand-distinct h low [] t = tt
 stand-distinct h low (p ∷ ps) t = (none-below h (p .name + 1) (p .name) ps (t .3) (omega arith), stand-distinct h (p .name + 1) ps (t .3))
 
@@ -106,7 +106,7 @@ stands-intro name ps none = go (decided (stands name ps))
 pub without-stands : (name : ℕ) (ps : List NamedHazard) → stands name (without name ps) ≡ false
 without-stands name ps = stands-intro name (without name ps) (λ p m. without-cases name p ps m .1)
 
-distinct-more : (past : List NamedHazard) (p : NamedHazard) → Distinct past → stands (p .name) past ≡ false → Distinct (past ++ p ∷ [])
+pub distinct-more : (past : List NamedHazard) (p : NamedHazard) → Distinct past → stands (p .name) past ≡ false → Distinct (past ++ p ∷ [])
 unfolding stands someOf
 distinct-more [] p d e = (refl, tt)
 distinct-more (q ∷ qs) p d e = (
@@ -123,8 +123,18 @@ unfolding without keep
 none-taken name [] e = refl
 none-taken name (p ∷ ps) e = rw (ne-eqb (p .name) name (other-name name (p ∷ ps) p e (List·Memᴰ·head refl))) (ap (_∷_ p) (none-taken name ps (stands-intro name ps (λ x m. other-name name (p ∷ ps) x e (List·Memᴰ·tail m)))))
 
+-- No hazard more.
+pub without-length : (name : ℕ) (ps : List NamedHazard) → length (without name ps) ≤ length ps
+unfolding without keep
+without-length name [] = omega arith
+without-length name (p ∷ ps) = go (eqb (p .name) name) (without-length name ps)
+  where
+    go : (b : Bool) → length (without name ps) ≤ length ps → length (if not b then p ∷ without name ps else without name ps) ≤ suc (length ps)
+    go true r = omega arith
+    go false r = omega arith
+
 -- One hazard less, where the name stands.
-one-less : (name : ℕ) (ps : List NamedHazard) → Distinct ps → stands name ps ≡ true → suc (length (without name ps)) ≡ length ps
+pub one-less : (name : ℕ) (ps : List NamedHazard) → Distinct ps → stands name ps ≡ true → suc (length (without name ps)) ≡ length ps
 unfolding without keep stands someOf
 one-less name [] d e = absurd (false≢true e)
 one-less name (p ∷ ps) d e = go (eqb (p .name) name) refl e (one-less name ps (d .1))
@@ -133,7 +143,7 @@ one-less name (p ∷ ps) d e = go (eqb (p .name) name) refl e (one-less name ps 
     go true q f r = ap (λ (l : List NamedHazard). suc (length l)) (none-taken name ps (ap (λ (n : ℕ). stands n ps) (sym (eqb-true _ _ q)) ∙ d .0))
     go false q f r = ap suc (r f)
 
-distinct-less : (name : ℕ) (ps : List NamedHazard) → Distinct ps → Distinct (without name ps)
+pub distinct-less : (name : ℕ) (ps : List NamedHazard) → Distinct ps → Distinct (without name ps)
 unfolding without keep
 distinct-less name [] d = tt
 distinct-less name (p ∷ ps) d = go (eqb (p .name) name) (distinct-less name ps (d .1))
@@ -145,7 +155,7 @@ distinct-less name (p ∷ ps) d = go (eqb (p .name) name) (distinct-less name ps
 -- Edits of the hazards in their places, in the order of their names.
 
 unfoldable pub placedAfter : Header → List NamedHazard → Edit → List NamedHazard
-placedAfter h ps (add name z) = if stands name ps || not (isAccepted (admit h name z)) then ps else inserted (named name z) ps
+placedAfter h ps (add name z) = if stands name ps || isFull ps || not (isAccepted (admit h name z)) then ps else inserted (named name z) ps
 placedAfter h ps (withdraw name) = without name ps
 
 abbrev pub edited : StoredJob → Edit → Answer StoredJob
@@ -153,16 +163,18 @@ edited a (add name z) = addTo a name z
 edited a (withdraw name) = withdrawFrom a name
 
 -- So the memory is changed.
-pub edit-memory : (h : Header) (ps : List NamedHazard) → HeaderFits h → Stand h 0 ps → (e : Edit) → memoryAfter (edited (laidOut h ps) e) (laidOut h ps) ≡ laidOut h (placedAfter h ps e)
+pub edit-memory : (h : Header) (ps : List NamedHazard) → HeaderFits h → Stand h 0 ps → length ps ≤ mostStanding → (e : Edit) → memoryAfter (edited (laidOut h ps) e) (laidOut h ps) ≡ laidOut h (placedAfter h ps e)
 unfolding placedAfter
-edit-memory h ps fits rules (add name z) = ap (λ (x : Answer StoredJob). memoryAfter x (laidOut h ps)) (add-laid h ps fits rules name z) ∙ go (stands name ps) (admit h name z)
+edit-memory h ps fits rules few (add name z) = ap (λ (x : Answer StoredJob). memoryAfter x (laidOut h ps)) (add-laid h ps fits rules few name z) ∙ go (stands name ps) (isFull ps) (admit h name z)
   where
-    go : (b : Bool) (a : Answer (Unit {0}))
-        → memoryAfter (unless-refuse (not b) 12 name >>= λ _. a >>= λ _. accepted (laidOut h (inserted (named name z) ps))) (laidOut h ps) ≡ laidOut h (if b || not (isAccepted a) then ps else inserted (named name z) ps)
-    go true a = refl
-    go false (accepted u) = refl
-    go false (refused k v) = refl
-edit-memory h ps fits rules (withdraw name) = ap (λ (x : Answer StoredJob). memoryAfter x (laidOut h ps)) (withdraw-laid h ps fits rules name) ∙ go (stands name ps) refl
+    go : (b f : Bool) (a : Answer (Unit {0}))
+        → memoryAfter (unless-refuse (not b) 12 name >>= λ _. unless-refuse (not f) 15 0 >>= λ _. a >>= λ _. accepted (laidOut h (inserted (named name z) ps))) (laidOut h ps)
+        ≡ laidOut h (if b || f || not (isAccepted a) then ps else inserted (named name z) ps)
+    go true f a = refl
+    go false true a = refl
+    go false false (accepted u) = refl
+    go false false (refused k v) = refl
+edit-memory h ps fits rules few (withdraw name) = ap (λ (x : Answer StoredJob). memoryAfter x (laidOut h ps)) (withdraw-laid h ps fits rules few name) ∙ go (stands name ps) refl
   where
     go : (b : Bool) → stands name ps ≡ b → memoryAfter (unless-refuse b 12 name >>= λ _. accepted (laidOut h (without name ps))) (laidOut h ps) ≡ laidOut h (without name ps)
     go true e = refl
@@ -172,6 +184,7 @@ edit-memory h ps fits rules (withdraw name) = ap (λ (x : Answer StoredJob). mem
 
 pub record Agree (h : Header) (ps past : List NamedHazard) : Type 0 where
   pub rules : Stand h 0 ps
+  pub few : length ps ≤ mostStanding
   pub same : (p : NamedHazard) → List·Memᴰ p ps ↔ List·Memᴰ p past
   pub number : length ps ≡ length past
   pub apart : Distinct past
@@ -189,13 +202,17 @@ stands-same h {ps} {past} k name = go (decided (stands name past))
 module _ (h : Header) {ps past : List NamedHazard} (k : Agree h ps past) where
   agree-add : (name : ℕ) (z : Hazard) → name ≤ greatestName → Agree h (placedAfter h ps (add name z)) (standAfter h past (add name z))
   unfolding placedAfter standAfter
-  agree-add name z top = rw (stands-same h k name) (go (stands name past) (isAccepted (admit h name z)) refl refl)
+  agree-add name z top = rw (stands-same h k name, full-same) (go (stands name past) (isFull past) (isAccepted (admit h name z)) refl refl refl)
     where
       p : NamedHazard
       p = named name z
 
-      put : stands name past ≡ false → isAccepted (admit h name z) ≡ true → Agree h (inserted p ps) (past ++ p ∷ [])
-      put e may = record {
+      full-same : isFull ps ≡ isFull past
+      full-same = ap (leb mostStanding) (k .number)
+
+      put : stands name past ≡ false → isFull past ≡ false → isAccepted (admit h name z) ≡ true → Agree h (inserted p ps) (past ++ p ∷ [])
+      put e room may = record {
+        few = omega (arith, inserted-length p ps, leb-false mostStanding (length past) room, k .number);
         rules = inserted-stand h 0 p ps (omega arith) top (admitted h name z may) (stands-same h k name ∙ e) (k .rules);
         same = λ x. (λ m. to x (inserted-cases p x ps m), λ m. inserted-member p x ps (from x (List·Memᴰ·append-cases past m)));
         number = inserted-length p ps ∙ ap suc (k .number) ∙ sym (length-append past (p ∷ []) ∙ (let n : length past + 1 ≡ suc (length past) = omega arith in n));
@@ -210,14 +227,16 @@ module _ (h : Header) {ps past : List NamedHazard} (k : Agree h ps past) where
           from x (inl m) = inr (k .same x .1 m)
           from x (inr m) = inl (List·Memᴰ·eq-of-singleton m)
 
-      go : (b a : Bool) → stands name past ≡ b → isAccepted (admit h name z) ≡ a → Agree h (if b || not a then ps else inserted p ps) (if b || not a then past else past ++ p ∷ [])
-      go true a e f = k
-      go false false e f = k
-      go false true e f = put e f
+      go : (b f a : Bool) → stands name past ≡ b → isFull past ≡ f → isAccepted (admit h name z) ≡ a → Agree h (if b || f || not a then ps else inserted p ps) (if b || f || not a then past else past ++ p ∷ [])
+      go true f a e r w = k
+      go false true a e r w = k
+      go false false false e r w = k
+      go false false true e r w = put e r w
 
   agree-withdraw : (name : ℕ) → Agree h (without name ps) (without name past)
   agree-withdraw name = record {
     rules = without-stand h 0 name ps (k .rules);
+    few = omega (arith, without-length name ps, k .few);
     same = λ x. (
       λ m. let w = without-cases name x ps m in without-other name x past (k .same x .0 (w .0)) (w .1),
       λ m. let w = without-cases name x past m in without-other name x ps (k .same x .1 (w .0)) (w .1),

@@ -18,7 +18,7 @@ use Rattle.job.specs.Job.{Job, named, unnamed}
 use Rattle.job.specs.Writing.{writeJob}
 use Rattle.planning.specs.Envelope.{acceptJob}
 use Rattle.schedule.specs.Plan.{plan}
-use Rattle.open_memory.specs.Memory.{mostStanding, greatestName, standing, laidOut, madeFrom, stands, without, admit}
+use Rattle.open_memory.specs.Memory.{mostStanding, greatestName, standing, laidOut, madeFrom, stands, isFull, without, admit}
 use Rattle.open_job.specs.Open.{memoryAfter, replied}
 use Rattle.kept_states.specs.declared.KeptState.{KeptState}
 use Rattle.kept_states.specs.declared.OpenStates.{OpenStates}
@@ -38,7 +38,7 @@ pub data Call : Type 0 where
   keepAs : (number : ℕ) → Call
   returnTo : (number : ℕ) → Call
 
--- "Each named by a byte": which names an add can have.
+-- "Names become 0 to 65,535": which names an add can have. A withdrawal may have any: one that does not stand is 12.
 abbrev pub Nameable : Edit → Type 0
 Nameable (add name z) = name ≤ greatestName
 Nameable (withdraw name) = Unit {0}
@@ -85,10 +85,10 @@ module _ {A : Type 0} where
   statesAfterAll next s [] = s
   statesAfterAll next s (c ∷ cs) = statesAfterAll next (statesAfter next s c) cs
 
--- The hazards that stand after an edit, where those in `past` stood before it. An add is refused where its name stands and where its
--- hazard is refused; "a refused call alters nothing".
+-- The hazards that stand after an edit, where those in `past` stood before it. An add is refused where its name stands, where 256 stand and
+-- where its hazard is refused; "a refused call alters nothing".
 unfoldable pub standAfter : Header → (past : List NamedHazard) → Edit → List NamedHazard
-standAfter h past (add name z) = if stands name past || not (isAccepted (admit h name z)) then past else past ++ named name z ∷ []
+standAfter h past (add name z) = if stands name past || isFull past || not (isAccepted (admit h name z)) then past else past ++ named name z ∷ []
 standAfter h past (withdraw name) = without name past
 
 -- "The hazards added and not withdrawn since", after a list of calls from an empty job: "after a return, the hazards that stood when its
@@ -115,6 +115,7 @@ pub record Added (h : Header) (past : List NamedHazard) (edits : List Edit) (p :
   pub since : List Edit
   pub split : edits ≡ before ++ add (p .name) (unnamed p) ∷ since
   pub fresh : stands (p .name) (standAfterAll h past before) ≡ false
+  pub room : isFull (standAfterAll h past before) ≡ false
   pub admitted : isAccepted (admit h (p .name) (unnamed p)) ≡ true
   pub not-withdrawn : List·Memᴰ (withdraw (p .name)) since → ⊥
 
@@ -142,8 +143,8 @@ unfoldable pub afterCalls : OpenStates → List Call → OpenStates
 afterCalls m [] = m
 afterCalls m (c ∷ cs) = afterCalls (afterCall m c) cs
 
--- "A list of these calls from an empty job with an accepted header": its bytes s, the job j that they are, and the memory after the
--- opening, whatever that held before, and after the calls.
+-- A "list of these calls from an empty job with an accepted header", its adds with such names: its bytes s, the job j that they are, and the
+-- memory after the opening, whatever that held before, and after the calls.
 pub record CallsFrom (s : List ℕ) (j : Job) (calls : List Call) (m : OpenStates) : Type 0 where
   pub is-accepted : acceptJob s ≡ accepted j
   pub empty : j .hazards ≡ []
@@ -168,6 +169,7 @@ SchedulePromise =
 pub record Holds (h : Header) (past : List NamedHazard) (a : StoredJob) : Type 0 where
   pub layout : a ≡ laidOut h (standing a)
   pub few : length past ≤ mostStanding
+  pub many : length (standing a) ≡ length past
   pub each : (p : NamedHazard) → List·Memᴰ p (standing a) ↔ List·Memᴰ p past
 
 -- Nothing is kept, or a state in which they stand.
@@ -176,12 +178,13 @@ HoldsKept h nothing k = k ≡ nothingKept
 HoldsKept h (state past) k = (isUsed k ≡ true) × Holds h past (stateOf h k)
 
 -- Those hazards stand in the memory, now and in what is kept: so the next add and the next withdrawal are refused 12 exactly by their
--- names, the next keep 13 exactly above 7, and the next return 13 exactly where nothing is kept.
+-- names, the next add 15 exactly where 256 stand and its name does not, and then by its hazard, the next keep 13 exactly above 7, and the
+-- next return 13 exactly where nothing is kept.
 pub record Standing (h : Header) (s : States (List NamedHazard)) (m : OpenStates) : Type 0 where
   pub is-open : areOpenStates m ≡ true
   pub state-now : Holds h (s .now) (m .now)
   pub states-kept : (number : ℕ) → HoldsKept h (s .kept number) (keptUnder m number)
-  pub next-add : (name : ℕ) (z : Hazard) → replied (addIn m name z) ≡ (unless-refuse (not (stands name (s .now))) 12 name >>= λ _. admit h name z >>= λ _. accepted 0)
+  pub next-add : (name : ℕ) (z : Hazard) → replied (addIn m name z) ≡ (unless-refuse (not (stands name (s .now))) 12 name >>= λ _. unless-refuse (not (isFull (s .now))) 15 0 >>= λ _. admit h name z >>= λ _. accepted 0)
   pub next-withdrawal : (name : ℕ) → replied (withdrawIn m name) ≡ (unless-refuse (stands name (s .now)) 12 name >>= λ _. accepted 0)
   pub next-keep : (number : ℕ) → replied (keepIn m number) ≡ (unless-refuse (leb number greatestStateNumber) 13 0 >>= λ _. accepted 0)
   pub next-return : (number : ℕ) → replied (returnIn m number) ≡ (unless-refuse (isKept (s .kept number)) 13 0 >>= λ _. accepted 0)
@@ -194,6 +197,12 @@ abbrev pub AgainPromise : Type 0
 AgainPromise =
     (m next : OpenStates) (name : ℕ) → withdrawIn m name ≡ accepted next
     → (z : Hazard) → replied (addIn next name z) ≡ (admit (m .now .header) name z >>= λ _. accepted 0)
+
+-- "Room left by a withdrawal is used again": by an add of any name. It is refused 12 by its name or by its hazard, never 15.
+abbrev pub RoomPromise : Type 0
+RoomPromise =
+    (m next : OpenStates) (name : ℕ) → withdrawIn m name ≡ accepted next
+    → (other : ℕ) (z : Hazard) → replied (addIn next other z) ≡ (unless-refuse (not (stands other (standing (next .now)))) 12 other >>= λ _. admit (m .now .header) other z >>= λ _. accepted 0)
 
 -- "After a return, the open job is as when that state was last kept, whichever adds and withdrawals came between": all of it, the
 -- header and the zeros behind the hazards too.

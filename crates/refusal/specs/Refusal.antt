@@ -2,7 +2,7 @@
 -- Assumes nothing.
 use Prim.Native.Nat.{ℕ}
 use Rattle.refusal.specs.declared.Refusal.{Refusal}
-use Rattle.refusal.specs.declared.Refusal.the-variants.{Ended, Malformed, HeaderRange, HazardRange, NearBarrier, LeftOver, Argument, Room, Schedule, Ranges, Name, State, Hazard}
+use Rattle.refusal.specs.declared.Refusal.the-variants.{Ended, Malformed, HeaderRange, HazardRange, NearBarrier, LeftOver, Argument, Room, Schedule, Ranges, Name, State, Hazard, Full}
 use Rattle.refusal.specs.declared.Outcome.{Outcome}
 use Rattle.refusal.specs.declared.Outcome.the-variants.{Done, Refused}
 use Rattle.refusal.specs.Answer.{Answer, accepted, refused}
@@ -21,6 +21,7 @@ numberOf Ranges = 11
 numberOf (Name name) = 12
 numberOf State = 13
 numberOf Hazard = 14
+numberOf Full = 15
 
 abbrev pub valueOf : Refusal → ℕ
 valueOf (Ended at) = at
@@ -36,6 +37,7 @@ valueOf Ranges = 0
 valueOf (Name name) = name
 valueOf State = 0
 valueOf Hazard = 0
+valueOf Full = 0
 
 -- The refusal as an answer.
 abbrev pub refusal : {A : Type 0} → Refusal → Answer A

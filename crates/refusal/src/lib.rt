@@ -29,6 +29,8 @@ pub enum Refusal {
     State,
     // No such hazard, or one that adjacent traffic does not reach.
     Hazard,
+    // An add when 256 hazards stand.
+    Full,
 }
 
 // The row's number in the table.
@@ -49,6 +51,7 @@ pub fn refusal_number(refusal: Refusal) -> u64
         Refusal::Name(_) => 12,
         Refusal::State => 13,
         Refusal::Hazard => 14,
+        Refusal::Full => 15,
     }
 }
 
@@ -70,6 +73,7 @@ pub fn refusal_value(refusal: Refusal) -> u64
         Refusal::Name(name) => name as u64,
         Refusal::State => 0,
         Refusal::Hazard => 0,
+        Refusal::Full => 0,
     }
 }
 

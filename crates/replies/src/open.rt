@@ -68,13 +68,13 @@ pub fn opened(job: StoredJob, bytes: &[u8]) -> Opening
     }
 }
 
-pub fn added(sound: bool, job: StoredJob, name: u8, hazard: GivenHazard) -> Changed
+pub fn added(sound: bool, job: StoredJob, name: u16, hazard: GivenHazard) -> Changed
     ensures { λ r. ⌜ r ≡ afterAdd sound job name hazard ⌝ }
 {
     with_reply(kept_states::calls::add(sound, job, name, hazard))
 }
 
-pub fn withdrawn(sound: bool, job: StoredJob, name: u8) -> Changed
+pub fn withdrawn(sound: bool, job: StoredJob, name: u16) -> Changed
     ensures { λ r. ⌜ r ≡ afterWithdrawal sound job name ⌝ }
 {
     with_reply(kept_states::calls::withdraw(sound, job, name))

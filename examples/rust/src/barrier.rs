@@ -34,6 +34,7 @@ pub const TOO_MANY_RANGES: u64 = 11;
 pub const NAME: u64 = 12;
 pub const STATE: u64 = 13;
 pub const NO_APPROACH: u64 = 14;
+pub const FULL: u64 = 15;
 
 /// The calls as C has them.
 pub mod c {
@@ -203,9 +204,9 @@ pub mod c {
 
         pub fn barrier_open(job: *mut OpenJob, bytes: *const u8, bytes_len: usize) -> Reply;
 
-        pub fn barrier_add(job: *mut OpenJob, name: u8, hazard: Hazard) -> Reply;
+        pub fn barrier_add(job: *mut OpenJob, name: u16, hazard: Hazard) -> Reply;
 
-        pub fn barrier_withdraw(job: *mut OpenJob, name: u8) -> Reply;
+        pub fn barrier_withdraw(job: *mut OpenJob, name: u16) -> Reply;
 
         pub fn barrier_open_schedule(
             job: *const OpenJob,
@@ -428,15 +429,16 @@ impl OpenJob {
         answer(reply).map(|_| ())
     }
 
-    /// Puts a hazard in, under a name under which none stands.
-    pub fn add(&mut self, name: u8, hazard: Hazard) -> Result<(), Refusal> {
+    /// Puts a hazard in, under a name under which none stands; at most 256
+    /// stand together.
+    pub fn add(&mut self, name: u16, hazard: Hazard) -> Result<(), Refusal> {
         // SAFETY: the memory is lent to this call alone.
         let reply = unsafe { c::barrier_add(&mut self.memory, name, hazard) };
         answer(reply).map(|_| ())
     }
 
     /// Takes the hazard under a name out; the name can be added again.
-    pub fn withdraw(&mut self, name: u8) -> Result<(), Refusal> {
+    pub fn withdraw(&mut self, name: u16) -> Result<(), Refusal> {
         // SAFETY: the memory is lent to this call alone.
         let reply = unsafe { c::barrier_withdraw(&mut self.memory, name) };
         answer(reply).map(|_| ())

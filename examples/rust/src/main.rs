@@ -101,6 +101,7 @@ fn print_refusal(out: &mut impl Write, what: &str, refusal: Refusal) -> io::Resu
         barrier::NO_APPROACH => {
             writeln!(out, "no such hazard, or adjacent traffic does not reach it")
         }
+        barrier::FULL => writeln!(out, "256 hazards stand already"),
         _ => writeln!(out, "a number that barrier.h does not have"),
     }
 }

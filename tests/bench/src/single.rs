@@ -4,6 +4,7 @@
 use std::hint::black_box;
 
 use cases::calls::{contract, corners_reply, offset_reply, plan_reply, record, reply};
+use reference::open::Name;
 
 use crate::jobs::{self, Kind, LAST, Order, ROAD_END};
 
@@ -36,7 +37,7 @@ pub const NAMES: [&str; 25] = [
 ];
 
 /// The name that is added and withdrawn, in the middle of the others.
-const NAME: u8 = 127;
+const NAME: Name = 127;
 
 #[derive(Clone, Copy, PartialEq, Eq)]
 enum Who {

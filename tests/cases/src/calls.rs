@@ -5,6 +5,7 @@ use std::ops::Range;
 use reference::calls::MOST_RANGES;
 use reference::job::Hazard;
 use reference::memory;
+use reference::open::Name;
 use reference::{Corner, Corners, Lookup, Outcome, Planned, Quantities, Refusal};
 
 /// The reply of level, quantity and the calls that change an open job: number 0
@@ -142,10 +143,10 @@ pub type LookupCall = dyn Fn(&mut [u8], &mut [u8], u64, u64) -> Record;
 pub type OpenCall = dyn Fn(&mut Memory, &mut [u8]) -> Reply;
 
 /// The memory of an open job, name, hazard.
-pub type AddCall = dyn Fn(&mut Memory, u8, Hazard) -> Reply;
+pub type AddCall = dyn Fn(&mut Memory, Name, Hazard) -> Reply;
 
 /// The memory of an open job, name.
-pub type WithdrawCall = dyn Fn(&mut Memory, u8) -> Reply;
+pub type WithdrawCall = dyn Fn(&mut Memory, Name) -> Reply;
 
 /// The memory of an open job, the number of a state: keep and return.
 pub type StateCall = dyn Fn(&mut Memory, u64) -> Reply;

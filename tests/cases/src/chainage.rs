@@ -2,6 +2,7 @@
 //! bytes that it needs.
 
 use reference::job::{LAST_STATION, NATIONAL};
+use reference::open::Name;
 use reference::planned;
 use reference::schedule;
 
@@ -16,7 +17,7 @@ use crate::families::{
 };
 use crate::faults::{GREAT_VALUES, GREATEST_READ, wrong_forms};
 use crate::jobs;
-use crate::open::{Open, any_memory};
+use crate::open::{Open, any_memory, any_name};
 
 const LONGEST_ROAD: u64 = NATIONAL.longest;
 
@@ -158,12 +159,12 @@ fn open_job(checker: &mut Checker, random: &mut Random, draft: &Draft) -> Outcom
         for field in [S, E] {
             alike[field] ^= 1 << 32;
         }
-        open.add(checker, random.draw() as u8, alike)?;
+        open.add(checker, any_name(random), alike)?;
     }
     open.as_planned(checker, random)?;
     let state = random.below(8);
     open.keep(checker, state)?;
-    let names: Vec<u8> = open.standing.keys().copied().collect();
+    let names: Vec<Name> = open.standing.keys().copied().collect();
     for name in names {
         open.withdraw(checker, name)?;
     }

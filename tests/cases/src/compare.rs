@@ -8,6 +8,7 @@ use reference::Corner;
 use reference::calls::LONG_ENOUGH;
 use reference::job::{self, Hazard};
 use reference::memory::BYTES;
+use reference::open::Name;
 
 use crate::calls::{
     self, Calls, Contract, CornersReply, GUARD, Memory, OffsetReply, PlanReply, Record, Reply,
@@ -72,11 +73,11 @@ pub enum Step {
         bytes: Vec<u8>,
     },
     Add {
-        name: u8,
+        name: Name,
         hazard: Hazard,
     },
     Withdraw {
-        name: u8,
+        name: Name,
     },
     Keep {
         state: u64,

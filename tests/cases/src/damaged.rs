@@ -7,7 +7,7 @@ use reference::memory::{
     self, BYTES, END_AT, FAR_AT, HEADER, HEADER_BYTES, LEVEL_AT, MARK_BYTES, NAME_AT, NEAR_AT,
     NOW_BYTES, NUMBER_BYTES, PLACE_BYTES, PLACES, ROW_BYTES, SIDE_AT, START_AT, STATE_BYTES,
 };
-use reference::open::STATES;
+use reference::open::{Name, STATES};
 use reference::{OpenJob, Stretch};
 
 use crate::Random;
@@ -16,7 +16,7 @@ use crate::draft::{A, B, D, Draft, FIELDS, LEVEL, M, N, PANEL, SIDE, header_rang
 use crate::families::{KINDS, Outcome, accepted, accepted_of_kind, around};
 use crate::jobs;
 use crate::open::{
-    Difference, Open, Standing, hazard, random_memory, standing, standing_and_kept, state,
+    Difference, Open, Standing, any_name, hazard, random_memory, standing, standing_and_kept, state,
 };
 
 pub fn damaged_memory(checker: &mut Checker, random: &mut Random) -> Outcome {
@@ -46,7 +46,7 @@ pub fn damaged_memory(checker: &mut Checker, random: &mut Random) -> Outcome {
 
 /// Nothing stands any more, so that the header is wrong for kept hazards alone.
 fn kept_alone(checker: &mut Checker, mut open: Open) -> Result<Open, Difference> {
-    let names: Vec<u8> = open.standing.keys().copied().collect();
+    let names: Vec<Name> = open.standing.keys().copied().collect();
     for name in names {
         open.withdraw(checker, name)?;
     }
@@ -221,13 +221,13 @@ impl Damage<'_> {
         let Open { standing, kept, .. } = self.open;
         let random = &mut *self.random;
         let stands = standing.keys().next().copied().unwrap_or(0);
-        let free = (0..=255).find(|name| !standing.contains_key(name));
-        let free = free.unwrap_or(255);
+        let free = (0..=Name::MAX).find(|name| !standing.contains_key(name));
+        let free = free.unwrap_or(Name::MAX);
         let good = standing.values().next().copied();
         let good = good.unwrap_or([0, 0, 1, 60_000, 60_000, 1]);
         let mut bad = good;
         bad[random.pick(&[SIDE, LEVEL, N])] = 1 << 20;
-        let any = random.draw() as u8;
+        let any = any_name(random);
         let adds = [(free, good), (stands, good), (free, bad), (any, bad)];
         let mut list = adds.map(|(name, fields)| add(name, fields)).to_vec();
         list.extend([stands, free].map(|name| Step::Withdraw { name }));
@@ -344,13 +344,13 @@ impl Damage<'_> {
         Ok(())
     }
 
-    /// Names doubled, exchanged, out of order and above 255.
+    /// Names doubled, exchanged, out of order, and of one byte or two.
     fn names(&mut self, row: &Row) -> Outcome {
-        let names: Vec<u8> = row.hazards.keys().copied().collect();
+        let names: Vec<Name> = row.hazards.keys().copied().collect();
         for (place, name) in names.iter().enumerate() {
-            let mut values = vec![u16::from(*name) | 256, u16::from(*name) << 8, 256, u16::MAX];
-            values.extend(names.iter().map(|other| u16::from(*other)));
-            values.extend([name.wrapping_sub(1), name.wrapping_add(1), 0, 255].map(u16::from));
+            let mut values = vec![name ^ 256, name.swap_bytes(), 0, 255, 256, Name::MAX];
+            values.extend(&names);
+            values.extend([name.wrapping_sub(1), name.wrapping_add(1)]);
             for value in values {
                 self.write(row.place(place) + NAME_AT, &value.to_le_bytes())?;
             }
@@ -384,7 +384,7 @@ impl Damage<'_> {
     }
 }
 
-fn add(name: u8, fields: [u64; FIELDS]) -> Step {
+fn add(name: Name, fields: [u64; FIELDS]) -> Step {
     Step::Add {
         name,
         hazard: hazard(fields),
@@ -395,7 +395,7 @@ fn add(name: u8, fields: [u64; FIELDS]) -> Step {
 fn full_memory(checker: &mut Checker, random: &mut Random) -> Outcome {
     let draft = jobs::sparse(random, 256);
     let mut open = Open::new(checker, random, &draft)?;
-    open.standing = (0..=255).zip(draft.hazards.iter().copied()).collect();
+    open.standing = spread().zip(draft.hazards.iter().copied()).collect();
     open.kept.fill(Some(open.standing.clone()));
     memory::write(&full(&draft), &mut open.memory);
     let mut damage = Damage::some(checker, random, &open);
@@ -418,7 +418,12 @@ fn full(draft: &Draft) -> OpenJob {
     let mut open =
         OpenJob::open(&draft.clone().with_hazards(&[]).bytes()).expect("a header that is accepted");
     let hazards = draft.hazards.iter().copied().map(hazard);
-    open.standing = (0..=255).zip(hazards).collect();
+    open.standing = spread().zip(hazards).collect();
     open.kept.fill(Some(open.standing.clone()));
     open
+}
+
+/// 256 names, the first and the last that there are among them.
+fn spread() -> impl Iterator<Item = Name> {
+    (0..=255).map(|index| 257 * index)
 }

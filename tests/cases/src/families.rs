@@ -52,7 +52,7 @@ pub const ALL: &[Family] = &[
     family("schedules on the national chainage", chainage::schedules),
     family("sheets on the national chainage", chainage::sheets),
     family("open jobs, lists of calls", open::lists),
-    family("open jobs, all names", open::all_names),
+    family("open jobs, 256 hazards", open::full_jobs),
     family("open jobs, full states", open::full_states),
     family("open jobs, openings", open::openings),
     family("open jobs, damaged memory", damaged::damaged_memory),

@@ -18,6 +18,7 @@ pub mod wrong_chainage;
 pub mod wrong_corners;
 pub mod wrong_level;
 pub mod wrong_memory;
+pub mod wrong_names;
 pub mod wrong_numbers;
 pub mod wrong_offset;
 pub mod wrong_open;

@@ -4,7 +4,7 @@ use std::collections::BTreeMap;
 
 use reference::job::{self, Hazard};
 use reference::memory::BYTES;
-use reference::open::STATES;
+use reference::open::{MOST_STANDING, Name, STATES};
 use reference::planned;
 
 use crate::Random;
@@ -15,7 +15,7 @@ use crate::faults::{BAD_SIDES, Broken, FAULTS, GREATEST_READ, wrong_forms};
 use crate::jobs;
 
 /// Hazards by their names.
-pub type Standing = BTreeMap<u8, [u64; FIELDS]>;
+pub type Standing = BTreeMap<Name, [u64; FIELDS]>;
 
 /// The memory of an open job; and by the replies to the calls, the hazards that
 /// stand, and those that stood when each state was last kept.
@@ -65,7 +65,7 @@ impl Open {
         Ok(())
     }
 
-    pub fn add(&mut self, checker: &mut Checker, name: u8, fields: [u64; FIELDS]) -> Outcome {
+    pub fn add(&mut self, checker: &mut Checker, name: Name, fields: [u64; FIELDS]) -> Outcome {
         let step = Step::Add {
             name,
             hazard: hazard(fields),
@@ -84,12 +84,12 @@ impl Open {
         draft: &Draft,
     ) -> Outcome {
         for fields in &draft.hazards {
-            self.add(checker, random.draw() as u8, *fields)?;
+            self.add(checker, any_name(random), *fields)?;
         }
         Ok(())
     }
 
-    pub fn withdraw(&mut self, checker: &mut Checker, name: u8) -> Outcome {
+    pub fn withdraw(&mut self, checker: &mut Checker, name: Name) -> Outcome {
         let reply = checker.step(&mut self.memory, Step::Withdraw { name })?;
         if reply.number == 0 {
             self.standing.remove(&name);
@@ -112,6 +112,25 @@ impl Open {
             self.standing = kept.expect("a state that was kept");
         }
         Ok(())
+    }
+
+    /// One of the names that stand, if there is one.
+    fn standing_name(&self, random: &mut Random) -> Name {
+        let names: Vec<Name> = self.standing.keys().copied().collect();
+        match names.is_empty() {
+            true => any_name(random),
+            false => random.pick(&names),
+        }
+    }
+
+    /// A name that does not stand.
+    fn free_name(&self, random: &mut Random) -> Name {
+        loop {
+            let name = any_name(random);
+            if !self.standing.contains_key(&name) {
+                return name;
+            }
+        }
     }
 
     /// The job made from the header and the hazards that stand, in any order.
@@ -247,16 +266,39 @@ pub fn state(random: &mut Random) -> u64 {
     }
 }
 
-/// 0, 255 and neighbours more often than others.
-fn few_names(random: &mut Random) -> Vec<u8> {
-    let count = random.between(1, 12);
-    let mut name = |_| match random.below(6) {
-        0 => 0,
-        1 => 255,
-        2 => random.pick(&[1, 127, 128, 254]),
-        _ => random.draw() as u8,
-    };
-    (0..count).map(&mut name).collect()
+/// The ends of what a byte and two bytes hold, with a sign and without.
+const NAMES: [Name; 12] = [
+    0, 1, 127, 128, 254, 255, 256, 257, 32_767, 32_768, 65_534, 65_535,
+];
+
+/// Any name, those of a byte and the ends more often than others.
+pub fn any_name(random: &mut Random) -> Name {
+    match random.below(4) {
+        0 => byte_name(random),
+        1 => random.pick(&NAMES),
+        _ => random.draw() as Name,
+    }
+}
+
+fn byte_name(random: &mut Random) -> Name {
+    random.below(256) as Name
+}
+
+/// Few names: at times those of a byte alone, at times some that are alike in
+/// their lower byte or in their upper one.
+fn few_names(random: &mut Random) -> Vec<Name> {
+    let bytes_alone = random.percent(30);
+    let mut list: Vec<Name> = Vec::new();
+    for _ in 0..random.between(1, 12) {
+        let name = match random.below(4) {
+            _ if bytes_alone => byte_name(random),
+            0 if !list.is_empty() => random.pick(&list) ^ (256 * byte_name(random)),
+            1 if !list.is_empty() => random.pick(&list) ^ byte_name(random),
+            _ => any_name(random),
+        };
+        list.push(name);
+    }
+    list
 }
 
 /// At times a field at an end of its range or beyond it, one that 32 bits or
@@ -313,9 +355,25 @@ fn full_draft(random: &mut Random) -> Draft {
     }
 }
 
-/// All 256 names stand, added in no order.
-fn full(checker: &mut Checker, random: &mut Random, draft: &Draft) -> Result<Open, Difference> {
-    let mut names: Vec<u8> = (0..=255).collect();
+/// 256 names in rising order: those of a byte, the last that there are, or such
+/// as lie far from each other.
+fn full_names(random: &mut Random) -> Vec<Name> {
+    let first = random.pick(&[0, 0, 200, 65_280]);
+    match random.percent(60) {
+        true => (first..=first + 255).collect(),
+        false => (0..=255)
+            .map(|high| 256 * high + byte_name(random))
+            .collect(),
+    }
+}
+
+/// 256 hazards stand under these names, added in no order.
+fn full(
+    checker: &mut Checker,
+    random: &mut Random,
+    draft: &Draft,
+    mut names: Vec<Name>,
+) -> Result<Open, Difference> {
     random.shuffle(&mut names);
     let mut open = Open::new(checker, random, draft)?;
     for (name, fields) in names.iter().zip(&draft.hazards) {
@@ -324,24 +382,57 @@ fn full(checker: &mut Checker, random: &mut Random, draft: &Draft) -> Result<Ope
     Ok(open)
 }
 
-/// All 256 names, in no order; each once more; then all withdrawn.
-pub fn all_names(checker: &mut Checker, random: &mut Random) -> Outcome {
+/// 256 hazards under names of a byte, then under others.
+pub fn full_jobs(checker: &mut Checker, random: &mut Random) -> Outcome {
+    let spread = (0..=255).map(|index| 257 * index).collect();
+    for names in [(0..=255).collect(), full_names(random), spread] {
+        full_job(checker, random, names)?;
+    }
+    Ok(())
+}
+
+/// More hazards than may stand, under names that stand and under others; room
+/// made and used again; a full job kept and returned to; then all withdrawn.
+fn full_job(checker: &mut Checker, random: &mut Random, names: Vec<Name>) -> Outcome {
     let draft = full_draft(random);
-    let mut open = full(checker, random, &draft)?;
+    let any_hazard = |random: &mut Random| draft.hazards[random.index(MOST_STANDING)];
+    let mut open = full(checker, random, &draft, names)?;
     open.as_planned(checker, random)?;
-    for _ in 0..10 {
-        let name = random.draw() as u8;
-        let fields = draft.hazards[random.index(256)];
+    for _ in 0..15 {
+        let fields = any_hazard(random);
+        let name = match random.percent(40) {
+            true => open.standing_name(random),
+            false => open.free_name(random),
+        };
         open.add(checker, name, faulty(random, &draft, fields))?;
     }
     for _ in 0..20 {
-        let name = random.draw() as u8;
+        let withdrawn = open.standing_name(random);
+        open.withdraw(checker, withdrawn)?;
+        // The name comes back, or another takes the room.
+        let name = match random.percent(50) {
+            true => withdrawn,
+            false => open.free_name(random),
+        };
+        open.add(checker, name, any_hazard(random))?;
+        let name = open.free_name(random);
+        open.add(checker, name, any_hazard(random))?;
+    }
+    open.keep(checker, 5)?;
+    for _ in 0..2 {
+        let name = open.standing_name(random);
         open.withdraw(checker, name)?;
-        let fields = draft.hazards[random.index(256)];
-        open.add(checker, name, fields)?;
+    }
+    open.keep(checker, 6)?;
+    for (state, more) in [(5, 1), (6, 3)] {
+        open.return_to(checker, state)?;
+        for _ in 0..more {
+            let name = open.free_name(random);
+            open.add(checker, name, any_hazard(random))?;
+        }
     }
     open.as_planned(checker, random)?;
-    let mut names: Vec<u8> = (0..=255).collect();
+    let mut names: Vec<Name> = open.standing.keys().copied().collect();
     random.shuffle(&mut names);
     for name in names {
         open.withdraw(checker, name)?;
@@ -353,20 +444,22 @@ pub fn all_names(checker: &mut Checker, random: &mut Random) -> Outcome {
 /// returned to, in no order.
 pub fn full_states(checker: &mut Checker, random: &mut Random) -> Outcome {
     let draft = full_draft(random);
-    let mut open = full(checker, random, &draft)?;
+    let names = full_names(random);
+    let mut open = full(checker, random, &draft, names)?;
     let mut states: Vec<u64> = (0..STATES as u64).collect();
     random.shuffle(&mut states);
     for state in &states {
         open.keep(checker, *state)?;
         for _ in 0..random.between(1, 3) {
-            open.withdraw(checker, random.draw() as u8)?;
+            let name = open.standing_name(random);
+            open.withdraw(checker, name)?;
         }
     }
     random.shuffle(&mut states);
     for state in states {
         open.return_to(checker, state)?;
         open.as_planned(checker, random)?;
-        let name = random.draw() as u8;
+        let name = open.standing_name(random);
         open.withdraw(checker, name)?;
         open.add(checker, name, draft.hazards[random.index(256)])?;
     }

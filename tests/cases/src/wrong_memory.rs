@@ -38,8 +38,6 @@ enum Rule {
     Used,
     /// At most 256 hazards.
     Count,
-    /// A name is a byte.
-    Name,
     /// No name stands twice, one behind the other.
     Twice,
     /// Names rise.
@@ -132,9 +130,6 @@ fn broken_row(header: &Job, count: u64, places: &[u8]) -> Vec<Rule> {
     let mut list = Vec::new();
     let mut previous = None;
     for (name, hazard) in used.chunks(PLACE_BYTES).map(read_place) {
-        if name > 255 {
-            list.push(Rule::Name);
-        }
         if previous == Some(name) {
             list.push(Rule::Twice);
         }
@@ -239,7 +234,6 @@ fn untested_rules() -> Vec<(&'static str, Calls)> {
             Rule::NoPanel,
         ),
         ("a count above 256 in the memory taken", Rule::Count),
-        ("a name above 255 in the memory taken", Rule::Name),
         ("a name twice in the memory taken", Rule::Twice),
         ("names out of order in the memory taken", Rule::Order),
         ("fields of hazards in the memory not tested", Rule::Field),
@@ -253,7 +247,6 @@ fn untested_kept_rules() -> Vec<(&'static str, Calls)> {
     let names = [
         ("a state used in another way taken", Rule::Used),
         ("a kept count above 256 taken", Rule::Count),
-        ("a kept name above 255 taken", Rule::Name),
         ("a kept name twice taken", Rule::Twice),
         ("kept names out of order taken", Rule::Order),
         ("fields of kept hazards not tested", Rule::Field),
@@ -335,7 +328,7 @@ mod tests {
                 continue;
             };
             for fields in draft.hazards {
-                let _ = open.add(random.draw() as u8, open::hazard(fields));
+                let _ = open.add(open::any_name(&mut random), open::hazard(fields));
                 let _ = open.keep(random.below(20));
             }
             let mut memory = [0; BYTES];

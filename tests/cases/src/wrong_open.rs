@@ -7,8 +7,9 @@ use reference::envelope;
 use reference::job::{self, Hazard, Job};
 use reference::memory::{
     self, BYTES, HEADER, HEADER_BYTES, NAME_AT, NOW_BYTES, NUMBER_BYTES, PLACE_BYTES, PLACES,
-    place_bytes,
+    SIDE_AT, place_bytes,
 };
+use reference::open::Name;
 use reference::{OpenJob, Refusal, add, open, open_schedule, planned, withdraw};
 
 use crate::calls::{AddCall, Calls, Memory, OpenCall, OpenScheduleCall, WithdrawCall};
@@ -63,10 +64,10 @@ fn count(memory: &Memory) -> usize {
 }
 
 /// Puts a hazard behind the others, whatever its name is.
-fn put_last(memory: &mut Memory, name: u8, hazard: &Hazard) {
+fn put_last(memory: &mut Memory, name: Name, hazard: &Hazard) {
     let last = count(memory);
     if last < PLACES {
-        place(memory, last).copy_from_slice(&place_bytes(name.into(), hazard));
+        place(memory, last).copy_from_slice(&place_bytes(name, hazard));
         set_number(memory, HEADER - 1, last as u64 + 1);
     }
 }
@@ -75,7 +76,7 @@ fn put_last(memory: &mut Memory, name: u8, hazard: &Hazard) {
 
 fn wrong_adds() -> Vec<(&'static str, Calls)> {
     // The right add, with its reply or the memory changed afterwards.
-    let after = |change: fn(&mut Reply, &mut Memory, u8, Hazard)| {
+    let after = |change: fn(&mut Reply, &mut Memory, Name, Hazard)| {
         with_add(Box::new(move |memory, name, hazard| {
             let mut reply = reply(add(&mut memory.job, name, hazard));
             change(&mut reply, memory, name, hazard);
@@ -83,7 +84,7 @@ fn wrong_adds() -> Vec<(&'static str, Calls)> {
         }))
     };
     // Another hazard or name added in its place.
-    let other = |call: fn(&mut Memory, u8, Hazard) -> Reply| {
+    let other = |call: fn(&mut Memory, Name, Hazard) -> Reply| {
         with_add(Box::new(move |memory, name, hazard| {
             call(memory, name, hazard)
         }))
@@ -94,7 +95,7 @@ fn wrong_adds() -> Vec<(&'static str, Calls)> {
             after(|reply, memory, name, hazard| {
                 let last = count(memory);
                 if (4..=5).contains(&reply.number) && last < PLACES {
-                    place(memory, last).copy_from_slice(&place_bytes(name.into(), &hazard));
+                    place(memory, last).copy_from_slice(&place_bytes(name, &hazard));
                 }
             }),
         ),
@@ -282,9 +283,9 @@ pub const BROKEN: Reply = Reply {
 };
 
 /// Whether a place has this name, in memory of any content.
-fn name_stands(memory: &[u8; BYTES], name: u8) -> bool {
+fn name_stands(memory: &[u8; BYTES], name: Name) -> bool {
     let count = number_at(memory, HEADER - 1).min(PLACES as u64) as usize;
-    (0..count).any(|place| name_at(memory, place) == u64::from(name))
+    (0..count).any(|place| name_at(memory, place) == name)
 }
 
 pub fn set_number(memory: &mut Memory, place: usize, value: u64) {
@@ -298,7 +299,7 @@ pub fn number_at(memory: &[u8; BYTES], place: usize) -> u64 {
     memory::value(&memory[at..at + NUMBER_BYTES])
 }
 
-fn name_at(memory: &[u8; BYTES], place: usize) -> u64 {
+fn name_at(memory: &[u8; BYTES], place: usize) -> Name {
     let at = HEADER_BYTES + PLACE_BYTES * place;
     memory::read_place(&memory[at..at + PLACE_BYTES]).0
 }
@@ -308,7 +309,7 @@ fn name_at(memory: &[u8; BYTES], place: usize) -> u64 {
 fn wrong_withdrawals() -> Vec<(&'static str, Calls)> {
     // The right withdrawal, with its reply or the memory changed afterwards;
     // the memory of before is there too.
-    let after = |change: fn(&mut Reply, &mut Memory, &Memory, u8)| {
+    let after = |change: fn(&mut Reply, &mut Memory, &Memory, Name)| {
         with_withdraw(Box::new(move |memory, name| {
             let mut before = memory.clone();
             let mut reply = reply(withdraw(&mut memory.job, name));
@@ -343,7 +344,7 @@ fn wrong_withdrawals() -> Vec<(&'static str, Calls)> {
                 let standing = count(before);
                 if reply.number == 0 && standing > 1 {
                     let mut whole = before.clone();
-                    let at = (0..standing).find(|at| name_at(&before.job, *at) == name.into());
+                    let at = (0..standing).find(|at| name_at(&before.job, *at) == name);
                     let last = place(&mut whole, standing - 1).to_vec();
                     place(&mut whole, at.unwrap_or(0)).copy_from_slice(&last);
                     without_place(&mut whole, standing - 1);
@@ -416,14 +417,14 @@ fn gone_for_good() -> Calls {
             if reply.number == 0 {
                 *memory = unmarked;
                 place(memory, PLACES - 1).copy_from_slice(&marked);
-                place(memory, PLACES - 1)[NAME_AT] = name;
+                place(memory, PLACES - 1)[NAME_AT..SIDE_AT].copy_from_slice(&name.to_le_bytes());
             }
             reply
         }),
         add: Box::new(|memory, name, hazard| {
             let mark = place(memory, PLACES - 1).to_vec();
             let without_hazard = mark[..NAME_AT].iter().all(|byte| *byte == 0);
-            if without_hazard && mark[NAME_AT] == name && name > 0 {
+            if without_hazard && memory::read_place(&mark).0 == name && name > 0 {
                 return reply(Err(Refusal::name(name)));
             }
             reply(add(&mut memory.job, name, hazard))

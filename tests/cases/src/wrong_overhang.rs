@@ -500,7 +500,7 @@ fn passes_an_end(header: &Job, hazard: &Hazard) -> bool {
 
 /// Every call but opening refuses memory that is right, where the open job is
 /// such a one.
-fn testing(refused: impl Fn(&OpenJob) -> bool + Copy + 'static) -> Calls {
+pub fn testing(refused: impl Fn(&OpenJob) -> bool + Copy + 'static) -> Calls {
     let tested = move |memory: &mut Memory, call: &dyn Fn(&mut Memory) -> Reply| match memory::read(
         &memory.job,
     ) {

@@ -8,6 +8,7 @@ use cases::{Calls, Contract, CornersReply, Memory, OffsetReply, PlanReply, Recor
 use reference::Corner;
 use reference::job::Hazard;
 use reference::memory::BYTES;
+use reference::open::Name;
 
 /// The shipped file itself, so that it is tested too.
 #[path = "../../../examples/rust/src/barrier.rs"]
@@ -70,6 +71,8 @@ unsafe extern "C" {
         sheet_offset: u64,
     ) -> CCornersReply;
     fn barrier_offset(job: *const u8, job_len: usize, hazard: u64, longest: u64) -> COffsetReply;
+    fn barrier_add(job: *mut c::OpenJob, name: Name, hazard: c::Hazard) -> c::Reply;
+    fn barrier_withdraw(job: *mut c::OpenJob, name: Name) -> c::Reply;
     fn barrier_keep(job: *mut c::OpenJob, state: u64) -> c::Reply;
     fn barrier_return(job: *mut c::OpenJob, state: u64) -> c::Reply;
 }
@@ -166,14 +169,14 @@ pub fn open(memory: &mut Memory, bytes: &[u8]) -> Reply {
     unsafe { c::barrier_open(open_job(memory), bytes.as_ptr(), bytes.len()).into() }
 }
 
-pub fn add(memory: &mut Memory, name: u8, hazard: Hazard) -> Reply {
+pub fn add(memory: &mut Memory, name: Name, hazard: Hazard) -> Reply {
     // SAFETY: as in `open`.
-    unsafe { c::barrier_add(open_job(memory), name, hazard.into()).into() }
+    unsafe { barrier_add(open_job(memory), name, hazard.into()).into() }
 }
 
-pub fn withdraw(memory: &mut Memory, name: u8) -> Reply {
+pub fn withdraw(memory: &mut Memory, name: Name) -> Reply {
     // SAFETY: as in `open`.
-    unsafe { c::barrier_withdraw(open_job(memory), name).into() }
+    unsafe { barrier_withdraw(open_job(memory), name).into() }
 }
 
 pub fn keep(memory: &mut Memory, state: u64) -> Reply {

@@ -9,7 +9,7 @@
 use crate::envelope;
 use crate::job::{self, Hazard, Job};
 use crate::number;
-use crate::open::{OpenJob, STATES, Standing};
+use crate::open::{MOST_STANDING, Name, OpenJob, STATES, Standing};
 
 /// Numbers of the header: those of kind 2, the last the count.
 pub const HEADER: usize = 15;
@@ -21,7 +21,7 @@ pub const NUMBER_BYTES: usize = 8;
 pub const HEADER_BYTES: usize = NUMBER_BYTES * HEADER;
 
 /// Places for hazards in a row.
-pub const PLACES: usize = 256;
+pub const PLACES: usize = MOST_STANDING;
 
 // Where each part of a place begins, and where the place ends: s and e have eight
 // bytes each, n, f and the name two, the side and the level one.
@@ -71,13 +71,13 @@ pub fn write(open: &OpenJob, memory: &mut [u8]) {
 fn write_places(standing: &Standing, bytes: &mut Vec<u8>) {
     let end = bytes.len() + ROW_BYTES;
     for (name, hazard) in standing {
-        bytes.extend(place_bytes(u16::from(*name), hazard));
+        bytes.extend(place_bytes(*name, hazard));
     }
     bytes.resize(end, 0);
 }
 
 /// The bytes of a place. An accepted offset is at most 60,000.
-pub fn place_bytes(name: u16, hazard: &Hazard) -> [u8; PLACE_BYTES] {
+pub fn place_bytes(name: Name, hazard: &Hazard) -> [u8; PLACE_BYTES] {
     let mut bytes = [0; PLACE_BYTES];
     bytes[START_AT..END_AT].copy_from_slice(&hazard.start.to_le_bytes());
     bytes[END_AT..NEAR_AT].copy_from_slice(&hazard.end.to_le_bytes());
@@ -152,16 +152,14 @@ fn read_places(header: &[u64], count: u64, places: &[u8]) -> Option<Standing> {
     if !all_0(unused) {
         return None;
     }
-    let places: Vec<(u64, Hazard)> = used.chunks(PLACE_BYTES).map(read_place).collect();
+    let places: Vec<(Name, Hazard)> = used.chunks(PLACE_BYTES).map(read_place).collect();
     let rising = places.windows(2).all(|pair| pair[0].0 < pair[1].0);
-    let in_a_byte = places.iter().all(|(name, _)| *name <= 255);
-    if !rising || !in_a_byte {
+    if !rising {
         return None;
     }
     let hazards: Vec<Hazard> = places.iter().map(|(_, hazard)| *hazard).collect();
     accepted(header, &hazards)?;
-    let names = places.iter().map(|(name, _)| *name as u8);
-    Some(names.zip(hazards).collect())
+    Some(places.into_iter().collect())
 }
 
 /// Without an early end, which would make it slower over so many bytes.
@@ -176,7 +174,7 @@ pub fn value(bytes: &[u8]) -> u64 {
 }
 
 /// The name and the hazard of a place.
-pub fn read_place(place: &[u8]) -> (u64, Hazard) {
+pub fn read_place(place: &[u8]) -> (Name, Hazard) {
     let hazard = Hazard {
         start: value(&place[START_AT..END_AT]),
         end: value(&place[END_AT..NEAR_AT]),
@@ -185,7 +183,7 @@ pub fn read_place(place: &[u8]) -> (u64, Hazard) {
         side: place[SIDE_AT].into(),
         level: place[LEVEL_AT].into(),
     };
-    (value(&place[NAME_AT..SIDE_AT]), hazard)
+    (value(&place[NAME_AT..SIDE_AT]) as Name, hazard)
 }
 
 /// The job of these header numbers and hazards, if it is an accepted one: its

@@ -9,8 +9,14 @@ use crate::job::{self, Hazard, Job, Reader};
 use crate::memory;
 use crate::refusal::Refusal;
 
+/// The name of a hazard: a drawing number.
+pub type Name = u16;
+
 /// Hazards, each under its name.
-pub type Standing = BTreeMap<u8, Hazard>;
+pub type Standing = BTreeMap<Name, Hazard>;
+
+/// As many hazards may stand together.
+pub const MOST_STANDING: usize = 256;
 
 /// As many states may be kept, under numbers from 0.
 pub const STATES: usize = 8;
@@ -43,11 +49,14 @@ impl OpenJob {
         })
     }
 
-    /// Adds a hazard under a name: 12, then 4 and 5, the index replaced by the
-    /// name.
-    pub fn add(&mut self, name: u8, hazard: Hazard) -> Result<(), Refusal> {
+    /// Adds a hazard under a name: 12, then 15, then 4 and 5, the index replaced
+    /// by the name.
+    pub fn add(&mut self, name: Name, hazard: Hazard) -> Result<(), Refusal> {
         if self.standing.contains_key(&name) {
             return Err(Refusal::name(name));
+        }
+        if self.standing.len() >= MOST_STANDING {
+            return Err(Refusal::no_room());
         }
         if !job::in_range(&self.header, &hazard) {
             return Err(Refusal::hazard_range(name.into()));
@@ -57,7 +66,7 @@ impl OpenJob {
         Ok(())
     }
 
-    pub fn withdraw(&mut self, name: u8) -> Result<(), Refusal> {
+    pub fn withdraw(&mut self, name: Name) -> Result<(), Refusal> {
         match self.standing.remove(&name) {
             Some(_) => Ok(()),
             None => Err(Refusal::name(name)),
@@ -108,11 +117,11 @@ pub fn open(memory: &mut [u8], bytes: &[u8]) -> Result<u64, Refusal> {
     Ok(0)
 }
 
-pub fn add(memory: &mut [u8], name: u8, hazard: Hazard) -> Result<u64, Refusal> {
+pub fn add(memory: &mut [u8], name: Name, hazard: Hazard) -> Result<u64, Refusal> {
     change(memory, |open| open.add(name, hazard))
 }
 
-pub fn withdraw(memory: &mut [u8], name: u8) -> Result<u64, Refusal> {
+pub fn withdraw(memory: &mut [u8], name: Name) -> Result<u64, Refusal> {
     change(memory, |open| open.withdraw(name))
 }
 

@@ -1,6 +1,8 @@
 //! The refusal table of document 01, and the numbers that document 02 adds; it
 //! takes 6 away.
 
+use crate::open::Name;
+
 /// What a refused call returns: the number of the refusal and its value.
 #[derive(Clone, Copy, Debug, PartialEq, Eq)]
 pub struct Refusal {
@@ -63,7 +65,7 @@ impl Refusal {
     }
 
     /// 12: the name stands already (add) or does not stand (withdraw).
-    pub fn name(name: u8) -> Refusal {
+    pub fn name(name: Name) -> Refusal {
         refusal(12, name.into())
     }
 
@@ -76,6 +78,11 @@ impl Refusal {
     /// 14: no such hazard, or one that adjacent traffic does not reach.
     pub fn no_such_hazard() -> Refusal {
         refusal(14, 0)
+    }
+
+    /// 15: an add where 256 hazards stand.
+    pub fn no_room() -> Refusal {
+        refusal(15, 0)
     }
 }
 

@@ -375,7 +375,7 @@ fn too_near_by_name() {
 }
 
 #[test]
-fn all_names_may_stand() {
+fn all_names_of_a_byte_may_stand() {
     let mut memory = opened();
     let mut list = Vec::new();
     for name in 0..=255 {
@@ -487,7 +487,8 @@ fn memory_that_breaks_the_rules() {
     assert!(number(3, 309_999) && !number(3, 310_000));
     // Names.
     assert!(with(140, &[9]) && with(140, &[10]) && !with(140, &[8]));
-    assert!(with(164, &[9, 1]) && with(164, &[0, 1]) && !with(164, &[255]));
+    assert!(with(164, &[7, 0]) && with(164, &[6, 0]) && !with(164, &[255, 255]));
+    assert!(with(140, &[9, 1]) && with(140, &[0, 1]) && !with(164, &[0, 1]));
     // Hazards.
     assert!(with(142, &[2]) && !with(142, &[1]));
     assert!(with(143, &[0]) && with(143, &[7]) && !with(143, &[6]));
@@ -514,7 +515,7 @@ fn lists_of_calls() {
             _ => PRINTED.in_panels(random.between(1, 10_000)),
         };
         let mut open = OpenJob::open(&header.bytes()).unwrap();
-        let mut list: Vec<(u8, [u64; 6])> = Vec::new();
+        let mut list: Vec<(u16, [u64; 6])> = Vec::new();
         let mut kept = vec![None; 8];
         for _ in 0..40 {
             let state = random.below(9);
@@ -525,7 +526,7 @@ fn lists_of_calls() {
                 }
                 _ => (),
             }
-            let name = random.pick(&[0, 1, 2, 100, 254, 255]);
+            let name = random.pick(&[0, 1, 2, 255, 256, 258, 65_535]);
             let start = random.between(40_000, 60_000);
             let near = random.between(3_990, 4_020);
             let fields = [
@@ -753,7 +754,7 @@ fn the_level_refused_as_plan_without_9() {
 // 7: named states of an open job.
 
 /// The names that stand.
-fn names(memory: &[u8]) -> Vec<u8> {
+fn names(memory: &[u8]) -> Vec<u16> {
     let open = memory::read(memory).expect("it is an open job");
     open.standing.into_keys().collect()
 }
@@ -876,7 +877,7 @@ fn kept_states_that_break_the_rules() {
     assert!(number(8, 0) && number(8, 1) && number(8, 3) && number(8, 257));
     // Names.
     assert!(with(36, &[9]) && with(36, &[10]) && !with(36, &[8]));
-    assert!(with(60, &[9, 1]) && !with(60, &[255, 0]));
+    assert!(with(60, &[7, 0]) && with(36, &[7, 1]) && !with(60, &[255, 255]));
     // Hazards under the one header: 4 and 5; an envelope is cut.
     assert!(with(38, &[2]) && with(39, &[0]) && with(39, &[7]) && !with(39, &[6]));
     assert!(offset(32, 3_999) && !offset(32, 4_000));
@@ -1512,4 +1513,90 @@ fn corners_counted_from_a_sheet_far_away() {
     let hazards = [[1, LAST_STATION - 1, LAST_STATION, 5_000, 9_000, 1]];
     let upstream = corners_of(&left.with_hazards(&hazards))[0];
     assert_eq!(upstream, (last + 133_334, 3_000));
+}
+
+// 12: more names than a byte has.
+
+/// An open job in which hazards stand under these names.
+fn standing_under(names: impl IntoIterator<Item = u16>) -> Vec<u8> {
+    let mut memory = opened();
+    for name in names {
+        assert_eq!(add(&mut memory, name, hazard(PRINTED_HAZARD)), Ok(0));
+    }
+    memory
+}
+
+#[test]
+fn names_that_are_alike_in_a_byte() {
+    let mut memory = standing_under([7, 65_535, 263, 255, 0]);
+    assert_eq!(names(&memory), [0, 7, 255, 263, 65_535]);
+    let bytes = |place: usize| &memory[120 + 24 * place + 20..][..2];
+    assert_eq!(bytes(1), [7, 0]);
+    assert_eq!(bytes(3), [7, 1]);
+    assert_eq!(bytes(4), [255, 255]);
+    let again = |memory: &mut [u8]| add(memory, 263, hazard(PRINTED_HAZARD));
+    assert_eq!(refused(&mut memory, again), (12, 263));
+    assert_eq!(refused(&mut memory, |m| withdraw(m, 256)), (12, 256));
+    assert_eq!(withdraw(&mut memory, 263), Ok(0));
+    assert_eq!(names(&memory), [0, 7, 255, 65_535]);
+    assert_eq!(refused(&mut memory, |m| withdraw(m, 263)), (12, 263));
+    // The other refusals return the wide name, too.
+    let mut adding = |name, field: usize, value| {
+        let mut fields = PRINTED_HAZARD;
+        fields[field] = value;
+        refused(&mut memory, |memory| add(memory, name, hazard(fields)))
+    };
+    assert_eq!(adding(65_534, SIDE, 2), (4, 65_534));
+    assert_eq!(adding(256, N, 3_999), (5, 256));
+}
+
+#[test]
+fn row_15() {
+    let mut memory = standing_under((0..256).map(|index| 257 * index));
+    let mut adding = |name, field: usize, value| {
+        let mut fields = PRINTED_HAZARD;
+        fields[field] = value;
+        refused(&mut memory, |memory| add(memory, name, hazard(fields)))
+    };
+    // Behind 12 and before 4 and 5.
+    for (field, value) in [(LEVEL, 3), (SIDE, 2), (N, 3_999)] {
+        assert_eq!(adding(65_535, field, value), (12, 65_535));
+        assert_eq!(adding(0, field, value), (12, 0));
+        assert_eq!(adding(65_534, field, value), (15, 0));
+        assert_eq!(adding(1, field, value), (15, 0));
+    }
+    // Whatever is wrong, broken memory comes first.
+    assert!(broken_with(&memory, 143, &[7]));
+}
+
+#[test]
+fn room_left_by_a_withdrawal_is_used_again() {
+    let mut memory = standing_under(1_000..1_256);
+    for name in 0..500 {
+        let adding = |memory: &mut [u8]| add(memory, name, hazard(PRINTED_HAZARD));
+        assert_eq!(refused(&mut memory, adding), (15, 0));
+        let withdrawn = if name < 256 { 1_000 + name } else { name - 256 };
+        assert_eq!(withdraw(&mut memory, withdrawn), Ok(0));
+        assert_eq!(adding(&mut memory), Ok(0));
+    }
+    assert_eq!(names(&memory), (244..500).collect::<Vec<u16>>());
+}
+
+#[test]
+fn kept_states_carry_the_wide_names() {
+    let mut memory = standing_under((0..256).map(|index| 65_280 + index));
+    let full = memory.clone();
+    assert_eq!(keep(&mut memory, 7), Ok(0));
+    for name in 65_280..=65_535 {
+        assert_eq!(withdraw(&mut memory, name), Ok(0));
+    }
+    assert_eq!(add(&mut memory, 256, hazard(PRINTED_HAZARD)), Ok(0));
+    assert_eq!(keep(&mut memory, 0), Ok(0));
+    assert_eq!(return_to(&mut memory, 7), Ok(0));
+    assert_eq!(memory[..6_264], full[..6_264]);
+    let adding = |memory: &mut [u8]| add(memory, 0, hazard(PRINTED_HAZARD));
+    assert_eq!(refused(&mut memory, adding), (15, 0));
+    assert_eq!(return_to(&mut memory, 0), Ok(0));
+    assert_eq!(names(&memory), [256]);
+    assert_eq!(adding(&mut memory), Ok(0));
 }

@@ -32,11 +32,11 @@ const HEADER: [u64; 14] = [
     0,               // hazard count: none yet
 ];
 
-/// The names under which the hazards stand.
-const HEADWALL: u8 = 7;
-const POLE: u8 = 20;
-const CULVERT: u8 = 30;
-const PIER: u8 = 31;
+/// The names under which the hazards stand: their drawing numbers.
+const HEADWALL: u16 = 7;
+const POLE: u16 = 20;
+const CULVERT: u16 = 1030;
+const PIER: u16 = 1031;
 
 /// The state number under which a state is kept, and one of which none is.
 const BEFORE: u64 = 0;
@@ -161,10 +161,10 @@ fn show_overhang(out: &mut impl Write, job: &mut OpenJob) -> Result<(), Stop> {
     let pier = hazard(40_000, 42_000, NC_4);
 
     writeln!(out, "By the neighbouring contract")?;
-    ends_with(out, "add 30", job.add(CULVERT, culvert), barrier::DONE)?;
-    ends_with(out, "add 31", job.add(PIER, pier), barrier::DONE)?;
+    ends_with(out, "add 1030", job.add(CULVERT, culvert), barrier::DONE)?;
+    ends_with(out, "add 1031", job.add(PIER, pier), barrier::DONE)?;
     print_runs(out, job)?;
-    ends_with(out, "withdraw 30", job.withdraw(CULVERT), barrier::DONE)?;
+    ends_with(out, "withdraw 1030", job.withdraw(CULVERT), barrier::DONE)?;
     print_runs(out, job)
 }
 

@@ -8,7 +8,7 @@ use Rattle.open_job.proofs.calls.add.Statement.{statement}
 use Rattle.open_job.proofs.calls.add.Tie as tie
 
 add-named-requires : tie.Need-add-named-requires
-add-named-requires c κs = (sym (c .before .is-open-job .ensures) ∙ c .if1 .taken, search needs)
+add-named-requires c κs = sym (c .before .is-open-job .ensures) ∙ c .if1 .taken
 
 returns-2 : tie.Need-returns-2
 returns-2 c =

@@ -1,19 +1,20 @@
--- `open_job::calls::add_named` meets its contract: the name, then the tests of the hazard, and then it is put in. Assumes nothing.
+-- `open_job::calls::add_named` meets its contract: the name, the room, then the tests of the hazard, and then it is put in. Assumes nothing.
 use native.Mathlib.Omega.{arith}
 use mathlib.Core.Path.{_≡_, sym, ap, _∙_}
 use mathlib.Core.Bool.{false}
 use lib.ListN.{length, length-map}
 use borrow.Author.Needs.{needs}
+use borrow.Author.Tests.{le-leb, lt-leb}
 use Rattle.refusal.specs.Answer.{accepted}
 use Rattle.refusal.specs.Refusal.{outcome}
-use Rattle.refusal.specs.declared.Refusal.the-variants.{Name}
+use Rattle.refusal.specs.declared.Refusal.the-variants.{Name, Full}
 use Rattle.refusal.specs.declared.Outcome.{Outcome}
-use Rattle.open_memory.specs.Memory.{hazardGiven, standing, stands, admit}
+use Rattle.open_memory.specs.Memory.{hazardGiven, standing, stands, isFull, admit}
 use Rattle.open_memory.proofs.RangeLaws.{hazard-ranged}
 use Rattle.open_memory.proofs.RuleLaws.{admitted, open-ranged, open-header, open-clear}
 use Rattle.open_memory.proofs.PlaceLaws.{rank-most}
 use Rattle.open_memory.proofs.WalkLaws.{standing-length}
-use Rattle.open_job.proofs.CallLaws.{changes-refused, changes-done, add-stands, add-tested, add-room, add-done}
+use Rattle.open_job.proofs.CallLaws.{changes-refused, changes-done, full-count, add-stands, add-full, add-tested, add-done}
 use Rattle.open_job.proofs.calls.add_named.Statement.{statement}
 use Rattle.open_job.proofs.calls.add_named.Tie as tie
 
@@ -22,60 +23,75 @@ size : (c : tie.Start) → length (c .args .job .hazards) ≡ 256
 size c = simp length-map at (c .good .0 .1 .1 .1 .0 .1 .0 .1)
 
 place-of-requires : tie.Need-place-of-requires
-place-of-requires c κs = open-header (c .args .job) (c .pre .0) .count
+place-of-requires c κs = open-header (c .args .job) (c .pre) .count
 
 stands-at-requires : tie.Need-stands-at-requires
-stands-at-requires c κs = (c .before .pre .0, c .place-of .ensures)
+stands-at-requires c κs = (c .before .pre, c .place-of .ensures)
 
 returns : tie.Need-returns
 returns c =
     let t = c .before in
     let s = t .before .before .before in
-    changes-refused (s .args .job) (Name (s .args .name)) (add-stands (s .args .job) (s .pre .0) (s .args .name) (hazardGiven (s .args .hazard)) (sym (t .before .stands-at .ensures) ∙ t .if1 .taken)) (c .unchanged .ensures)
+    changes-refused (s .args .job) (Name (s .args .name)) (add-stands (s .args .job) (s .pre) (s .args .name) (hazardGiven (s .args .hazard)) (sym (t .before .stands-at .ensures) ∙ t .if1 .taken)) (c .unchanged .ensures)
 
--- The name does not stand, and the hazard can be added.
+-- The name does not stand.
 fresh : (c : tie.Else1) → let a = c .before .before .before .args in stands (a .name) (standing (a .job)) ≡ false
 fresh c = sym (c .before .stands-at .ensures) ∙ c .if1 .left
 
-test-given-requires : tie.Need-test-given-requires
-test-given-requires c κs = let s = c .before .before .before .before in open-ranged (s .args .job) (s .pre .0)
+-- Fewer than 256 stand.
+room : (c : tie.Else2) → let a = c .before .before .before .before .before .before .args in isFull (standing (a .job)) ≡ false
+room c =
+    let s = c .before .before .before .before .before .before in
+    full-count (s .args .job) (s .pre) (size s) ∙ lt-leb 256 (s .args .job .header .count) (omega arith)
 
-may : (c : tie.After-enum-told) → let a = c .before .before .before .before .before .before .before .args in accepted tt ≡ admit (a .job .header) (a .name) (hazardGiven (a .hazard))
+returns-2 : tie.Need-returns-2
+returns-2 c =
+    let t = c .before in
+    let e = t .before .before .before in
+    let s = e .before .before .before in
+    let full = full-count (s .args .job) (s .pre) (size s) ∙ le-leb 256 (s .args .job .header .count) (t .if2 .taken) in
+    changes-refused (s .args .job) Full (add-full (s .args .job) (s .pre) (s .args .name) (hazardGiven (s .args .hazard)) (fresh e) full) (c .unchanged2 .ensures)
+
+test-given-requires : tie.Need-test-given-requires
+test-given-requires c κs = let s = c .before .before .before .before .before .before in open-ranged (s .args .job) (s .pre)
+
+may : (c : tie.After-enum-told) → let a = c .before .before .before .before .before .before .before .before .before .args in accepted tt ≡ admit (a .job .header) (a .name) (hazardGiven (a .hazard))
 may c = ap (λ (o : Outcome). outcome o tt) (sym (c .enum-told .given .1)) ∙ c .before .before .test-given .ensures
 
 under-name-requires : tie.Need-under-name-requires
 under-name-requires c κs =
-    let s = c .before .before .before .before .before .before .before in
+    let s = c .before .before .before .before .before .before .before .before .before in
     let z = hazardGiven (s .args .hazard) in
-    (open-ranged (s .args .job) (s .pre .0), hazard-ranged (s .args .job .header) z (admitted (s .args .job .header) (s .args .name) z (rw (sym (may c))) .fits))
+    (open-ranged (s .args .job) (s .pre), hazard-ranged (s .args .job .header) z (admitted (s .args .job .header) (s .args .name) z (rw (sym (may c))) .fits))
 
 put-in-requires : tie.Need-put-in-requires
 put-in-requires c κs =
     let t = c .before in
-    let e = t .before .before .before .before in
+    let e = t .before .before .before .before .before .before in
     let s = e .before .before .before in
-    let z = hazardGiven (s .args .hazard) in
-    let few = open-header (s .args .job) (s .pre .0) .count in
+    let few = open-header (s .args .job) (s .pre) .count in
     let at = e .before .before .place-of .ensures in
-    (open-clear (s .args .job) (s .pre .0) (size s), (add-room (s .args .job) (s .pre .0) (s .args .name) z (fresh e) (may t) (size s) (s .pre .1), omega (arith, rank-most (s .args .name) (standing (s .args .job)), standing-length (s .args .job) (size s) few)))
-
-returns-2 : tie.Need-returns-2
-returns-2 c =
-    let t = c .before .before in
-    let e = t .before .before .before .before in
-    let s = e .before .before .before in
-    let done = add-done (s .args .job) (s .pre .0) (s .args .name) (hazardGiven (s .args .hazard)) (fresh e) (may t) _ (e .before .before .place-of .ensures) in
-    rw (c .put-in .ensures, c .before .under-name .ensures) (changes-done (s .args .job) done)
+    (open-clear (s .args .job) (s .pre) (size s), (omega (arith, t .before .before .before .if2 .left), omega (arith, rank-most (s .args .name) (standing (s .args .job)), standing-length (s .args .job) (size s) few)))
 
 returns-3 : tie.Need-returns-3
 returns-3 c =
+    let t = c .before .before in
+    let e = t .before .before .before .before .before .before in
+    let s = e .before .before .before in
+    let done = add-done (s .args .job) (s .pre) (s .args .name) (hazardGiven (s .args .hazard)) (fresh e) (room (t .before .before .before)) (may t) _ (e .before .before .place-of .ensures) in
+    rw (c .put-in .ensures, c .before .under-name .ensures) (changes-done (s .args .job) done)
+
+returns-4 : tie.Need-returns-4
+returns-4 c =
     let x = c .before .before .outcome .given in
     let r = c .before .before .before .before in
-    let e = r .before .before in
+    let e = r .before .before .before .before in
     let s = e .before .before .before in
-    changes-refused (s .args .job) (x .0 .0) (add-tested (s .args .job) (s .pre .0) (s .args .name) (hazardGiven (s .args .hazard)) (fresh e) (x .0 .0) (ap (λ (o : Outcome). outcome o tt) (sym (x .1)) ∙ r .test-given .ensures)) (c .unchanged2 .ensures)
+    changes-refused (s .args .job) (x .0 .0)
+    (add-tested (s .args .job) (s .pre) (s .args .name) (hazardGiven (s .args .hazard)) (fresh e) (room (r .before)) (x .0 .0) (ap (λ (o : Outcome). outcome o tt) (sym (x .1)) ∙ r .test-given .ensures)) (c .unchanged3 .ensures)
 
 pub add-named-spec : {M : Type 1} → statement M
 add-named-spec =
     tie.close
-    (tie.spec place-of-requires stands-at-requires (λ c κs. search needs) returns test-given-requires (λ c. search needs) under-name-requires put-in-requires (λ c. search needs) (λ c κs. search needs) returns-2 returns-3)
+    (tie.spec place-of-requires stands-at-requires (λ c κs. search needs) returns (λ c κs. search needs) returns-2 test-given-requires (λ c. search needs) under-name-requires put-in-requires (λ c. search needs)
+    (λ c κs. search needs) returns-3 returns-4)

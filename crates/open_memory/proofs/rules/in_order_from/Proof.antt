@@ -1,4 +1,5 @@
 -- `open_memory::rules::in_order_from` meets its contract: the ranges first, so that the test for 5 may be made. Assumes nothing.
+use native.Mathlib.Omega.{arith}
 use mathlib.Core.Path.{_≡_, sym, ap, _∙_}
 use mathlib.Core.Bool.{Bool}
 use borrow.Author.Needs.{needs}
@@ -22,7 +23,7 @@ returns : tie.Need-returns
 returns c =
     let r = c .before .before .before in
     let a = r .before .before .before .args in
-    rw (c .stands-near .ensures, c .before .unnamed .ensures) (order-ranged (a .h) (a .low) (a .p) (ranged r _ (c .before .before .if1 .taken)))
+    rw (c .stands-near .ensures, c .before .unnamed .ensures) (order-ranged (a .h) (a .low) (a .p) (omega arith) (ranged r _ (c .before .before .if1 .taken)))
 
 returns-2 : tie.Need-returns-2
 returns-2 c =
