@@ -112,6 +112,12 @@ static void print_refusal(const char *what, barrier_reply reply)
     case BARRIER_FULL:
         printf("%d hazards stand already\n", BARRIER_HAZARDS_MAX);
         break;
+    case BARRIER_LENGTHS:
+        printf("no panel length, too many, or one outside its range\n");
+        break;
+    case BARRIER_LIMIT:
+        printf("a limit of no tries, or of more than %d\n", BARRIER_TRIES_MAX);
+        break;
     default:
         printf("a number that barrier.h does not have\n");
     }

@@ -3,7 +3,7 @@
  *
  * A job goes in: one straight road and its roadside hazards.  A schedule comes
  * out: the runs of safety barrier along one side of the road, each with its
- * containment level.  There are thirteen calls:
+ * containment level.  There are fourteen calls:
  *
  *     barrier_plan           writes the schedule of one side of a job
  *     barrier_level          gives the level that a job requires at a station
@@ -13,6 +13,7 @@
  *     barrier_quantity       counts the millimetres of one level in a range
  *     barrier_quantities     the same for all lots of a contract, in one walk
  *     barrier_lookup         finds the record of the run at a station
+ *     barrier_layout         lays one run from the panel lengths of a yard
  *     barrier_open           opens a job whose hazards come and go
  *     barrier_add            adds a hazard to an open job
  *     barrier_withdraw       withdraws a hazard from an open job
@@ -21,7 +22,8 @@
  *     barrier_return         returns an open job to a state that is kept
  *
  * This file is the manual; examples/example.c is a first program,
- * examples/open_job.c one with an open job, and examples/corners.c draws a job.
+ * examples/open_job.c one with an open job, examples/layout.c one that lays
+ * panels, and examples/corners.c draws a job.
  *
  * CONTENTS
  *
@@ -32,6 +34,7 @@
  *     Overhangs                    Linking
  *     The schedule                 Constants
  *     Corner points                The calls
+ *     Panels for one run
  *
  * ---------------------------------------------------------------------------
  * STATIONS AND RANGES
@@ -262,6 +265,49 @@
  * drawing to turn one side over, as examples/corners.c does.
  *
  * ---------------------------------------------------------------------------
+ * PANELS FOR ONE RUN
+ *
+ * A yard stocks panels of up to four lengths, each 1 to 20000, and a run of
+ * barrier is to be laid from them.  The run is given by its length alone: where
+ * it stands, its level and the panel length of its job play no part.  A length
+ * of 0 is allowed, and none is too great.
+ *
+ * A layout is a count from 0 to 15 of each length.  It covers the run if its
+ * panels together are at least as long; what they are longer is its overrun.
+ * One length has 16 layouts, two have 256, three 4096, four 65536.
+ *
+ * barrier_layout tries them in rising order of their counts, the last length's
+ * changing fastest, of two lengths
+ *
+ *     (0, 0), (0, 1) and so on to (0, 15), then (1, 0), (1, 1) and so on
+ *
+ * and makes as many tries as its limit allows, or as there are layouts where
+ * these are fewer.  It does not stop before, at one that fits.  The reply has
+ * the smallest overrun among those tried, the first layout with this overrun,
+ * the tries made, and the floor.
+ *
+ * The floor is the distance from the run's length up to the least multiple, not
+ * below it, of the lengths' greatest common divisor.  No covering layout, tried
+ * or not, overruns by less.  So where the overrun is the floor, more tries are
+ * of no use.  The floor may be out of reach, though.
+ *
+ *     Lengths 4000 and 2500, run 54227, that of the printed example: the
+ *     divisor is 500, its multiple 54500, the floor 273.
+ *
+ *     limit           layout     overrun    tries
+ *     1 to 94         none                  the limit
+ *     95 to 137       (5, 14)    773        the limit
+ *     138 to 256      (8, 9)     273        the limit
+ *     257 to 65536    (8, 9)     273        256
+ *
+ *     Lengths 4000 and 6000, run 1000: the floor is 1000, but the least overrun
+ *     is 3000, of one panel of 4000.
+ *
+ * More tries never give a greater overrun, and as many tries as there are
+ * layouts give the least that there is.  None is said exactly if no layout that
+ * was tried covers the run; the reply has the tries and the floor all the same.
+ *
+ * ---------------------------------------------------------------------------
  * OPEN JOBS
  *
  * A controller meets the hazards one by one, as the rod reaches them.  For it
@@ -360,6 +406,9 @@
  *     14      0                         the job has no such hazard, or adjacent
  *                                       traffic does not reach it
  *     15      0                         256 hazards stand already (add)
+ *     16      0                         no panel length, more than four, or one
+ *                                       that is not 1 to 20000
+ *     17      0                         a limit that is not 1 to 65536 tries
  *
  * The first that holds is returned, in this order:
  *
@@ -375,6 +424,7 @@
  *     barrier_quantity       8, then 10
  *     barrier_quantities     8, then 11, then 10
  *     barrier_lookup         8, then 10, of the asked side's schedule
+ *     barrier_layout         16, then 17
  *     barrier_open           the header's numbers as barrier_plan reads them,
  *                            the hazard count's range being 0 alone; then 7
  *     barrier_add            3 with 0, then 12, then 15, then the hazard for 4
@@ -394,23 +444,25 @@
  * ---------------------------------------------------------------------------
  * MEMORY
  *
- * A call reads the bytes and the ranges that it is given with their length,
- * and never changes them.  barrier_plan and barrier_open_schedule write to
- * their output, barrier_open, barrier_add, barrier_withdraw, barrier_keep and
- * barrier_return to the open job; nothing else is written:
+ * A call reads the bytes, the ranges and the panel lengths that it is given
+ * with their length or count, and never changes them.  barrier_plan and
+ * barrier_open_schedule write to their output, barrier_open, barrier_add,
+ * barrier_withdraw, barrier_keep and barrier_return to the open job; nothing
+ * else is written:
  *
  *   - Done: the complete schedule stands from the output's first byte on, and
  *     the bytes behind it stay as they were; or the open job is changed.
  *   - Refused: every byte of the output and of the open job stays as it was.
  *
  * Each pointer has to be good for as many bytes as its length says, or
- * numbers for ranges, and the output for writing too.  A pointer may be NULL
- * where its length is 0.  A pointer to an open job is never NULL; it is good
- * for a whole barrier_open_job, for writing too but in barrier_open_schedule.
+ * numbers for ranges and panel lengths, also where they are too many, and the
+ * output for writing too.  A pointer may be NULL where its length is 0.  A
+ * pointer to an open job is never NULL; it is good for a whole
+ * barrier_open_job, for writing too but in barrier_open_schedule.
  * The output and an open job may overlap nothing else that is lent to the
- * call; buffers that are only read may overlap.  Ranges and an open job are
- * aligned as C aligns their types; bytes need no alignment.  The engine keeps
- * no pointer behind a call.
+ * call; buffers that are only read may overlap.  Ranges, panel lengths and an
+ * open job are aligned as C aligns their types; bytes need no alignment.  The
+ * engine keeps no pointer behind a call.
  *
  * ---------------------------------------------------------------------------
  * THREADS
@@ -431,7 +483,7 @@
  * `pkg-config --cflags --libs barrier_engine` prints the flags; they name this
  * header's folder and the archive libbarrier_engine.a.  The archive is for
  * x86-64, position independent, so that it links into programs and shared
- * libraries alike, exports the thirteen calls alone, and asks the C library for
+ * libraries alike, exports the fourteen calls alone, and asks the C library for
  * nothing but block copies and fills (memcpy, memset and their kin).
  *
  * A program is compiled with the header of the archive that it links: the
@@ -485,9 +537,9 @@ extern "C" {
  * in another way, or an open job has another size, so that programs already
  * compiled break ("Linking"): 1.0.0 is such a version for its replies, 2.0.0
  * for its open job, 3.0.0 for its names.  The second goes up with each
- * addition.
+ * addition, so barrier_layout is there from 3.1.0 on.
  */
-#define BARRIER_VERSION "3.0.0"
+#define BARRIER_VERSION "3.1.0"
 
 /*
  * CONSTANTS
@@ -512,6 +564,11 @@ extern "C" {
  * the greatest number of a sheet corner.  BARRIER_ROAD_MAX is the greatest
  * B - A, the longest road.  Both are 64-bit numbers.
  *
+ * BARRIER_LENGTHS_MAX is how many panel lengths a layout may have,
+ * BARRIER_STOCK_PANEL_MAX the greatest of them, BARRIER_PANELS_EACH_MAX the
+ * greatest count of each, and BARRIER_TRIES_MAX the greatest limit on tries,
+ * which suffices for every layout of four lengths.
+ *
  * BARRIER_RUNS_MAX is the greatest run count of a schedule, BARRIER_RANGES_MAX
  * how many ranges barrier_quantities takes, and BARRIER_STATES how many states
  * an open job keeps, under 0 to BARRIER_STATES - 1.
@@ -528,6 +585,10 @@ extern "C" {
 #define BARRIER_STATES 8
 #define BARRIER_RUNS_MAX 511
 #define BARRIER_RANGES_MAX 64
+#define BARRIER_LENGTHS_MAX 4
+#define BARRIER_STOCK_PANEL_MAX 20000
+#define BARRIER_PANELS_EACH_MAX 15
+#define BARRIER_TRIES_MAX 65536
 #define BARRIER_STATION_MAX UINT64_C(1000000000000)
 #define BARRIER_ROAD_MAX UINT64_C(2000000000)
 #define BARRIER_STACK_MAX 36864
@@ -568,17 +629,20 @@ enum barrier_number {
     BARRIER_NAME = 12,
     BARRIER_STATE = 13,
     BARRIER_NO_APPROACH = 14,
-    BARRIER_FULL = 15
+    BARRIER_FULL = 15,
+    BARRIER_LENGTHS = 16,
+    BARRIER_LIMIT = 17
 };
 
 /*
  * THE CALLS
  *
- * Sides, levels, stations, state numbers, hazard indices, sheet corners and a
- * hazard's numbers are passed in 64 bits, so that a number that is too great is
- * refused and never cut down to one that is not.  Names are passed in 16 bits,
- * all of which are names: C cuts a greater number down before the call gets it,
- * so a program whose numbers can be above BARRIER_NAME_MAX tests them itself.
+ * Sides, levels, stations, state numbers, hazard indices, sheet corners, panel
+ * lengths, limits and a hazard's numbers are passed in 64 bits, so that a
+ * number that is too great is refused and never cut down to one that is not.
+ * Names are passed in 16 bits, all of which are names: C cuts a greater number
+ * down before the call gets it, so a program whose numbers can be above
+ * BARRIER_NAME_MAX tests them itself.
  */
 
 /*
@@ -839,6 +903,53 @@ barrier_quantities_reply barrier_quantities(const uint8_t *schedule, size_t sche
 barrier_record barrier_lookup(const uint8_t *right, size_t right_len,
                               const uint8_t *left, size_t left_len,
                               uint64_t side, uint64_t station);
+
+/*
+ * What barrier_layout replies.
+ *
+ *     number     BARRIER_DONE, BARRIER_LENGTHS or BARRIER_LIMIT
+ *     value      0
+ *     found      1 where a layout that was tried covers the run, else 0, also
+ *                when refused
+ *     overrun    found: the smallest overrun among those tried; else 0
+ *     counts     found: the first layout that has it, a count for each length
+ *                in their order, and 0 behind them; else 0 everywhere
+ *     tries      done, found or not: the tries made; refused: 0
+ *     floor      done, found or not: what no covering layout overruns by less
+ *                than; refused: 0
+ */
+typedef struct {
+    uint64_t number;
+    uint64_t value;
+    uint64_t found;
+    uint64_t overrun;
+    uint64_t counts[BARRIER_LENGTHS_MAX];
+    uint64_t tries;
+    uint64_t floor;
+} barrier_layout_reply;
+
+/*
+ * Layout: how one run is laid from a yard's panels with the smallest overrun
+ * among a number of tries ("Panels for one run").
+ *
+ *     lengths, lengths_len    the panel lengths, 1 to BARRIER_LENGTHS_MAX of
+ *                             them, each 1 to BARRIER_STOCK_PANEL_MAX; equal
+ *                             ones are allowed, and their order is the order of
+ *                             the tries
+ *     run                     the run's length, any number of millimetres
+ *     limit                   the most tries, 1 to BARRIER_TRIES_MAX
+ *
+ * Done: found is 1, with the overrun and the layout; or found is 0, and no
+ * layout that was tried covers the run.  tries and floor stand in both.
+ * Refused: 16 or 17, with 0.
+ *
+ * A run of 0 is covered by the first try, which has no panels.  Where found is
+ * 0, a greater limit may find a layout; but none covers the run if every
+ * layout was tried (tries is then 16, 256, 4096 or 65536, by the number of
+ * lengths), as with BARRIER_TRIES_MAX it always is.
+ */
+barrier_layout_reply barrier_layout(const uint64_t *lengths, size_t lengths_len,
+                                    uint64_t run, uint64_t limit);
 
 /*
  * A hazard as barrier_add takes it: the six numbers of the hazard table, in

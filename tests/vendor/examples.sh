@@ -1,7 +1,7 @@
 #!/bin/sh
-# The first program and the open job print the stored text, in C and in Rust,
-# and end with 1 where their output cannot be written or a call is refused that
-# should not be.
+# The first program, the open job and the layout print the stored text, in C and
+# in Rust, and end with 1 where their output cannot be written or a call is
+# refused that should not be.
 set -eu
 tmp=$(mktemp -d)
 trap 'rm -rf "$tmp"' EXIT
@@ -19,7 +19,7 @@ ends_with() {
     [ "$status" -eq "$wanted" ] || fail "$* ends with $status, not $wanted: $(cat "$tmp/said")"
 }
 
-for name in example open_job; do
+for name in example open_job layout; do
     for program in "$BUILD/$name" "$BUILD/rust/release/$name"; do
         ends_with 0 "$program" >"$tmp/printed"
         diff "examples/$name.out" "$tmp/printed"
@@ -27,7 +27,7 @@ for name in example open_job; do
         grep -qx "$name: standard output cannot be written" "$tmp/said" || fail "$program, output full: $(cat "$tmp/said")"
     done
 done
-echo "examples: C and Rust print examples/example.out and open_job.out, and end with 1 where the output is full"
+echo "examples: C and Rust print examples/example.out, open_job.out and layout.out, and end with 1 where the output is full"
 
 # The examples linked with calls that refuse; C and Rust have to say the same.
 # Arguments: the call that is refused, the program, and the last line printed.
@@ -65,4 +65,8 @@ refused keep open_job '  keep 0: refused 13 with 0'
 refused return_to open_job '  return 0: refused 13 with 0'
 grep -qx '    overhang: 4 mm before the road, 5 mm behind it' "$tmp/keep/c" || fail "the overhangs of an open job"
 refused nothing open_job '  add 7: done'
+refused layout layout '  run 54227, at most 94 tries: refused 17 with 0'
+refused nothing layout '  no length: done, but it should be refused'
+grep -qx '  run 54227, at most 94 tries: none covers it; 7 tries, floor 8' "$tmp/nothing/c" || fail "no layout"
+grep -qx '  run 54227, at most 95 tries: (3, 4), overrun 2; 7 tries, floor 8' "$tmp/nothing/c" || fail "the layout"
 echo "examples: C and Rust end with 1 at the first call refused, and at one that is not and should be"

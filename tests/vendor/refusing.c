@@ -16,6 +16,7 @@ enum {
     lookup,
     quantity,
     quantities,
+    layout,
     open,
     add,
     withdraw,
@@ -117,6 +118,21 @@ barrier_record barrier_lookup(const uint8_t *right, size_t right_len, const uint
     (void)side;
     (void)station;
     return REFUSED == lookup ? refused : none;
+}
+
+/* None for the least limit asked for, and numbers that differ, as above. */
+barrier_layout_reply barrier_layout(const uint64_t *lengths, size_t lengths_len, uint64_t run,
+                                    uint64_t limit)
+{
+    const barrier_layout_reply done = {BARRIER_DONE, 0, 1, 2, {3, 4, 5, 6}, 7, 8};
+    const barrier_layout_reply none = {BARRIER_DONE, 0, 0, 0, {0}, 7, 8};
+    const barrier_layout_reply refused = {BARRIER_LIMIT, 0, 0, 0, {0}, 0, 0};
+    (void)lengths;
+    (void)lengths_len;
+    (void)run;
+    if (REFUSED == layout)
+        return refused;
+    return limit == 94 ? none : done;
 }
 
 barrier_reply barrier_open(barrier_open_job *job, const uint8_t *bytes, size_t bytes_len)

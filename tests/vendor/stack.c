@@ -4,8 +4,8 @@
  * comes from standard input; BARRIER_STACK_MAX bytes have to suffice for
  * planning it, into a large output and into one of exactly its schedule's
  * length, where the bytes needed are counted first, for its level at a
- * station, for its last hazard's corners and offset, and for the queries;
- * BARRIER_OPEN_STACK_MAX for an open job to which the job's hazards are added
+ * station, for its last hazard's corners and offset, for the queries, and for
+ * every layout of four panel lengths; BARRIER_OPEN_STACK_MAX for an open job to which the job's hazards are added
  * one by one, and in which they are kept eight times. Where a reply is large,
  * its room in the caller counts too.
  *
@@ -36,6 +36,7 @@ static barrier_quantities_reply priced;
 static barrier_corners_reply drawn;
 static barrier_offset_reply cleared;
 static barrier_record found;
+static barrier_layout_reply laid;
 static barrier_open_job open_job, whole_job;
 static unsigned char header[64];
 static size_t header_length;
@@ -89,6 +90,13 @@ static void quantities(void)
 static void lookup(void)
 {
     found = barrier_lookup(schedule, planned.value, NULL, 0, BARRIER_RIGHT, BARRIER_STATION_MAX);
+}
+
+static void layout(void)
+{
+    static const uint64_t lengths[BARRIER_LENGTHS_MAX] = {20000, 19998, 9996, 6};
+
+    laid = barrier_layout(lengths, BARRIER_LENGTHS_MAX, 654321, BARRIER_TRIES_MAX);
 }
 
 static void open_empty(void)
@@ -212,6 +220,7 @@ int main(void)
     well &= suffices("quantity", quantity, BARRIER_STACK_MAX);
     well &= suffices("quantities", quantities, BARRIER_STACK_MAX);
     well &= suffices("lookup", lookup, BARRIER_STACK_MAX);
+    well &= suffices("layout", layout, BARRIER_STACK_MAX);
     open_planned_job();
     well &= suffices("add", add_last, BARRIER_OPEN_STACK_MAX);
     well &= suffices("keep", keep, BARRIER_OPEN_STACK_MAX);
@@ -229,6 +238,7 @@ int main(void)
     all_done &= done("quantity", counted.number);
     all_done &= done("quantities", priced.number);
     all_done &= done("lookup", found.number);
+    all_done &= done("layout", laid.number);
     all_done &= done("add", added.number);
     all_done &= done("keep", kept.number);
     all_done &= done("withdraw", withdrawn.number);

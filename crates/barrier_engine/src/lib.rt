@@ -2,6 +2,7 @@
 pub mod open; // the calls on an open job
 
 use replies::Corners;
+use replies::LayoutReply;
 use replies::PlanReply;
 use replies::Quantities;
 use replies::Record;
@@ -13,10 +14,11 @@ ghost use Rattle.schedule.specs.Plan.{plan, bytesWritten, outputAfter};
 ghost use Rattle.station_level.specs.Level.{levelAt};
 ghost use Rattle.corners.specs.Corners.{cornersOf};
 ghost use Rattle.clear_offset.specs.Offset.{smallestOffset};
+ghost use Rattle.panels.specs.Panels.{panelsFor};
 ghost use Rattle.queries.specs.Quantity.{quantity};
 ghost use Rattle.queries.specs.Lookup.{lookup};
 ghost use Rattle.queries.specs.Ranges.{quantities};
-ghost use Rattle.replies.specs.Interface.{replyOf, planReplyOf, recordOf, quantitiesOf, CornersTold, smallestOf};
+ghost use Rattle.replies.specs.Interface.{replyOf, planReplyOf, recordOf, quantitiesOf, CornersTold, smallestOf, layoutOf};
 
 #[no_mangle]
 pub extern "C" fn barrier_plan(job: &[u8], side: u64, out: &mut [u8]) -> PlanReply
@@ -71,4 +73,11 @@ pub extern "C" fn barrier_corners(
     ensures { λ r. ⌜ CornersTold r (cornersOf (now (job .entry)) hazard «sheet_station» «sheet_offset») ⌝ }
 {
     replies::calls::corners(job, hazard, sheet_station, sheet_offset)
+}
+
+#[no_mangle]
+pub extern "C" fn barrier_layout(lengths: &[u64], run: u64, limit: u64) -> LayoutReply
+    ensures { λ r. ⌜ r ≡ layoutOf (panelsFor (now (lengths .entry)) run limit) ⌝ }
+{
+    replies::layout::layout(lengths, run, limit)
 }

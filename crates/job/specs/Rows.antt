@@ -6,7 +6,7 @@ use mathlib.Core.Bool.{true, false}
 use mathlib.Core.List.{List, [], _∷_, _++_, List·Memᴰ}
 use lib.ListN.{length, getD}
 use Rattle.refusal.specs.declared.Refusal.{Refusal}
-use Rattle.refusal.specs.declared.Refusal.the-variants.{Ended, Malformed, HeaderRange, HazardRange, NearBarrier, LeftOver, Argument, Room, Schedule, Ranges, Name, State, Full}
+use Rattle.refusal.specs.declared.Refusal.the-variants.{Ended, Malformed, HeaderRange, HazardRange, NearBarrier, LeftOver, Argument, Room, Schedule, Ranges, Name, State, Full, Lengths, Tries}
 use Rattle.refusal.specs.declared.Refusal.the-variants as Refusal
 use Rattle.number.specs.Number.{writeNumber, greatest}
 use Rattle.number.specs.Form.{EndsInside, IllFormed}
@@ -116,3 +116,5 @@ ReadRow (Name name) s = ⊥
 ReadRow State s = ⊥
 ReadRow Refusal.Hazard s = ⊥
 ReadRow Full s = ⊥
+ReadRow Lengths s = ⊥
+ReadRow Tries s = ⊥

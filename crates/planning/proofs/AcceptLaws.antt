@@ -1,12 +1,11 @@
 -- The hazards of a job tested in order: one turn, and how the envelopes of a side and their overhangs grow.
 -- Assumes nothing.
-use Prim.Native.Nat.{ℕ, zero, suc, _+_, _-_, _≤_, _<_}
+use Prim.Native.Nat.{ℕ, _+_, _-_, _≤_, _<_}
 use native.Mathlib.Omega.{arith}
 use native.Mathlib.Numerals.{add-one}
-use native.Mathlib.Nat.{le-of-suc-le-suc, not-suc-le-zero}
 use mathlib.Core.Path.{_≡_, refl, sym, ap, _∙_}
 use mathlib.Core.Bool.{Bool, true, false, _&&_}
-use mathlib.Core.List.{List, [], _∷_, _++_, map, append-assoc, append-nil, List·Memᴰ, List·Memᴰ·head, List·Memᴰ·tail}
+use mathlib.Core.List.{List, [], _∷_, _++_, map, append-assoc, append-nil}
 use lib.ListN.{length, getD, set, take, drop, length-append, length-set, drop-of-length-le, List·getD-map}
 use lib.Seq.{drop-cons, getD-take}
 use lib.Dec.{eqb}
@@ -16,6 +15,7 @@ use Rattle.refusal.specs.Refusal.{refusal}
 use Rattle.refusal.specs.Stored.{acceptedOr}
 use Rattle.refusal.specs.declared.Refusal.{Refusal}
 use Rattle.refusal.specs.declared.Outcome.the-variants.{Done, Refused}
+use Rattle.refusal.proofs.EachLaws.{getD-member}
 use Rattle.job.specs.declared.Header.{Header}
 use Rattle.job.specs.declared.Hazard.{Hazard}
 use Rattle.job.specs.declared.NamedHazard.{NamedHazard}
@@ -88,11 +88,6 @@ level-given h side i z e o p = omega (arith, ap first p, go (testHazard h i z) (
     go (refused k v) b = omega arith
 
 -- The loop
-
-pub getD-member : {A : Type 0} (l : List A) (i : ℕ) (d : A) → i < length l → List·Memᴰ (getD l i d) l
-getD-member [] i d h = absurd (not-suc-le-zero h)
-getD-member (x ∷ xs) zero d h = List·Memᴰ·head refl
-getD-member (x ∷ xs) (suc i) d h = List·Memᴰ·tail (getD-member xs i d (le-of-suc-le-suc h))
 
 -- A reply says the answer by its outcome, and by what stands beside it.
 abbrev pub Replies : SideEnvelopes → Answer Cuts → Type 0

@@ -9,6 +9,7 @@ use lib.ListN.{length, getD}
 use lib.Dec.{ltb}
 use borrow.Author.Tests.{lt-ltb, le-ltb}
 use Rattle.refusal.specs.Answer.{Answer, accepted, refused, _>>=_, unless-refuse}
+use Rattle.refusal.proofs.EachLaws.{getD-member}
 use Rattle.job.specs.declared.Header.{Header}
 use Rattle.job.specs.declared.Hazard.{Hazard}
 use Rattle.job.specs.declared.StoredJob.{StoredJob}
@@ -18,7 +19,7 @@ use Rattle.job.proofs.JobLaws.{HeaderFits, HazardFits}
 use Rattle.planning.specs.Approached.{hazardAt, adjacentReaches, approachedHazard}
 use Rattle.planning.proofs.ReachLaws.{reached-near}
 use Rattle.planning.proofs.EnvelopeLaws.{AcceptedFits}
-use Rattle.planning.proofs.AcceptLaws.{getD-member, stored}
+use Rattle.planning.proofs.AcceptLaws.{stored}
 use Rattle.planning.proofs.AdjacentLaws.{adjacent-reaches}
 
 -- A hazard in its ranges that adjacent traffic reaches and that stands clear of the barrier.

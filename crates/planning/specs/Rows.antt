@@ -7,7 +7,7 @@ use mathlib.Core.List.{List, _∷_, _++_, List·Memᴰ}
 use lib.ListN.{length}
 use Rattle.refusal.specs.Answer.{accepted}
 use Rattle.refusal.specs.declared.Refusal.{Refusal}
-use Rattle.refusal.specs.declared.Refusal.the-variants.{Ended, Malformed, HeaderRange, HazardRange, NearBarrier, LeftOver, Argument, Room, Schedule, Ranges, Name, State, Full}
+use Rattle.refusal.specs.declared.Refusal.the-variants.{Ended, Malformed, HeaderRange, HazardRange, NearBarrier, LeftOver, Argument, Room, Schedule, Ranges, Name, State, Full, Lengths, Tries}
 use Rattle.refusal.specs.declared.Refusal.the-variants as Refusal
 use Rattle.job.specs.declared.Header.{Header}
 use Rattle.job.specs.declared.Hazard.{Hazard}
@@ -54,3 +54,5 @@ JobRow (Name name) s = ⊥
 JobRow State s = ⊥
 JobRow Refusal.Hazard s = ⊥
 JobRow Full s = ⊥
+JobRow Lengths s = ⊥
+JobRow Tries s = ⊥

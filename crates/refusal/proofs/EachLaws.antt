@@ -1,8 +1,16 @@
--- What every member of a list satisfies, with one member more.
+-- Members of a list: what stands at an index, and what every member satisfies, with one member more.
 -- Assumes nothing.
-use mathlib.Core.Path.{_≡_}
+use Prim.Native.Nat.{ℕ, zero, suc, _<_}
+use native.Mathlib.Omega.{arith}
+use mathlib.Core.Path.{_≡_, refl}
 use mathlib.Core.Logic.{_⊎_, inl, inr}
-use mathlib.Core.List.{List, [], _∷_, _++_, List·Memᴰ, List·Memᴰ·cases-cons, List·Memᴰ·append-cases, List·Memᴰ·eq-of-singleton}
+use mathlib.Core.List.{List, [], _∷_, _++_, List·Memᴰ, List·Memᴰ·head, List·Memᴰ·tail, List·Memᴰ·cases-cons, List·Memᴰ·append-cases, List·Memᴰ·eq-of-singleton}
+use lib.ListN.{length, getD}
+
+pub getD-member : {A : Type 0} (l : List A) (i : ℕ) (d : A) → i < length l → List·Memᴰ (getD l i d) l
+getD-member [] i d h = absurd (omega arith)
+getD-member (x ∷ xs) zero d h = List·Memᴰ·head refl
+getD-member (x ∷ xs) (suc i) d h = List·Memᴰ·tail (getD-member xs i d (omega arith))
 
 module _ {A : Type 0} (P : A → Type 0) where
   pub cons-each : {y : A} {l : List A} → P y → ((z : A) → List·Memᴰ z l → P z) → (z : A) → List·Memᴰ z (y ∷ l) → P z

@@ -7,13 +7,13 @@ use mathlib.Core.Path.{_≡_, refl, sym, ap₂, _∙_}
 use mathlib.Core.List.{[], _∷_}
 use lib.ListN.{getD}
 use Rattle.refusal.specs.declared.Refusal.{Refusal}
-use Rattle.refusal.specs.declared.Refusal.the-variants.{Ended, Malformed, HeaderRange, HazardRange, NearBarrier, LeftOver, Argument, Room, Schedule, Ranges, Name, State, Hazard, Full}
+use Rattle.refusal.specs.declared.Refusal.the-variants.{Ended, Malformed, HeaderRange, HazardRange, NearBarrier, LeftOver, Argument, Room, Schedule, Ranges, Name, State, Hazard, Full, Lengths, Tries}
 use Rattle.refusal.specs.Refusal.{numberOf, valueOf}
 
 -- The refusal with a number and a value; there is none with 6.
 abbrev rowAt : (number value : ℕ) → Refusal
 rowAt number value =
-    getD (Argument ∷ Ended value ∷ Malformed value ∷ HeaderRange value ∷ HazardRange value ∷ NearBarrier value ∷ Argument ∷ LeftOver value ∷ Argument ∷ Room value ∷ Schedule ∷ Ranges ∷ Name value ∷ State ∷ Hazard ∷ Full ∷ []) number Argument
+    getD (Argument ∷ Ended value ∷ Malformed value ∷ HeaderRange value ∷ HazardRange value ∷ NearBarrier value ∷ Argument ∷ LeftOver value ∷ Argument ∷ Room value ∷ Schedule ∷ Ranges ∷ Name value ∷ State ∷ Hazard ∷ Full ∷ Lengths ∷ Tries ∷ []) number Argument
 
 row-back : (r : Refusal) → rowAt (numberOf r) (valueOf r) ≡ r
 row-back (Ended at) = refl
@@ -30,6 +30,8 @@ row-back (Name name) = refl
 row-back State = refl
 row-back Hazard = refl
 row-back Full = refl
+row-back Lengths = refl
+row-back Tries = refl
 
 pub same-row : (r q : Refusal) → numberOf r ≡ numberOf q → valueOf r ≡ valueOf q → r ≡ q
 same-row r q n v = sym (row-back r) ∙ ap₂ rowAt n v ∙ row-back q
@@ -50,3 +52,5 @@ no-six (Name name) = omega arith
 no-six State = omega arith
 no-six Hazard = omega arith
 no-six Full = omega arith
+no-six Lengths = omega arith
+no-six Tries = omega arith

@@ -2,7 +2,7 @@
 -- Assumes nothing.
 use Prim.Native.Nat.{ℕ}
 use Rattle.refusal.specs.declared.Refusal.{Refusal}
-use Rattle.refusal.specs.declared.Refusal.the-variants.{Ended, Malformed, HeaderRange, HazardRange, NearBarrier, LeftOver, Argument, Room, Schedule, Ranges, Name, State, Hazard, Full}
+use Rattle.refusal.specs.declared.Refusal.the-variants.{Ended, Malformed, HeaderRange, HazardRange, NearBarrier, LeftOver, Argument, Room, Schedule, Ranges, Name, State, Hazard, Full, Lengths, Tries}
 use Rattle.refusal.specs.declared.Outcome.{Outcome}
 use Rattle.refusal.specs.declared.Outcome.the-variants.{Done, Refused}
 use Rattle.refusal.specs.Answer.{Answer, accepted, refused}
@@ -22,6 +22,8 @@ numberOf (Name name) = 12
 numberOf State = 13
 numberOf Hazard = 14
 numberOf Full = 15
+numberOf Lengths = 16
+numberOf Tries = 17
 
 abbrev pub valueOf : Refusal → ℕ
 valueOf (Ended at) = at
@@ -38,6 +40,8 @@ valueOf (Name name) = name
 valueOf State = 0
 valueOf Hazard = 0
 valueOf Full = 0
+valueOf Lengths = 0
+valueOf Tries = 0
 
 -- The refusal as an answer.
 abbrev pub refusal : {A : Type 0} → Refusal → Answer A

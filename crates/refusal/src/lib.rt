@@ -31,6 +31,10 @@ pub enum Refusal {
     Hazard,
     // An add when 256 hazards stand.
     Full,
+    // No panel length, more than four, or one out of its range.
+    Lengths,
+    // A limit on tries of 0, or above 65,536.
+    Tries,
 }
 
 // The row's number in the table.
@@ -52,6 +56,8 @@ pub fn refusal_number(refusal: Refusal) -> u64
         Refusal::State => 13,
         Refusal::Hazard => 14,
         Refusal::Full => 15,
+        Refusal::Lengths => 16,
+        Refusal::Tries => 17,
     }
 }
 
@@ -74,6 +80,8 @@ pub fn refusal_value(refusal: Refusal) -> u64
         Refusal::State => 0,
         Refusal::Hazard => 0,
         Refusal::Full => 0,
+        Refusal::Lengths => 0,
+        Refusal::Tries => 0,
     }
 }
 

@@ -1,2 +1,3 @@
+pub mod EndedLaws
 pub mod OpenLaws
 pub mod ShellLaws

@@ -9,6 +9,9 @@ use Rattle.schedule.specs.declared.reply.Written.{Written}
 use Rattle.corners.specs.Corners.{Points}
 use Rattle.corners.specs.Reply.{CornerIs, noPoints}
 use Rattle.clear_offset.specs.Offset.{Smallest, offset, none}
+use Rattle.panels.specs.Layout as panels
+use Rattle.panels.specs.Panels.{Panels}
+use Rattle.panels.specs.Reply as layout
 use Rattle.queries.specs.Lookup.{Found, found, nowhere}
 use Rattle.queries.specs.Ranges.{Counted, placesOf}
 use Rattle.replies.specs.declared.Reply.{Reply}
@@ -17,6 +20,7 @@ use Rattle.replies.specs.declared.Record.{Record}
 use Rattle.replies.specs.declared.Quantities.{Quantities}
 use Rattle.replies.specs.declared.Corners.{Corners}
 use Rattle.replies.specs.declared.SmallestOffset.{SmallestOffset}
+use Rattle.replies.specs.declared.LayoutReply.{LayoutReply}
 
 abbrev pub reply : (number value : ℕ) → Reply
 reply number value = record { number = number; value = value }
@@ -57,3 +61,13 @@ unfoldable pub smallestOf : Answer Smallest → SmallestOffset
 smallestOf (accepted (offset M)) = record { number = 0; value = M; found = 1 }
 smallestOf (accepted none) = record { number = 0; value = 0; found = 0 }
 smallestOf (refused number value) = record { number = number; value = value; found = 0 }
+
+-- The smallest overrun and its first layout, a count for each length and zeros behind them; zeros where no tried layout covers. Tries and floor
+-- stand in both; after a refusal zeros alone.
+abbrev pub bestOf : panels.Found → (tries floor : ℕ) → LayoutReply
+bestOf (panels.found o counts) t f = record { number = 0; value = 0; found = 1; overrun = o; counts = layout.placesOf counts; tries = t; floor = f }
+bestOf panels.none t f = record { number = 0; value = 0; found = 0; overrun = 0; counts = layout.placesOf []; tries = t; floor = f }
+
+unfoldable pub layoutOf : Answer Panels → LayoutReply
+layoutOf (accepted p) = bestOf (p .best) (p .tries) (p .floor)
+layoutOf (refused number value) = record { number = number; value = value; found = 0; overrun = 0; counts = layout.placesOf []; tries = 0; floor = 0 }

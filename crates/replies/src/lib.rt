@@ -10,6 +10,7 @@ ghost use Rattle.replies.specs.Interface.{reply, replyOf, planReplyOf};
 
 pub mod calls; // the calls on job and schedule bytes
 pub mod hazard; // the call smallest offset
+pub mod layout; // the call layout
 pub mod open; // the calls on the parts of an open job
 
 // Number 0: done, with the bytes written and the greatest overhangs before A and behind B; else the refusal, and 0 for both.
@@ -62,6 +63,19 @@ pub struct SmallestOffset {
     pub number: u64,
     pub value: u64,
     pub found: u64,
+}
+
+// Number 0: where found is 1, the smallest overrun and its first layout's counts, in the order of the lengths, 0 behind them; where it is 0 no
+// tried layout covers, and overrun and counts are 0. Else the refusal, and 0 in all the others.
+#[repr(C)]
+pub struct LayoutReply {
+    pub number: u64,
+    pub value: u64,
+    pub found: u64,
+    pub overrun: u64,
+    pub counts: [u64; 4],
+    pub tries: u64,
+    pub floor: u64,
 }
 
 fn refused(refusal: Refusal) -> Reply

@@ -35,6 +35,8 @@ pub const NAME: u64 = 12;
 pub const STATE: u64 = 13;
 pub const NO_APPROACH: u64 = 14;
 pub const FULL: u64 = 15;
+pub const LENGTHS: u64 = 16;
+pub const LIMIT: u64 = 17;
 
 /// The calls as C has them.
 pub mod c {
@@ -89,6 +91,17 @@ pub mod c {
         pub value: u64,
         pub records: u64,
         pub quantities: [u64; 64],
+    }
+
+    #[repr(C)]
+    pub struct LayoutReply {
+        pub number: u64,
+        pub value: u64,
+        pub found: u64,
+        pub overrun: u64,
+        pub counts: [u64; 4],
+        pub tries: u64,
+        pub floor: u64,
     }
 
     #[repr(C)]
@@ -201,6 +214,13 @@ pub mod c {
             ranges: *const u64,
             ranges_len: usize,
         ) -> QuantitiesReply;
+
+        pub fn barrier_layout(
+            lengths: *const u64,
+            lengths_len: usize,
+            run: u64,
+            limit: u64,
+        ) -> LayoutReply;
 
         pub fn barrier_open(job: *mut OpenJob, bytes: *const u8, bytes_len: usize) -> Reply;
 
@@ -398,6 +418,48 @@ pub fn quantities(
             number,
             value: reply.value,
         }),
+    }
+}
+
+/// The smallest overrun among the layouts tried, and the first layout that has
+/// it: a count for each length in their order, and 0 behind them.
+#[derive(Clone, Copy, Debug, PartialEq, Eq)]
+pub struct Covering {
+    pub overrun: u64,
+    pub counts: [u64; 4],
+}
+
+/// What the tries gave: a covering layout, or `None` where no layout that was
+/// tried covers the run; the tries made; and the floor, by less than which no
+/// covering layout overruns, tried or not.
+#[derive(Clone, Copy, Debug, PartialEq, Eq)]
+pub struct Layout {
+    pub covering: Option<Covering>,
+    pub tries: u64,
+    pub floor: u64,
+}
+
+/// Lays a run of that length from panels of one to four lengths, by at most
+/// `limit` tries.
+pub fn layout(lengths: &[u64], run: u64, limit: u64) -> Result<Layout, Refusal> {
+    // SAFETY: the pointer is good for as many numbers as are named with it.
+    let reply = unsafe { c::barrier_layout(lengths.as_ptr(), lengths.len(), run, limit) };
+    let c::LayoutReply {
+        number,
+        value,
+        found,
+        overrun,
+        counts,
+        tries,
+        floor,
+    } = reply;
+    match number {
+        DONE => Ok(Layout {
+            covering: (found != 0).then_some(Covering { overrun, counts }),
+            tries,
+            floor,
+        }),
+        _ => Err(Refusal { number, value }),
     }
 }
 

@@ -102,6 +102,8 @@ fn print_refusal(out: &mut impl Write, what: &str, refusal: Refusal) -> io::Resu
             writeln!(out, "no such hazard, or adjacent traffic does not reach it")
         }
         barrier::FULL => writeln!(out, "256 hazards stand already"),
+        barrier::LENGTHS => writeln!(out, "no panel length, too many, or one outside its range"),
+        barrier::LIMIT => writeln!(out, "a limit of no tries, or of more than 65536"),
         _ => writeln!(out, "a number that barrier.h does not have"),
     }
 }

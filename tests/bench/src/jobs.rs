@@ -55,6 +55,12 @@ pub const LAST: u64 = 255;
 /// A sheet corner, station and offset.
 pub const SHEET: (u64, u64) = (1_000_000_000, 1_000);
 
+/// The panel lengths of the yard.
+pub const PANELS: [u64; 4] = [4_000, 3_000, 2_500, 1_333];
+
+/// A run that no layout of them meets to the millimetre.
+pub const RUN: u64 = 44_227;
+
 const HEADER: Header = [
     1, 0, ROAD_END, 101_000, 88_000, 9_000, 1_500, 1_800, 1_000, 15, 1, 13_340, 5_000, 1,
 ];

@@ -3,12 +3,15 @@
 
 use std::hint::black_box;
 
-use cases::calls::{contract, corners_reply, offset_reply, plan_reply, record, reply};
+use cases::calls::{
+    contract, corners_reply, layout_reply, offset_reply, plan_reply, record, reply,
+};
+use reference::layout::MOST_TRIES;
 use reference::open::Name;
 
 use crate::jobs::{self, Kind, LAST, Order, ROAD_END};
 
-pub const NAMES: [&str; 25] = [
+pub const NAMES: [&str; 26] = [
     "sparse-shuffled",
     "sparse-shuffled-panels-4000",
     "overhang-sparse-shuffled",
@@ -20,6 +23,7 @@ pub const NAMES: [&str; 25] = [
     "level-dense-shuffled",
     "corners-sparse-shuffled",
     "offset-sparse-shuffled",
+    "layout-4-all",
     "quantity-511",
     "quantities-64-all",
     "quantities-64-half",
@@ -84,6 +88,7 @@ impl Single {
             "level-dense-shuffled" => self.level(Kind::Dense),
             "corners-sparse-shuffled" => self.corners(),
             "offset-sparse-shuffled" => self.offset(),
+            "layout-4-all" => self.layout(),
             "quantity-511" => self.quantity(),
             "quantities-64-all" => self.quantities(&jobs::schedule_of_one_level(3), 3),
             "quantities-64-half" => self.quantities(&schedule_511(), 1),
@@ -147,6 +152,18 @@ impl Single {
             black_box(match self.who {
                 Who::Engine => engine::offset(job, LAST, longest),
                 Who::Reference => offset_reply(reference::offset(job, LAST, longest)),
+            });
+        }
+    }
+
+    /// Every layout of four lengths.
+    fn layout(&self) {
+        let (lengths, run) = (jobs::PANELS, jobs::RUN);
+        for _ in 0..self.times {
+            let lengths = black_box(&lengths);
+            black_box(match self.who {
+                Who::Engine => engine::layout(lengths, run, MOST_TRIES),
+                Who::Reference => layout_reply(reference::layout(lengths, run, MOST_TRIES)),
             });
         }
     }

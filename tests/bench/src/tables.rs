@@ -3,8 +3,11 @@
 use std::hint::black_box;
 use std::process::ExitCode;
 
-use cases::calls::{contract, corners_reply, offset_reply, plan_reply, record, reply};
+use cases::calls::{
+    contract, corners_reply, layout_reply, offset_reply, plan_reply, record, reply,
+};
 use cases::{Memory, Reply};
+use reference::layout::MOST_TRIES;
 
 use crate::jobs::{self, Kind, LAST, Order, ROAD_END};
 use crate::time::{self, Pair, Times};
@@ -30,6 +33,7 @@ pub fn print() -> ExitCode {
     print_growth(&planned);
     print_level();
     print_one_hazard();
+    print_layout();
     print_quantity();
     print_contract();
     print_lookup();
@@ -196,6 +200,26 @@ fn print_one_hazard() {
     };
     for (name, pair) in [("corners", corners), ("smallest offset", smallest)] {
         println!("| {name} | {} |", columns(&pair.times()));
+    }
+}
+
+fn print_layout() {
+    println!("\nLayouts of one run, all of them tried, ns per call:\n");
+    println!("| lengths | tries | engine | reference | engine/reference |");
+    println!("|---:|---:|---:|---:|---:|");
+    for count in 1..=jobs::PANELS.len() {
+        let lengths = &jobs::PANELS[..count];
+        let pair = Pair {
+            engine: Box::new(|| {
+                black_box(engine::layout(black_box(lengths), jobs::RUN, MOST_TRIES));
+            }),
+            reference: Box::new(|| {
+                let tried = reference::layout(black_box(lengths), jobs::RUN, MOST_TRIES);
+                black_box(layout_reply(tried));
+            }),
+        };
+        let tries = 16u64.pow(count as u32);
+        println!("| {count} | {tries} | {} |", columns(&pair.times()));
     }
 }
 

@@ -4,9 +4,10 @@ use std::ops::Range;
 
 use reference::calls::MOST_RANGES;
 use reference::job::Hazard;
+use reference::layout::MOST_LENGTHS;
 use reference::memory;
 use reference::open::Name;
-use reference::{Corner, Corners, Lookup, Outcome, Planned, Quantities, Refusal};
+use reference::{Corner, Corners, Lookup, Outcome, Planned, Quantities, Refusal, Tried};
 
 /// The reply of level, quantity and the calls that change an open job: number 0
 /// with the level, the millimetres or 0, else the paper's refusal number with its
@@ -95,6 +96,21 @@ pub struct OffsetReply {
     pub found: u64,
 }
 
+/// The reply of layout: number 0 with found 1, the overrun and a count of each
+/// length, 0 in the places behind them, or found 0 and no overrun and no count;
+/// either with the tries and the floor. Else the refusal number with its value,
+/// and all the rest 0.
+#[derive(Clone, Copy, Debug, Default, PartialEq, Eq)]
+pub struct LayoutReply {
+    pub number: u64,
+    pub value: u64,
+    pub found: u64,
+    pub overrun: u64,
+    pub counts: [u64; MOST_LENGTHS],
+    pub tries: u64,
+    pub floor: u64,
+}
+
 /// Guard bytes on each side of lent memory.
 pub const GUARD: usize = 24;
 
@@ -130,6 +146,9 @@ pub type CornersCall = dyn Fn(&mut [u8], u64, u64, u64) -> CornersReply;
 /// Job, hazard index, the wanted longest approach.
 pub type OffsetCall = dyn Fn(&mut [u8], u64, u64) -> OffsetReply;
 
+/// Panel lengths, the run's length, the limit of tries.
+pub type LayoutCall = dyn Fn(&mut [u64], u64, u64) -> LayoutReply;
+
 /// Schedule, level, p, q.
 pub type QuantityCall = dyn Fn(&mut [u8], u64, u64, u64) -> Reply;
 
@@ -161,6 +180,7 @@ pub struct Calls {
     pub level: Box<LevelCall>,
     pub corners: Box<CornersCall>,
     pub offset: Box<OffsetCall>,
+    pub layout: Box<LayoutCall>,
     pub quantity: Box<QuantityCall>,
     pub quantities: Box<QuantitiesCall>,
     pub lookup: Box<LookupCall>,
@@ -184,6 +204,9 @@ pub fn right() -> Calls {
         }),
         offset: Box::new(|job, hazard, longest| {
             offset_reply(reference::offset(job, hazard, longest))
+        }),
+        layout: Box::new(|lengths, run, limit| {
+            layout_reply(reference::layout(lengths, run, limit))
         }),
         quantity: Box::new(|schedule, level, p, q| {
             reply(reference::quantity(schedule, level, p, q))
@@ -258,6 +281,30 @@ pub fn offset_reply(result: Result<Option<u64>, Refusal>) -> OffsetReply {
         value,
         found,
     }
+}
+
+pub fn layout_reply(result: Result<Tried, Refusal>) -> LayoutReply {
+    let Tried { best, tries, floor } = match result {
+        Ok(tried) => tried,
+        Err(Refusal { number, value }) => {
+            return LayoutReply {
+                number,
+                value,
+                ..LayoutReply::default()
+            };
+        }
+    };
+    let mut reply = LayoutReply {
+        tries,
+        floor,
+        ..LayoutReply::default()
+    };
+    if let Some(best) = best {
+        reply.found = 1;
+        reply.overrun = best.overrun;
+        reply.counts[..best.counts.len()].copy_from_slice(&best.counts);
+    }
+    reply
 }
 
 pub fn contract(result: Result<Quantities, Refusal>) -> Contract {

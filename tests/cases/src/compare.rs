@@ -11,7 +11,8 @@ use reference::memory::BYTES;
 use reference::open::Name;
 
 use crate::calls::{
-    self, Calls, Contract, CornersReply, GUARD, Memory, OffsetReply, PlanReply, Record, Reply,
+    self, Calls, Contract, CornersReply, GUARD, LayoutReply, Memory, OffsetReply, PlanReply,
+    Record, Reply,
 };
 use crate::hex;
 use crate::tally::Tally;
@@ -41,6 +42,11 @@ pub enum Case {
         job: Vec<u8>,
         hazard: u64,
         longest: u64,
+    },
+    Layout {
+        lengths: Vec<u64>,
+        run: u64,
+        limit: u64,
     },
     Quantity {
         schedule: Vec<u8>,
@@ -119,6 +125,11 @@ impl fmt::Display for Case {
                 hazard,
                 longest,
             } => write!(f, "--offset {} {hazard} {longest}", hex::write(job)),
+            Case::Layout {
+                lengths,
+                run,
+                limit,
+            } => write!(f, "--layout {} {run} {limit}", hex::write_numbers(lengths)),
             Case::Quantity {
                 schedule,
                 level,
@@ -409,6 +420,33 @@ impl Checker {
         Err(self.difference(case(), what, offset_text(expected), offset_text(got)))
     }
 
+    /// Tries the layouts of one run.
+    pub fn layout(
+        &mut self,
+        lengths: &[u64],
+        run: u64,
+        limit: u64,
+    ) -> Result<LayoutReply, Box<Difference>> {
+        let case = || Case::Layout {
+            lengths: lengths.to_vec(),
+            run,
+            limit,
+        };
+        self.trace(case);
+        let mut lent = lengths.to_vec();
+        let expected = calls::layout_reply(reference::layout(lengths, run, limit));
+        let got = (self.calls.layout)(&mut lent, run, limit);
+        self.tally.count(expected.number);
+
+        let mut what = Vec::new();
+        note_reply(&mut what, expected != got);
+        note_numbers(&mut what, "lengths", lengths, &lent);
+        if what.is_empty() {
+            return Ok(got);
+        }
+        Err(self.difference(case(), what, layout_text(expected), layout_text(got)))
+    }
+
     pub fn quantity(
         &mut self,
         schedule: &[u8],
@@ -458,9 +496,7 @@ impl Checker {
         let mut what = Vec::new();
         note_reply(&mut what, expected != got);
         note_input(&mut what, "schedule", schedule, &lent);
-        if ranges != lent_ranges {
-            what.push("the ranges were changed".to_string());
-        }
+        note_numbers(&mut what, "ranges", ranges, &lent_ranges);
         if what.is_empty() {
             return Ok(got);
         }
@@ -608,6 +644,11 @@ impl Checker {
                 hazard,
                 longest,
             } => self.offset(job, *hazard, *longest).map(|_| ()),
+            Case::Layout {
+                lengths,
+                run,
+                limit,
+            } => self.layout(lengths, *run, *limit).map(|_| ()),
             Case::Quantity {
                 schedule,
                 level,
@@ -668,6 +709,12 @@ fn note_reply(what: &mut Vec<String>, differs: bool) {
 fn note_input(what: &mut Vec<String>, name: &str, before: &[u8], after: &[u8]) {
     if before != after {
         what.push(format!("the {name}'s bytes were changed"));
+    }
+}
+
+fn note_numbers(what: &mut Vec<String>, name: &str, before: &[u64], after: &[u64]) {
+    if before != after {
+        what.push(format!("the {name} were changed"));
     }
 }
 
@@ -735,6 +782,21 @@ fn offset_text(reply: OffsetReply) -> String {
         found,
     } = reply;
     format!("number {number} value {value} found {found}")
+}
+
+fn layout_text(reply: LayoutReply) -> String {
+    let LayoutReply {
+        number,
+        value,
+        found,
+        overrun,
+        counts,
+        tries,
+        floor,
+    } = reply;
+    let counts = hex::write_numbers(&counts);
+    let found = format!("found {found} overrun {overrun} counts {counts}");
+    format!("number {number} value {value} {found} tries {tries} floor {floor}")
 }
 
 fn contract_text(contract: Contract) -> String {

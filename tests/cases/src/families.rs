@@ -12,7 +12,7 @@ use crate::draft::{
     number_bytes, printed, range,
 };
 use crate::faults::{BAD_SIDES, Broken, FAULTS, GREAT_VALUES, wrong_forms};
-use crate::{chainage, damaged, jobs, one_hazard, open};
+use crate::{chainage, damaged, jobs, layouts, one_hazard, open};
 
 pub type Outcome = Result<(), Box<Difference>>;
 
@@ -42,6 +42,9 @@ pub const ALL: &[Family] = &[
         "smallest offsets of refused jobs",
         one_hazard::refused_offsets,
     ),
+    family("layouts of every limit", layouts::every_limit),
+    family("layouts at random", layouts::at_random),
+    family("layouts refused", layouts::refused),
     family("run lists and nearly run lists", run_lists),
     family("roads on the national chainage", chainage::roads),
     family("numbers of six bytes in jobs", chainage::six_bytes_in_jobs),

@@ -10,12 +10,14 @@ pub mod families;
 pub mod faults;
 pub mod hex;
 pub mod jobs;
+pub mod layouts;
 pub mod one_hazard;
 pub mod open;
 pub mod tally;
 pub mod wrong;
 pub mod wrong_chainage;
 pub mod wrong_corners;
+pub mod wrong_layout;
 pub mod wrong_level;
 pub mod wrong_memory;
 pub mod wrong_names;
@@ -25,7 +27,9 @@ pub mod wrong_open;
 pub mod wrong_overhang;
 pub mod wrong_states;
 
-pub use calls::{Calls, Contract, CornersReply, Memory, OffsetReply, PlanReply, Record, Reply};
+pub use calls::{
+    Calls, Contract, CornersReply, LayoutReply, Memory, OffsetReply, PlanReply, Record, Reply,
+};
 pub use compare::{Case, Checker, Difference, Step};
 pub use reference::draft;
 pub use reference::random::Random;

@@ -11,7 +11,7 @@ pub struct Tally {
     families: Vec<(&'static str, u64)>,
     current: usize,
     /// Cases by refusal number; at 0 those without a refusal.
-    outcomes: [u64; 16],
+    outcomes: [u64; 18],
     most_runs: u64,
 }
 

@@ -16,6 +16,7 @@ one case alone, bytes in hex, no bytes as -:
   --level JOB SIDE STATION
   --corners JOB HAZARD SHEET_STATION SHEET_OFFSET
   --offset JOB HAZARD LONGEST
+  --layout LENGTH,LENGTH RUN LIMIT (no lengths as -)
   --quantity SCHEDULE LEVEL P Q
   --quantities SCHEDULE LEVEL P,Q,P,Q (no ranges as -)
   --lookup RIGHT LEFT SIDE STATION
@@ -88,7 +89,7 @@ fn number(text: Option<&str>) -> Option<u64> {
 fn values(option: &str) -> Option<usize> {
     match option {
         "--plan" | "--corners" | "--quantity" | "--lookup" | "--schedule" => Some(4),
-        "--level" | "--offset" | "--quantities" | "--add" => Some(3),
+        "--level" | "--offset" | "--layout" | "--quantities" | "--add" => Some(3),
         "--open" | "--withdraw" | "--keep" | "--return" => Some(2),
         _ => None,
     }
@@ -124,6 +125,11 @@ fn read_case(option: &str, values: &[&str]) -> Option<Case> {
             job: bytes(0)?,
             hazard: value(1)?,
             longest: value(2)?,
+        },
+        "--layout" => Case::Layout {
+            lengths: numbers(0)?,
+            run: value(1)?,
+            limit: value(2)?,
         },
         "--quantity" => Case::Quantity {
             schedule: bytes(0)?,

@@ -4,7 +4,9 @@
 use std::mem::{offset_of, size_of};
 use std::ops::Range;
 
-use cases::{Calls, Contract, CornersReply, Memory, OffsetReply, PlanReply, Record, Reply};
+use cases::{
+    Calls, Contract, CornersReply, LayoutReply, Memory, OffsetReply, PlanReply, Record, Reply,
+};
 use reference::Corner;
 use reference::job::Hazard;
 use reference::memory::BYTES;
@@ -48,6 +50,17 @@ struct COffsetReply {
     found: u64,
 }
 
+#[repr(C)]
+struct CLayoutReply {
+    number: u64,
+    value: u64,
+    found: u64,
+    overrun: u64,
+    counts: [u64; 4],
+    tries: u64,
+    floor: u64,
+}
+
 unsafe extern "C" {
     fn barrier_plan(
         job: *const u8,
@@ -71,6 +84,12 @@ unsafe extern "C" {
         sheet_offset: u64,
     ) -> CCornersReply;
     fn barrier_offset(job: *const u8, job_len: usize, hazard: u64, longest: u64) -> COffsetReply;
+    fn barrier_layout(
+        lengths: *const u64,
+        lengths_len: usize,
+        run: u64,
+        limit: u64,
+    ) -> CLayoutReply;
     fn barrier_add(job: *mut c::OpenJob, name: Name, hazard: c::Hazard) -> c::Reply;
     fn barrier_withdraw(job: *mut c::OpenJob, name: Name) -> c::Reply;
     fn barrier_keep(job: *mut c::OpenJob, state: u64) -> c::Reply;
@@ -112,6 +131,20 @@ impl From<COffsetReply> for OffsetReply {
             number: reply.number,
             value: reply.value,
             found: reply.found,
+        }
+    }
+}
+
+impl From<CLayoutReply> for LayoutReply {
+    fn from(reply: CLayoutReply) -> LayoutReply {
+        LayoutReply {
+            number: reply.number,
+            value: reply.value,
+            found: reply.found,
+            overrun: reply.overrun,
+            counts: reply.counts,
+            tries: reply.tries,
+            floor: reply.floor,
         }
     }
 }
@@ -217,6 +250,11 @@ pub fn offset(job: &[u8], hazard: u64, longest: u64) -> OffsetReply {
     unsafe { barrier_offset(job.as_ptr(), job.len(), hazard, longest).into() }
 }
 
+pub fn layout(lengths: &[u64], run: u64, limit: u64) -> LayoutReply {
+    // SAFETY: the pointer is good for as many numbers as are named with it.
+    unsafe { barrier_layout(lengths.as_ptr(), lengths.len(), run, limit).into() }
+}
+
 pub fn quantity(schedule: &[u8], level: u64, p: u64, q: u64) -> Reply {
     // SAFETY: the pointer is good for as many bytes as are named with it.
     unsafe { c::barrier_quantity(schedule.as_ptr(), schedule.len(), level, p, q).into() }
@@ -266,6 +304,11 @@ pub fn calls() -> Calls {
             let job_len = job.len();
             // SAFETY: as in `offset`.
             unsafe { barrier_offset(job.as_mut_ptr(), job_len, hazard, longest).into() }
+        }),
+        layout: Box::new(|lengths, run, limit| {
+            let lengths_len = lengths.len();
+            // SAFETY: as in `layout`.
+            unsafe { barrier_layout(lengths.as_mut_ptr(), lengths_len, run, limit).into() }
         }),
         quantity: Box::new(|schedule, level, p, q| {
             let schedule_len = schedule.len();
@@ -344,7 +387,7 @@ pub fn shipped_calls() -> Calls {
         offset: Box::new(|job, hazard, longest| {
             offset_of_hazard(barrier::offset(job, hazard, longest))
         }),
-        // Open jobs go through the pointers here too.
+        // Open jobs and layouts go through the pointers here too.
         ..calls()
     }
 }

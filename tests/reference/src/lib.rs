@@ -12,6 +12,7 @@ pub mod corners;
 pub mod draft;
 pub mod envelope;
 pub mod job;
+pub mod layout;
 pub mod level;
 pub mod memory;
 pub mod number;
@@ -27,6 +28,7 @@ pub use calls::{
     Lookup, Outcome, Planned, Quantities, level, lookup, plan, planned, quantities, quantity,
 };
 pub use corners::{Corner, Corners, corners};
+pub use layout::{Layout, Tried, layout};
 pub use offset::offset;
 pub use open::{OpenJob, add, keep, open, open_schedule, return_to, withdraw};
 pub use refusal::Refusal;

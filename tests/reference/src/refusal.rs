@@ -84,6 +84,16 @@ impl Refusal {
     pub fn no_room() -> Refusal {
         refusal(15, 0)
     }
+
+    /// 16: no panel length, more than four, or one out of range.
+    pub fn panel_lengths() -> Refusal {
+        refusal(16, 0)
+    }
+
+    /// 17: a limit of 0 tries or of more than 65,536.
+    pub fn tries() -> Refusal {
+        refusal(17, 0)
+    }
 }
 
 fn refusal(number: u64, value: u64) -> Refusal {

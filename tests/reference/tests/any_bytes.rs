@@ -2,7 +2,7 @@
 
 use reference::draft::printed;
 use reference::random::Random;
-use reference::{corners, level, lookup, offset, plan, program, quantities, quantity};
+use reference::{corners, layout, level, lookup, offset, plan, program, quantities, quantity};
 
 /// Bytes among which short numbers are frequent.
 fn bytes(random: &mut Random) -> Vec<u8> {
@@ -49,5 +49,22 @@ fn a_changed_job_returns() {
         let _ = level(&changed, side, random.below(300_000));
         let _ = corners(&changed, random.below(2), 0, random.below(9_000));
         let _ = offset(&changed, 0, random.below(100_000));
+    }
+}
+
+#[test]
+fn any_numbers_return_a_layout() {
+    let mut random = Random::new(7, "any layouts");
+    for _ in 0..3_000 {
+        let lengths: Vec<u64> = (0..random.below(6))
+            .map(|_| random.edgy(0, 20_001))
+            .collect();
+        let run = match random.below(3) {
+            0 => u64::MAX - random.below(20_000),
+            1 => random.draw(),
+            _ => random.below(1_000_000),
+        };
+        let _ = layout(&lengths, run, random.edgy(0, 5_000));
+        let _ = layout(&[random.draw(), random.draw()], run, random.draw());
     }
 }

@@ -6,8 +6,8 @@ use common::*;
 use reference::job::Hazard;
 use reference::random::Random;
 use reference::{
-    OpenJob, Quantities, Refusal, add, corners, keep, level, memory, offset, open, open_schedule,
-    planned, quantities, quantity, return_to, withdraw,
+    Layout, OpenJob, Quantities, Refusal, Tried, add, corners, keep, layout, level, memory, offset,
+    open, open_schedule, planned, quantities, quantity, return_to, withdraw,
 };
 
 // 1: quantities for a whole contract.
@@ -1599,4 +1599,172 @@ fn kept_states_carry_the_wide_names() {
     assert_eq!(return_to(&mut memory, 0), Ok(0));
     assert_eq!(names(&memory), [256]);
     assert_eq!(adding(&mut memory), Ok(0));
+}
+
+// 13: panels for one run, with a limit on tries.
+
+const ALL_TRIES: u64 = 65_536;
+
+/// Overrun, counts, tries and floor.
+fn best(overrun: u64, counts: &[u64], tries: u64, floor: u64) -> Result<Tried, Refusal> {
+    let counts = counts.to_vec();
+    Ok(Tried {
+        best: Some(Layout { counts, overrun }),
+        tries,
+        floor,
+    })
+}
+
+fn none(tries: u64, floor: u64) -> Result<Tried, Refusal> {
+    Ok(Tried {
+        best: None,
+        tries,
+        floor,
+    })
+}
+
+#[test]
+fn layouts_of_one_length() {
+    assert_eq!(
+        layout(&[4_000], 10_000, ALL_TRIES),
+        best(2_000, &[3], 16, 2_000)
+    );
+    assert_eq!(layout(&[4_000], 12_000, ALL_TRIES), best(0, &[3], 16, 0));
+    assert_eq!(layout(&[4_000], 60_000, ALL_TRIES), best(0, &[15], 16, 0));
+    assert_eq!(layout(&[4_000], 60_001, ALL_TRIES), none(16, 3_999));
+    // A run without length is covered by no panel at all.
+    assert_eq!(layout(&[4_000], 0, ALL_TRIES), best(0, &[0], 16, 0));
+    assert_eq!(layout(&[4_000], 0, 1), best(0, &[0], 1, 0));
+    // The layouts of 0, 1, 2 and 3 panels.
+    assert_eq!(layout(&[4_000], 10_000, 3), none(3, 2_000));
+    assert_eq!(layout(&[4_000], 10_000, 4), best(2_000, &[3], 4, 2_000));
+}
+
+#[test]
+fn layouts_are_tried_in_rising_order() {
+    // 4 of the second length are the 5th layout; 5 × 4,000 the 81st.
+    let both = |run, limit| layout(&[4_000, 2_500], run, limit);
+    assert_eq!(both(10_000, 4), none(4, 0));
+    assert_eq!(both(10_000, 5), best(0, &[0, 4], 5, 0));
+    assert_eq!(both(10_000, ALL_TRIES), best(0, &[0, 4], 256, 0));
+    // 20,000 is 8 × 2,500 first, then 5 × 4,000.
+    assert_eq!(both(20_000, 256), best(0, &[0, 8], 256, 0));
+    // 6,500 is a panel of each, the 18th; 7,500 is tried before it.
+    assert_eq!(both(6_500, 17), best(1_000, &[0, 3], 17, 0));
+    assert_eq!(both(6_500, 18), best(0, &[1, 1], 18, 0));
+    // Equal lengths.
+    assert_eq!(
+        layout(&[7, 7, 7], 14, ALL_TRIES),
+        best(0, &[0, 0, 2], 4_096, 0)
+    );
+    assert_eq!(
+        layout(&[7, 7, 7], 106, ALL_TRIES),
+        best(6, &[0, 1, 15], 4_096, 6)
+    );
+}
+
+#[test]
+fn the_floor() {
+    let floor = |lengths: &[u64], run| layout(lengths, run, 1).unwrap().floor;
+    assert_eq!(floor(&[6, 10], 7), 1);
+    assert_eq!(floor(&[6, 10, 15], 7), 0, "coprime together");
+    assert_eq!(floor(&[20_000; 4], 1), 19_999);
+    assert_eq!(floor(&[20_000; 4], 0), 0);
+    // The least multiple of 7 is 2 to the 64th and 5.
+    assert_eq!(floor(&[7], u64::MAX), 6);
+    assert_eq!(floor(&[20_000], u64::MAX), 8_385);
+    assert_eq!(floor(&[1], u64::MAX), 0);
+    // 6 and 10 make no 8: the floor is not always met.
+    assert_eq!(layout(&[6, 10], 7, ALL_TRIES), best(3, &[0, 1], 256, 1));
+}
+
+#[test]
+fn a_run_that_no_layout_covers() {
+    let most = 15 * (20_000 + 19_999 + 19_998 + 19_997);
+    let lengths = [20_000, 19_999, 19_998, 19_997];
+    assert_eq!(
+        layout(&lengths, most, ALL_TRIES),
+        best(0, &[15; 4], ALL_TRIES, 0)
+    );
+    assert_eq!(layout(&lengths, most, ALL_TRIES - 1).unwrap().best, None);
+    assert_eq!(layout(&lengths, most + 1, ALL_TRIES), none(ALL_TRIES, 0));
+    assert_eq!(layout(&lengths, u64::MAX, ALL_TRIES), none(ALL_TRIES, 0));
+}
+
+/// By every layout at once: more tries never give a worse overrun, all tries give
+/// the least, and no covering layout overruns by less than the floor.
+#[test]
+fn tries_and_floor() {
+    let mut random = Random::new(13, "layouts");
+    for _ in 0..150 {
+        let count = random.between(1, 3) as usize;
+        let lengths: Vec<u64> = (0..count).map(|_| random.between(1, 40)).collect();
+        let run = random.below(15 * lengths.iter().sum::<u64>() + 20);
+        let layouts = 16u64.pow(count as u32);
+        let total = |index: u64| {
+            let places = (0..count as u32).rev();
+            let counts = places.map(|place| index / 16u64.pow(place) % 16);
+            let panels = counts.zip(&lengths);
+            panels.map(|(count, length)| count * length).sum::<u64>()
+        };
+        let covering = |index: &u64| total(*index) >= run;
+        let mut before = u64::MAX;
+        let mut limits = vec![1, 15, 16, 17, 100, ALL_TRIES];
+        limits.extend([layouts - 1, layouts, layouts + 1]);
+        limits.sort();
+        for limit in limits {
+            let tried = layout(&lengths, run, limit).unwrap();
+            assert_eq!(tried.tries, limit.min(layouts));
+            let least = (0..tried.tries).filter(covering).map(total).min();
+            let least = least.map(|total| total - run);
+            assert_eq!(tried.best.as_ref().map(|best| best.overrun), least);
+            let overrun = least.unwrap_or(u64::MAX);
+            assert!(overrun <= before);
+            before = overrun;
+            if let Some(best) = tried.best {
+                let first = (0..layouts).find(|index| total(*index) == run + best.overrun);
+                let index = best
+                    .counts
+                    .iter()
+                    .fold(0, |index, count| 16 * index + count);
+                assert_eq!(first, Some(index));
+            }
+        }
+        let floor = layout(&lengths, run, 1).unwrap().floor;
+        assert!(
+            (0..layouts)
+                .filter(covering)
+                .all(|index| total(index) - run >= floor)
+        );
+    }
+}
+
+#[test]
+fn refusals_of_layouts() {
+    let refused = |lengths: &[u64], limit| {
+        let Refusal { number, value } = layout(lengths, 5, limit).unwrap_err();
+        (number, value)
+    };
+    let bad_lengths: [&[u64]; 9] = [
+        &[],
+        &[5; 5],
+        &[5; 260],
+        &[0],
+        &[20_001],
+        &[5, 5, 5, 0],
+        &[20_001, 5],
+        &[5, (1 << 32) + 5, 5],
+        &[u64::MAX],
+    ];
+    for lengths in bad_lengths {
+        for limit in [1, ALL_TRIES, 0, ALL_TRIES + 1, u64::MAX] {
+            assert_eq!(refused(lengths, limit), (16, 0), "16 comes first");
+        }
+    }
+    for limit in [0, ALL_TRIES + 1, 1 << 32, (1 << 32) + 5, u64::MAX] {
+        assert_eq!(refused(&[1], limit), (17, 0));
+        assert_eq!(refused(&[20_000; 4], limit), (17, 0));
+    }
+    assert!(layout(&[1, 20_000], 5, 1).is_ok());
+    assert!(layout(&[1, 20_000], 5, ALL_TRIES).is_ok());
 }

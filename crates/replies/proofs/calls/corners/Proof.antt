@@ -5,25 +5,17 @@ use borrow.Author.Needs.{needs}
 use Rattle.refusal.specs.Answer.{Answer, accepted, refused, _>>=_}
 use Rattle.refusal.specs.Refusal.{outcome}
 use Rattle.refusal.specs.declared.Outcome.{Outcome}
-use Rattle.refusal.specs.declared.Outcome.the-variants.{Done, Refused}
 use Rattle.corners.specs.declared.reply.Corners as drawn
 use Rattle.corners.specs.Corners.{Points}
 use Rattle.corners.specs.Reply.{Replies}
 use Rattle.replies.specs.Interface.{reply, replyOf, CornersTold}
+use Rattle.replies.proofs.EndedLaws.{noValue, no-value}
 use Rattle.replies.proofs.calls.corners.Statement.{statement}
 use Rattle.replies.proofs.calls.corners.Tie as tie
 
--- An answer as C is told it: number 0 and value 0 where the call is done.
-abbrev noValue : {A : Type 0} → Answer A → Answer ℕ
-noValue a = a >>= λ _. accepted 0
-
 ended-as : (how : Outcome) (answer : Answer Points) → outcome how tt ≡ (answer >>= λ _. accepted (tt {0})) → replyOf (outcome how 0) ≡ replyOf (noValue answer)
-ended-as how answer e = ap replyOf (before how ∙ ap noValue e ∙ after answer)
+ended-as how answer e = ap replyOf (no-value how ∙ ap noValue e ∙ after answer)
   where
-    before : (o : Outcome) → outcome o 0 ≡ noValue (outcome o (tt {0}))
-    before Done = refl
-    before (Refused x) = refl
-
     after : (a : Answer Points) → noValue (a >>= λ _. accepted (tt {0})) ≡ noValue a
     after (accepted p) = refl
     after (refused k v) = refl

@@ -1,32 +1,25 @@
 -- `replies::calls::quantities` meets its contract: the reply of the call quantities, field by field. Assumes nothing.
-use Prim.Native.Nat.{ℕ}
 use mathlib.Core.Path.{_≡_, refl, ap, _∙_}
 use borrow.Author.Needs.{needs}
-use Rattle.refusal.specs.Answer.{Answer, accepted, refused, _>>=_}
-use Rattle.refusal.specs.Refusal.{outcome}
-use Rattle.refusal.specs.declared.Outcome.{Outcome}
-use Rattle.refusal.specs.declared.Outcome.the-variants.{Done, Refused}
+use Rattle.refusal.specs.Answer.{Answer, accepted, refused}
 use Rattle.queries.specs.Ranges.{Counted, Replied, replied}
 use Rattle.replies.specs.declared.Reply.{Reply}
 use Rattle.replies.specs.declared.Quantities.{Quantities}
 use Rattle.replies.specs.Interface.{replyOf, quantitiesOf}
+use Rattle.replies.proofs.EndedLaws.{noValue, no-value}
 use Rattle.replies.proofs.calls.quantities.Statement.{statement}
 use Rattle.replies.proofs.calls.quantities.Tie as tie
 
 -- The struct of a reply.
 abbrev structOf : Replied → Quantities
 structOf r =
-    let how = replyOf (r .answer >>= λ _. accepted 0) in
+    let how = replyOf (noValue (r .answer)) in
     record { number = how .number; value = how .value; records = r .records; quantities = r .places }
 
 struct-replied : (a : Answer Counted) → structOf (replied a) ≡ quantitiesOf a
 unfolding replied quantitiesOf replyOf
 struct-replied (accepted c) = refl
 struct-replied (refused k v) = refl
-
-no-value : (o : Outcome) → outcome {A = ℕ} o 0 ≡ (outcome o (tt {0}) >>= λ _. accepted 0)
-no-value Done = refl
-no-value (Refused x) = refl
 
 returns : tie.Need-returns
 returns c =

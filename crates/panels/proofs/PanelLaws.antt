@@ -1,0 +1,260 @@
+-- What the call promises, in the paper's words: for every accepted call, and when one is refused.
+-- Assumes nothing.
+use Prim.Native.Nat.{ℕ, zero, suc, _-_, _^_, _≤_, _<_, min}
+use native.Mathlib.Omega.{arith}
+use native.Mathlib.Nat.{dvd-zero}
+use mathlib.Core.Path.{_≡_, refl, sym, ap, _∙_, subst}
+use mathlib.Core.Logic.{_↔_, _⊎_, inl, inr}
+use mathlib.Core.Bool.{Bool, true, false, _||_, not}
+use mathlib.Core.List.{List, [], _∷_, List·Memᴰ}
+use lib.ListN.{length, take, drop, getD, replicate, length-take, take-append-drop}
+use lib.Seq.{take-all, take-take, getD-take}
+use lib.Dec.{ltb, eqb, leb}
+use borrow.Author.Tests.{ltb-true, ltb-false, lt-ltb, le-ltb, eqb-true, eqb-false, eq-eqb, ne-eqb, le-leb, leb-false, not-true}
+use Rattle.refusal.specs.Answer.{accepted, refused, unless-refuse, _>>=_}
+use Rattle.refusal.specs.Choice.{if_then_else_, someOf}
+use Rattle.refusal.proofs.AnswerLaws.{bound, tested}
+use Rattle.refusal.proofs.EachLaws.{getD-member}
+use Rattle.refusal.proofs.TestLaws.{or-cases, or-left, or-right, not-both, Passing, any-intro, any-elim, decided}
+use Rattle.panels.specs.Layout.{IsLayout, zeroToFifteen, eachBefore, layouts, tried, total, covers, overrun, Found, none, found, judged, better, best}
+use Rattle.panels.specs.Panels.{Panels, outOfRange, gcd, multipleFrom, floor, panelsFor}
+use Rattle.panels.specs.Promised.{Yard, Limit, FirstSmallest, NoneCovers, NoWorse, FloorOf}
+use Rattle.panels.proofs.PlaceLaws.{layouts-number, layouts-exactly}
+use Rattle.panels.proofs.BestLaws.{best-append, best-first, none-exactly}
+use Rattle.panels.proofs.FloorLaws.{gcd-some, multiple-least, floor-distance, floor-under}
+
+-- What an accepted call is known to satisfy, and its reply.
+pub record Taken (lengths : List ℕ) (run limit : ℕ) (p : Panels) : Type 0 where
+  pub yard : Yard lengths
+  pub limit-is : Limit limit
+  pub best-is : p .best ≡ best lengths run (tried lengths limit)
+  pub tries-is : p .tries ≡ length (tried lengths limit)
+  pub floor-is : p .floor ≡ floor lengths run
+
+or-false-left : (a b : Bool) → (a || b) ≡ false → a ≡ false
+or-false-left true b e = e
+or-false-left false b e = refl
+
+or-false-right : (a b : Bool) → (a || b) ≡ false → b ≡ false
+or-false-right true b e = absurd (not-both refl e)
+or-false-right false b e = e
+
+none-out : (ls : List ℕ) → someOf outOfRange ls ≡ false → (l : ℕ) → List·Memᴰ l ls → (1 ≤ l) × (l ≤ 20000)
+none-out ls e l m = go (decided (outOfRange l))
+  where
+    go : ((ltb l 1 || ltb 20000 l) ≡ true) ⊎ ((ltb l 1 || ltb 20000 l) ≡ false) → (1 ≤ l) × (l ≤ 20000)
+    go (inl t) = absurd (not-both (any-intro outOfRange m t) e)
+    go (inr f) = (ltb-false l 1 (or-false-left (ltb l 1) (ltb 20000 l) f), ltb-false 20000 l (or-false-right (ltb l 1) (ltb 20000 l) f))
+
+pub yard : (ls : List ℕ) → 1 ≤ length ls → length ls ≤ 4 → someOf outOfRange ls ≡ false → Yard ls
+yard ls some four all = record {
+  proper = record { some = some; each = λ l m. none-out ls all l m .0 };
+  four = four;
+  to = λ l m. none-out ls all l m .1;
+}
+
+-- The tests of 16 and 17 as facts.
+abbrev unfit : (ls : List ℕ) → Bool
+unfit ls = eqb (length ls) 0 || ltb 4 (length ls) || someOf outOfRange ls
+
+abbrev unlimited : (limit : ℕ) → Bool
+unlimited limit = eqb limit 0 || ltb 65536 limit
+
+fit-yard : (ls : List ℕ) → unfit ls ≡ false → Yard ls
+fit-yard ls e =
+    let front = or-false-left (eqb (length ls) 0 || ltb 4 (length ls)) (someOf outOfRange ls) e in
+    let some = eqb-false (length ls) 0 (or-false-left (eqb (length ls) 0) (ltb 4 (length ls)) front) in
+    let four = ltb-false 4 (length ls) (or-false-right (eqb (length ls) 0) (ltb 4 (length ls)) front) in
+    yard ls (omega arith) four (or-false-right (eqb (length ls) 0 || ltb 4 (length ls)) (someOf outOfRange ls) e)
+
+fit-limit : (limit : ℕ) → unlimited limit ≡ false → Limit limit
+fit-limit limit e =
+    let low = eqb-false limit 0 (or-false-left (eqb limit 0) (ltb 65536 limit) e) in
+    record { low = omega arith; top = ltb-false 65536 limit (or-false-right (eqb limit 0) (ltb 65536 limit) e) }
+
+pub taken : (lengths : List ℕ) (run limit : ℕ) (p : Panels) → panelsFor lengths run limit ≡ accepted p → Taken lengths run limit p
+unfolding panelsFor
+taken ls run limit p e =
+    let b1 = bound (unless-refuse (not (unfit ls)) 16 0) _ p e in
+    let b2 = bound (unless-refuse (not (unlimited limit)) 17 0) _ p (b1 .rest) in
+    let same : record { best = best ls run (tried ls limit); tries = length (tried ls limit); floor = floor ls run } ≡ p = cc in
+    record {
+      yard = fit-yard ls (not-true (unfit ls) (tested (not (unfit ls)) 16 0 _ (b1 .taken)));
+      limit-is = fit-limit limit (not-true (unlimited limit) (tested (not (unlimited limit)) 17 0 _ (b2 .taken)));
+      best-is = sym (ap (λ (q : Panels). q .best) same);
+      tries-is = sym (ap (λ (q : Panels). q .tries) same);
+      floor-is = sym (ap (λ (q : Panels). q .floor) same);
+    }
+
+-- "No length, over four, or one out of range is 16, tested first; a limit of 0 or above 65,536 is 17, next": exactly then.
+sixteen-only : (t u : Bool) (p : Panels) → (unless-refuse (not t) 16 0 >>= λ _. unless-refuse (not u) 17 0 >>= λ _. accepted p) ≡ refused 16 0 → t ≡ true
+sixteen-only true u p e = refl
+sixteen-only false true p e = let z : _≡_ {A = ℕ} 17 16 = cc in absurd (omega arith)
+sixteen-only false false p e = let z : _≡_ {A = ℕ} 0 1 = cc in absurd (omega arith)
+
+seventeen-only : (t u : Bool) (p : Panels) → (unless-refuse (not t) 16 0 >>= λ _. unless-refuse (not u) 17 0 >>= λ _. accepted p) ≡ refused 17 0 → (t ≡ false) × (u ≡ true)
+seventeen-only true u p e = let z : _≡_ {A = ℕ} 16 17 = cc in absurd (omega arith)
+seventeen-only false true p e = (refl, refl)
+seventeen-only false false p e = let z : _≡_ {A = ℕ} 0 1 = cc in absurd (omega arith)
+
+yard-fit : (ls : List ℕ) → Yard ls → unfit ls ≡ false
+yard-fit ls y =
+    let some = y .proper .some in
+    rw (ne-eqb (length ls) 0 (λ e. omega arith), le-ltb 4 (length ls) (y .four)) (all (decided (someOf outOfRange ls)))
+  where
+    all : (someOf outOfRange ls ≡ true) ⊎ (someOf outOfRange ls ≡ false) → someOf outOfRange ls ≡ false
+    all (inr e) = e
+    all (inl e) =
+        let w = any-elim outOfRange ls e in
+        absurd (not-both (w .passes) (let l = y .proper .each (w .one) (w .member) in rw (le-ltb (w .one) 1 l, le-ltb 20000 (w .one) (y .to (w .one) (w .member)))))
+
+module _ (ls : List ℕ) (run limit : ℕ) where
+  pub sixteen-exactly : (panelsFor ls run limit ≡ refused 16 0) ↔ ((length ls ≡ 0) ⊎ ((4 < length ls) ⊎ Passing outOfRange ls))
+  unfolding panelsFor
+  sixteen-exactly = ((λ e. to (sixteen-only (unfit ls) (unlimited limit) _ e)), from)
+    where
+      last : ((eqb (length ls) 0 || ltb 4 (length ls)) ≡ true) ⊎ (someOf outOfRange ls ≡ true) → (length ls ≡ 0) ⊎ ((4 < length ls) ⊎ Passing outOfRange ls)
+      last (inr p) = inr (inr (any-elim outOfRange ls p))
+      last (inl p) = first (or-cases (eqb (length ls) 0) (ltb 4 (length ls)) p)
+        where
+          first : (eqb (length ls) 0 ≡ true) ⊎ (ltb 4 (length ls) ≡ true) → (length ls ≡ 0) ⊎ ((4 < length ls) ⊎ Passing outOfRange ls)
+          first (inl q) = inl (eqb-true (length ls) 0 q)
+          first (inr q) = inr (inl (ltb-true 4 (length ls) q))
+
+      to : unfit ls ≡ true → (length ls ≡ 0) ⊎ ((4 < length ls) ⊎ Passing outOfRange ls)
+      to e = last (or-cases (eqb (length ls) 0 || ltb 4 (length ls)) (someOf outOfRange ls) e)
+
+      test : (length ls ≡ 0) ⊎ ((4 < length ls) ⊎ Passing outOfRange ls) → unfit ls ≡ true
+      test (inl e) = or-left (someOf outOfRange ls) (or-left (ltb 4 (length ls)) (eq-eqb (length ls) 0 e))
+      test (inr (inl h)) = or-left (someOf outOfRange ls) (or-right (eqb (length ls) 0) (lt-ltb 4 (length ls) h))
+      test (inr (inr w)) = or-right (eqb (length ls) 0 || ltb 4 (length ls)) (any-intro outOfRange (w .member) (w .passes))
+
+      from : (length ls ≡ 0) ⊎ ((4 < length ls) ⊎ Passing outOfRange ls) → panelsFor ls run limit ≡ refused 16 0
+      from h = rw (test h)
+
+  pub seventeen-exactly : (panelsFor ls run limit ≡ refused 17 0) ↔ (Yard ls × ((limit ≡ 0) ⊎ (65536 < limit)))
+  unfolding panelsFor
+  seventeen-exactly =
+      ((λ e. let w = seventeen-only (unfit ls) (unlimited limit) _ e in (fit-yard ls (w .0), to (or-cases (eqb limit 0) (ltb 65536 limit) (w .1)))), (λ h. rw (yard-fit ls (h .0), test (h .1))))
+    where
+      to : (eqb limit 0 ≡ true) ⊎ (ltb 65536 limit ≡ true) → (limit ≡ 0) ⊎ (65536 < limit)
+      to (inl q) = inl (eqb-true limit 0 q)
+      to (inr q) = inr (ltb-true 65536 limit q)
+
+      test : (limit ≡ 0) ⊎ (65536 < limit) → unlimited limit ≡ true
+      test (inl e) = or-left (ltb 65536 limit) (eq-eqb limit 0 e)
+      test (inr h) = or-right (eqb limit 0) (lt-ltb 65536 limit h)
+
+  -- Every other call is answered.
+  pub answered : Yard ls → Limit limit → panelsFor ls run limit ≡ accepted (record { best = best ls run (tried ls limit); tries = length (tried ls limit); floor = floor ls run })
+  unfolding panelsFor
+  answered y l = let low = l .low in rw (yard-fit ls y, ne-eqb limit 0 (λ e. omega arith), le-ltb 65536 limit (l .top))
+
+-- One call.
+module _ (lengths : List ℕ) (run limit : ℕ) (p : Panels) (e : panelsFor lengths run limit ≡ accepted p) where
+  -- "Tries made are the lesser of the limit and the layouts there are": 16 counts of each length. They are the length of the prefix that was tried.
+  pub tries-made : (p .tries ≡ length (tried lengths limit)) × (p .tries ≡ min limit (length (layouts (length lengths)))) × (length (layouts (length lengths)) ≡ 16 ^ length lengths)
+  unfolding tried
+  tries-made =
+      let t = taken lengths run limit p e in
+      (t .tries-is, t .tries-is ∙ length-take limit (layouts (length lengths)), layouts-number (length lengths))
+
+  -- "The smallest overrun among those tried, its first layout."
+  pub reply-smallest : (o : ℕ) (counts : List ℕ) → p .best ≡ found o counts → FirstSmallest lengths run (tried lengths limit) o counts
+  reply-smallest o counts q = best-first lengths run (tried lengths limit) o counts (sym (taken lengths run limit p e .best-is) ∙ q)
+
+  -- What is given is a layout.
+  pub reply-layout : (o : ℕ) (counts : List ℕ) → p .best ≡ found o counts → IsLayout lengths counts
+  unfolding tried
+  reply-layout o counts q =
+      let f = reply-smallest o counts q in
+      let k = length lengths in
+      let b : f .place < min limit (length (layouts k)) = rw length-take at (f .among) in
+      let g : getD (layouts k) (f .place) [] ≡ counts = sym (getD-take limit (layouts k) (f .place) [] (omega arith)) ∙ f .there in
+      layouts-exactly lengths counts .0 (subst (λ (l : List ℕ). List·Memᴰ l (layouts k)) g (getD-member (layouts k) (f .place) [] (omega arith)))
+
+  -- "None is said exactly if no tried layout covers."
+  pub reply-none : (p .best ≡ none) ↔ NoneCovers lengths run (tried lengths limit)
+  reply-none =
+      let w = taken lengths run limit p e .best-is in
+      let n = none-exactly lengths run (tried lengths limit) in
+      ((λ q. n .0 (sym w ∙ q)), (λ c. w ∙ n .1 c))
+
+  -- "The floor is the distance from the run's length up to the least multiple, not below it, of the lengths' greatest common divisor."
+  pub reply-floor-is : FloorOf lengths run (p .floor)
+  reply-floor-is = rw (taken lengths run limit p e .floor-is) (floor-distance lengths (taken lengths run limit p e .yard .proper) run)
+
+  -- "No covering layout, tried or not, overruns by less than the floor": of whatever counts.
+  pub reply-floor : (counts : List ℕ) → covers lengths run counts ≡ true → p .floor ≤ overrun lengths run counts
+  reply-floor counts c = rw (taken lengths run limit p e .floor-is) (floor-under lengths (taken lengths run limit p e .yard .proper) run counts c)
+
+  -- "All tries give the least": with every layout tried, over all layouts.
+  all-tried : length (layouts (length lengths)) ≤ limit → tried lengths limit ≡ layouts (length lengths)
+  unfolding tried
+  all-tried h = take-all limit (layouts (length lengths)) h
+
+  pub all-least : length (layouts (length lengths)) ≤ limit → (o : ℕ) (counts : List ℕ) → p .best ≡ found o counts → FirstSmallest lengths run (layouts (length lengths)) o counts
+  all-least h o counts q = subst (λ (ls : List (List ℕ)). FirstSmallest lengths run ls o counts) (all-tried h) (reply-smallest o counts q)
+
+  pub all-none : length (layouts (length lengths)) ≤ limit → p .best ≡ none → NoneCovers lengths run (layouts (length lengths))
+  all-none h q = subst (λ (ls : List (List ℕ)). NoneCovers lengths run ls) (all-tried h) (reply-none .0 q)
+
+  -- The same of whatever is a layout.
+  pub layout-least : length (layouts (length lengths)) ≤ limit → (o : ℕ) (counts : List ℕ) → p .best ≡ found o counts → (l : List ℕ) → IsLayout lengths l → covers lengths run l ≡ true → o ≤ overrun lengths run l
+  layout-least h o counts q l i = all-least h o counts q .smallest l (layouts-exactly lengths l .1 i)
+
+  pub layout-none : length (layouts (length lengths)) ≤ limit → p .best ≡ none → (l : List ℕ) → IsLayout lengths l → covers lengths run l ≡ false
+  layout-none h q l i = all-none h q l (layouts-exactly lengths l .1 i)
+
+-- "More tries never give a worse overrun": of two calls alike but in their limits.
+no-worse-refl : (a : Found) → NoWorse a a
+no-worse-refl none = tt
+no-worse-refl (found o l) = omega arith
+
+better-no-worse : (a b : Found) → NoWorse (better a b) a
+better-no-worse none b = tt
+better-no-worse (found o l) none = omega arith
+better-no-worse (found o l) (found q m) = go (leb o q) refl
+  where
+    go : (t : Bool) → leb o q ≡ t → NoWorse (if t then found o l else found q m) (found o l)
+    go true h = omega arith
+    go false h = let k = leb-false o q h in omega arith
+
+pub more-tries : (lengths : List ℕ) (run limit more : ℕ) (p q : Panels) → panelsFor lengths run limit ≡ accepted p → panelsFor lengths run more ≡ accepted q → limit ≤ more → NoWorse (q .best) (p .best)
+unfolding tried
+more-tries lengths run limit more p q e f h =
+    let a = taken lengths run limit p e .best-is in
+    let b = taken lengths run more q f .best-is in
+    let all = take more (layouts (length lengths)) in
+    let c : best lengths run all ≡ better (best lengths run (take limit all)) (best lengths run (drop limit all)) = ap (best lengths run) (sym (take-append-drop limit all)) ∙ best-append lengths run (take limit all) (drop limit all) in
+    let d : take limit all ≡ take limit (layouts (length lengths)) = take-take limit more (layouts (length lengths)) h in
+    rw (b, c, d, a) (better-no-worse (best lengths run (take limit (layouts (length lengths)))) (best lengths run (drop limit all)))
+
+-- A run of length 0 is covered by no panels, with nothing over.
+first-layout : (k : ℕ) → (rest : List (List ℕ)) × (layouts k ≡ replicate k 0 ∷ rest)
+unfolding layouts eachBefore
+first-layout zero = ([], refl)
+first-layout (suc k) = let w = first-layout k in (_, ap (eachBefore zeroToFifteen) (w .1))
+
+no-panels : (ls : List ℕ) (k : ℕ) → total ls (replicate k 0) ≡ 0
+unfolding total
+no-panels [] k = refl
+no-panels (l ∷ ls) zero = refl
+no-panels (l ∷ ls) (suc k) = omega (arith, no-panels ls k)
+
+nothing-over : (l : List ℕ) (b : Found) → better (found 0 l) b ≡ found 0 l
+nothing-over l none = refl
+nothing-over l (found p m) = rw (le-leb 0 p (omega arith))
+
+pub run-zero : (lengths : List ℕ) (limit : ℕ) (p : Panels) → panelsFor lengths 0 limit ≡ accepted p → (p .best ≡ found 0 (replicate (length lengths) 0)) × (p .floor ≡ 0)
+unfolding tried best judged covers overrun floor
+run-zero lengths limit p e =
+    let t = taken lengths 0 limit p e in
+    let first = first-layout (length lengths) in
+    let zeros : List ℕ = replicate (length lengths) 0 in
+    let rest = best lengths 0 (take (limit - 1) (first .0)) in
+    let some : limit ≡ suc (limit - 1) = omega (arith, t .limit-is .low) in
+    let those : take limit (layouts (length lengths)) ≡ zeros ∷ take (limit - 1) (first .0) = ap (take limit) (first .1) ∙ ap (λ (n : ℕ). take n (zeros ∷ first .0)) some in
+    let own : judged lengths 0 zeros ≡ found 0 zeros = rw (no-panels lengths (length lengths)) in
+    let low = multiple-least (gcd lengths) 0 0 (gcd-some lengths (t .yard .proper)) (dvd-zero (gcd lengths)) (omega arith) in
+    (t .best-is ∙ ap (best lengths 0) those ∙ ap (λ (f : Found). better f rest) own ∙ nothing-over zeros rest, t .floor-is ∙ (let z : multipleFrom (gcd lengths) 0 - 0 ≡ 0 = omega arith in z))

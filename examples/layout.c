@@ -1,0 +1,91 @@
+/*
+ * Panels for one run: a yard stocks two panel lengths, and the run of document
+ * 01's printed example is laid from them, with more and more tries; then runs
+ * at the ends of what these lengths cover, and refusals.  It ends with 1 where a
+ * call does not do what it should.
+ *
+ *     cc layout.c $(pkg-config --cflags --libs barrier_engine) -o layout
+ */
+#include <inttypes.h>
+#include <stdio.h>
+
+#include <barrier.h>
+
+/* In the order in which their counts rise: the last one's changes fastest. */
+enum { LENGTHS = 2 };
+static const uint64_t lengths[LENGTHS] = {4000, 2500};
+
+/* The run [155773, 210000). */
+static const uint64_t RUN = 210000 - 155773;
+
+static void print_refusal(barrier_layout_reply reply)
+{
+    printf("refused %" PRIu64 " with %" PRIu64 "\n", reply.number, reply.value);
+}
+
+/* The layout of a run; 0 if refused. */
+static int print_layout(uint64_t run, uint64_t limit)
+{
+    const barrier_layout_reply reply = barrier_layout(lengths, LENGTHS, run, limit);
+    printf("  run %" PRIu64 ", at most %" PRIu64 " tries: ", run, limit);
+    if (reply.number != BARRIER_DONE) {
+        print_refusal(reply);
+        return 0;
+    }
+    /* An overrun of 0 is one: whether a layout covers the run, found alone says. */
+    if (reply.found)
+        printf("(%" PRIu64 ", %" PRIu64 "), overrun %" PRIu64, reply.counts[0], reply.counts[1],
+               reply.overrun);
+    else
+        printf("none covers it");
+    printf("; %" PRIu64 " tries, floor %" PRIu64 "\n", reply.tries, reply.floor);
+    return 1;
+}
+
+/* The same run; where the overrun is the floor, more tries are of no use. */
+static int print_tries(void)
+{
+    static const uint64_t limits[] = {94, 95, 137, 138, BARRIER_TRIES_MAX};
+    printf("Panels of 4000 and 2500, the printed example's run\n");
+    for (size_t i = 0; i < sizeof limits / sizeof limits[0]; i++)
+        if (!print_layout(RUN, limits[i]))
+            return 0;
+    return 1;
+}
+
+/* Fifteen of each are 97,500 together. */
+static int print_ends(void)
+{
+    printf("Runs at the ends of what these panels cover\n");
+    return print_layout(0, BARRIER_TRIES_MAX) && print_layout(97500, BARRIER_TRIES_MAX) &&
+           print_layout(97501, BARRIER_TRIES_MAX);
+}
+
+/* A call that has to be refused; 0 if it is done. */
+static int print_refused(const char *what, barrier_layout_reply reply)
+{
+    printf("  %s: ", what);
+    if (reply.number == BARRIER_DONE) {
+        printf("done, but it should be refused\n");
+        return 0;
+    }
+    print_refusal(reply);
+    return 1;
+}
+
+static int print_refusals(void)
+{
+    printf("Refusals\n");
+    return print_refused("no length", barrier_layout(NULL, 0, RUN, BARRIER_TRIES_MAX)) &&
+           print_refused("no tries", barrier_layout(lengths, LENGTHS, RUN, 0));
+}
+
+int main(void)
+{
+    const int shown = print_tries() && print_ends() && print_refusals();
+    if (fflush(stdout) != 0 || ferror(stdout)) {
+        fprintf(stderr, "layout: standard output cannot be written\n");
+        return 1;
+    }
+    return shown ? 0 : 1;
+}
