@@ -338,6 +338,18 @@
  *   - A refused call alters nothing, neither the open job nor the output.
  *   - Opening memory that has an open job already starts anew.
  *
+ * A hazard that is withdrawn, or left out of a job, alters levels near it
+ * alone: on its own side, from G millimetres before its envelope to G
+ * millimetres behind it.  The envelope is taken with its approaches in whole
+ * panels and cut at the ends of the road: it is the one run that barrier_plan
+ * writes for a job of the same header with this hazard alone.  G before it may
+ * lie below station 0: reckon in signed numbers, or stop there.  At every
+ * other millimetre the level is as before, so that a sheet without a
+ * millimetre of that stretch shows the same barrier.  The overhangs of that
+ * side may alter, and the records of runs that are partly in the stretch.  On
+ * the other side, and on both where nobody reaches the hazard, schedule and
+ * overhangs stay byte for byte.
+ *
  * A designer tries a variant and returns.  For this, up to eight states of an
  * open job can be kept in it, under the numbers 0 to 7: what stands, with its
  * names.
@@ -537,9 +549,10 @@ extern "C" {
  * in another way, or an open job has another size, so that programs already
  * compiled break ("Linking"): 1.0.0 is such a version for its replies, 2.0.0
  * for its open job, 3.0.0 for its names.  The second goes up with each
- * addition, so barrier_layout is there from 3.1.0 on.
+ * addition, so barrier_layout is there from 3.1.0 on; the third where the
+ * header says more and no call is another.
  */
-#define BARRIER_VERSION "3.1.0"
+#define BARRIER_VERSION "3.1.1"
 
 /*
  * CONSTANTS

@@ -2,7 +2,7 @@
 -- Assumes nothing.
 use Prim.Native.Nat.{ℕ, _+_, _-_, _≤_}
 use native.Mathlib.Omega.{arith}
-use mathlib.Core.Path.{_≡_, sym, subst, ap, _∙_, fun-ext}
+use mathlib.Core.Path.{_≡_, refl, sym, subst, ap, _∙_, fun-ext}
 use mathlib.Core.Bool.{Bool, true}
 use mathlib.Core.List.{List, [], _∷_, List·Memᴰ}
 use lib.ListN.{length, take, drop}
@@ -32,8 +32,9 @@ use Rattle.refusal.proofs.AnswerLaws.{bound, tested}
 use Rattle.schedule.specs.Planned.{Accepted, scheduleAlone, Planned, scheduleLevel}
 use Rattle.schedule.proofs.PlannedLaws.{planned-writing, planned-only, job-read, job-shown}
 use Rattle.planning.proofs.JobRunLaws.{job-runs, job-run-list}
-use Rattle.planning.proofs.EnvelopeLaws.{AcceptedFits, accepted-fits, cut-has, from-cut, to-cut, side-lies, side-proper, side-levelled}
+use Rattle.planning.proofs.EnvelopeLaws.{AcceptedFits, accepted-fits, cut-has, FromCut, from-cut, to-cut, side-lies, side-proper, side-levelled}
 use Rattle.planning.proofs.RoadLaws.{level-off-road}
+use Rattle.open_memory.specs.Memory.{counted}
 use Rattle.demands.specs.Demands.{CoversHazards, NoShortGapOnRoad, LeastCovering, Demand2, Demand1, ShowsLevel, Demand2-lookup, Demand3-writing, Demand3-planned, Demand3-equal, Demand3-off-road, Alike, Demand3-growth, RisingStations, lastOf, lotsTotal, Demand3-quantities}
 
 pub demand3-planned : Demand3-planned
@@ -121,7 +122,7 @@ pub demand3-off-road : Demand3-off-road
 demand3-off-road s j side a t off = level-off-road j side (accepted-fits s j a) t off
 
 -- Headers that are alike give a hazard the same envelope.
-alike-path : (h k : Header) → Alike h k → record {
+pub alike-path : (h k : Header) → Alike h k → record {
   kind = h .kind;
   begin = h .begin;
   end = h .end;
@@ -156,13 +157,24 @@ alike-path h k a = λ i. record {
   count = k .count;
 }
 
-alike-reached : (h k : Header) → Alike h k → (z : Hazard) → reached h z ≡ reached k z
+pub alike-reached : (h k : Header) → Alike h k → (z : Hazard) → reached h z ≡ reached k z
 unfolding reached reaches farther
 alike-reached h k a z = ap (λ (x : Header). reached x z) (alike-path h k a)
 
 alike-envelope : (h k : Header) → Alike h k → (z : Hazard) → cutEnvelope h z ≡ cutEnvelope k z
 unfolding cutEnvelope cutToRoad envelope lengthening reaches reachOf offsetOf farther
 alike-envelope h k a z = ap (λ (x : Header). cutEnvelope x z) (alike-path h k a)
+
+-- So an envelope of the first job is one of the second, where that has the hazard too.
+pub alike-cut : (j₁ j₂ : Job) → Alike (j₁ .header) (j₂ .header) → (side : ℕ) (e : Stretch) (w : FromCut j₁ side e) → List·Memᴰ (w .hazard) (j₂ .hazards) → List·Memᴰ e (sideEnvelopes j₂ side)
+alike-cut j₁ j₂ alike side e w m =
+    let r : reached (j₂ .header) (w .hazard) ≡ true = sym (alike-reached (j₁ .header) (j₂ .header) alike (w .hazard)) ∙ w .own .reach in
+    let q : e ≡ cutEnvelope (j₂ .header) (w .hazard) = w .is ∙ alike-envelope (j₁ .header) (j₂ .header) alike (w .hazard) in
+    subst (λ (x : Stretch). List·Memᴰ x (sideEnvelopes j₂ side)) (sym q) (to-cut j₂ side (record { member = m; on-side = w .own .on-side; reach = r }))
+
+-- Headers that differ in the hazard count alone.
+pub counted-alike : (h : Header) (a b : ℕ) → Alike (counted h a) (counted h b)
+counted-alike h a b = record { kind = refl; begin = refl; end = refl; forward = refl; opposite = refl; zone = refl; way = refl; offset = refl; deflection = refl; along = refl; across = refl; straight = refl; continuity = refl; panel = refl }
 
 pub demand3-growth : Demand3-growth
 unfolding jobLevel
@@ -175,11 +187,7 @@ demand3-growth s₁ s₂ j₁ j₂ side w₁ w₂ a₁ a₂ h p₁ p₂ alike mo
     shown₂ = demand2 s₂ j₂ side w₂ a₂ h p₂ .level t
 
     sub : (e : Stretch) → List·Memᴰ e (sideEnvelopes j₁ side) → List·Memᴰ e (sideEnvelopes j₂ side)
-    sub e m =
-        let w = from-cut j₁ side e m in
-        let r : reached (j₂ .header) (w .hazard) ≡ true = sym (alike-reached (j₁ .header) (j₂ .header) alike (w .hazard)) ∙ w .own .reach in
-        let q : e ≡ cutEnvelope (j₂ .header) (w .hazard) = w .is ∙ alike-envelope (j₁ .header) (j₂ .header) alike (w .hazard) in
-        subst (λ (x : Stretch). List·Memᴰ x (sideEnvelopes j₂ side)) (sym q) (to-cut j₂ side (record { member = more (w .hazard) (w .own .member); on-side = w .own .on-side; reach = r }))
+    sub e m = let w = from-cut j₁ side e m in alike-cut j₁ j₂ alike side e w (more (w .hazard) (w .own .member))
 
     grows : requiredLevel (sideEnvelopes j₁ side) (j₂ .header .continuity) t ≤ requiredLevel (sideEnvelopes j₂ side) (j₂ .header .continuity) t
     grows = required-more (sideEnvelopes j₁ side) (sideEnvelopes j₂ side) (j₂ .header .continuity) t sub

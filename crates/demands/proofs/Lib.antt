@@ -1,5 +1,6 @@
 pub mod LookupLaws
 pub mod DemandLaws
+pub mod AlikeLaws
 pub mod FormulaLaws
 pub mod QueryLaws
 pub mod ContractLaws
@@ -11,3 +12,4 @@ pub mod LimitLaws
 pub mod LevelLaws
 pub mod CornerLaws
 pub mod OffsetLaws
+pub mod WithdrawalLaws

@@ -6,3 +6,4 @@ pub mod Level
 pub mod Road
 pub mod Corners
 pub mod Offset
+pub mod Withdrawal

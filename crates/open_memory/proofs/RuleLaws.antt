@@ -24,9 +24,9 @@ use Rattle.planning.specs.Envelope.{reached, reaches, farther, standsNear, test
 use Rattle.planning.specs.Rows.{Passed}
 use Rattle.planning.proofs.EnvelopeLaws.{AcceptedFits, hazard-passed}
 use Rattle.planning.proofs.AcceptedLaws.{hazard-passes}
-use Rattle.open_memory.specs.Memory.{greatestName, standing, counted, headerInRange, hazardInRange, admit, admissible, namesRise, isUnused, isOpenJob}
+use Rattle.open_memory.specs.Memory.{greatestName, standing, counted, madeFrom, headerInRange, hazardInRange, admit, admissible, namesRise, isUnused, isOpenJob}
 use Rattle.open_memory.specs.Steps.{Clear}
-use Rattle.open_memory.proofs.RangeLaws.{header-fits, hazard-fits, hazard-ranged}
+use Rattle.open_memory.proofs.RangeLaws.{header-fits, counted-fits, hazard-fits, hazard-ranged}
 
 -- A hazard that can be added
 pub record Admitted (h : Header) (z : Hazard) : Type 0 where
@@ -71,6 +71,13 @@ module _ (h : Header) (n : ℕ) (z : Hazard) (a : Admitted h z) where
   pub counted-passed : Passed (counted h n) z
   unfolding reached reaches farther
   counted-passed = record { clear = a .passed .clear }
+
+-- So a job made from hazards each of which could be added is accepted.
+pub made-fits : (h : Header) (zs : List Hazard) → HeaderFits h → length zs ≤ 256 → ((z : Hazard) → List·Memᴰ z zs → Admitted h z) → AcceptedFits (madeFrom h zs)
+made-fits h zs fits few all = record {
+  fits = record { header = counted-fits h (length zs) fits few; hazards = record { count = refl; each = λ z m. counted-hazard h (length zs) z (all z m) } };
+  passed = λ z m. counted-passed h (length zs) z (all z m);
+}
 
 -- The hazards that stand: names that rise, and each could be added.
 abbrev pub Stand : Header → (low : ℕ) → List NamedHazard → Type 0

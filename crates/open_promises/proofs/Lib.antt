@@ -7,3 +7,4 @@ pub mod ListLaws
 pub mod MeaningLaws
 pub mod BeforeLaws
 pub mod NamesLaws
+pub mod WithdrawalLaws

@@ -28,7 +28,7 @@ use Rattle.planning.proofs.EnvelopeLaws.{accepted-fits}
 use Rattle.planning.proofs.LimitLaws.{accepted-read}
 use Rattle.planning.proofs.AcceptedLaws.{fitting-accepted}
 use Rattle.open_memory.specs.Memory.{mostStanding, standing, counted, laidOut, madeFrom, stands, isFull, inserted, without, admit, isOpenJob}
-use Rattle.open_memory.proofs.RuleLaws.{Admitted, Stand, stand-each, open-header, open-standing}
+use Rattle.open_memory.proofs.RuleLaws.{Admitted, made-fits, Stand, stand-each, open-header, open-standing}
 use Rattle.open_memory.proofs.PlaceLaws.{without-stand}
 use Rattle.open_job.specs.Open.{openJob, addTo, withdrawFrom, scheduleOf, memoryAfter, replied}
 use Rattle.open_job.proofs.CallLaws.{opening-read}
@@ -38,7 +38,7 @@ use Rattle.kept_states.specs.declared.OpenStates.{OpenStates}
 use Rattle.kept_states.specs.States.{mostKept, greatestStateNumber, nothingKept, keptFrom, stateOf, isUsed, keptSound, keptStates, keptUnder, statesFrom, areOpenStates, openStatesBy, openStates, addIn, withdrawIn, scheduleIn, keepIn, returnIn}
 use Rattle.kept_states.proofs.StateLaws.{kept-under, none-above, states-sound, now-open, each-sound}
 use Rattle.open_promises.specs.Lists.{add, withdraw, Call, edit, schedule, keepAs, returnTo, Kept, nothing, state, States, isKept, opened, statesAfterAll, hazardsAfter, addedSince, afterCall, afterCalls, CallsFrom, AnswersAs, SchedulePromise, Holds, HoldsKept, Standing, StandingPromise, AgainPromise, RoomPromise, ReturnPromise, UntouchedPromise, KeepPromise}
-use Rattle.open_promises.proofs.SameLaws.{made-fits, same-plans}
+use Rattle.open_promises.proofs.SameLaws.{same-plans}
 use Rattle.open_promises.proofs.ModelLaws.{returned}
 use Rattle.open_promises.proofs.StandingLaws.{Agree, stand-distinct, stands-same, without-stands, without-length, one-less, placedAfter}
 use Rattle.open_promises.proofs.MemoryLaws.{AgreeKept, laidKept, agree-stand, kept-used, not-used, laid-states, Follows, follows-all, follows-opened}

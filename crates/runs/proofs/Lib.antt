@@ -13,3 +13,4 @@ pub mod SortLaws
 pub mod KeyLaws
 pub mod StoredLaws
 pub mod LimitLaws
+pub mod ChangeLaws

@@ -15,6 +15,7 @@ use crate::calls::{
     Record, Reply,
 };
 use crate::hex;
+use crate::reach::{self, Sheets};
 use crate::tally::Tally;
 
 /// The inputs of one call. `fill` chooses the bytes that the output contains
@@ -48,6 +49,8 @@ pub enum Case {
         run: u64,
         limit: u64,
     },
+    /// An accepted job with the hazard of this index and without it.
+    OneLess { job: Vec<u8>, hazard: u64 },
     Quantity {
         schedule: Vec<u8>,
         level: u64,
@@ -69,6 +72,11 @@ pub enum Case {
     OpenJob {
         memory: Box<[u8; BYTES]>,
         step: Step,
+    },
+    /// The schedules of an open job before a withdrawal and after it.
+    OpenOneLess {
+        memory: Box<[u8; BYTES]>,
+        name: Name,
     },
 }
 
@@ -130,6 +138,9 @@ impl fmt::Display for Case {
                 run,
                 limit,
             } => write!(f, "--layout {} {run} {limit}", hex::write_numbers(lengths)),
+            Case::OneLess { job, hazard } => {
+                write!(f, "--one-less {} {hazard}", hex::write(job))
+            }
             Case::Quantity {
                 schedule,
                 level,
@@ -170,6 +181,10 @@ impl fmt::Display for Case {
                         fill,
                     } => write!(f, "--schedule {memory} {side} {out_length} {fill}"),
                 }
+            }
+            Case::OpenOneLess { memory, name } => {
+                let memory = hex::write_memory(&memory[..]);
+                write!(f, "--open-one-less {memory} {name}")
             }
         }
     }
@@ -306,14 +321,7 @@ impl Checker {
         let lent = GUARD..GUARD + LONG_ENOUGH;
         let mut room = filled_room(LONG_ENOUGH, self.fill);
         let reply = (self.calls.plan)(&mut job.to_vec(), side, &mut room, lent);
-        match reply.number {
-            0 => Ok(room
-                .into_iter()
-                .skip(GUARD)
-                .take(reply.value as usize)
-                .collect()),
-            _ => Err(reply.reply()),
-        }
+        written(reply, room)
     }
 
     /// The level that the engine's lookup shows in a schedule of its own.
@@ -445,6 +453,100 @@ impl Checker {
             return Ok(got);
         }
         Err(self.difference(case(), what, layout_text(expected), layout_text(got)))
+    }
+
+    /// Tries an accepted job with one of its hazards and without it: what plan
+    /// gives for both sides is held against the reference, and the engine's own
+    /// schedules against each other, as far as the hazard does not reach.
+    pub fn one_less(&mut self, job: &[u8], hazard: u64) -> Result<(), Box<Difference>> {
+        let case = || Case::OneLess {
+            job: job.to_vec(),
+            hazard,
+        };
+        self.trace(case);
+        self.fill += 1;
+        let fewer = reach::without(job, hazard).expect("an accepted job that has the hazard");
+        let of_reference = |job: &[u8]| {
+            reach::both_sides(|side| {
+                reference::planned(job, side).map_err(|r| calls::reply(Err(r)))
+            })
+        };
+        let of_engine = |job: &[u8]| reach::both_sides(|side| self.own_plan(job, side));
+        let expected = Sheets {
+            before: of_reference(job),
+            after: of_reference(&fewer.job),
+        };
+        let got = Sheets {
+            before: of_engine(job),
+            after: of_engine(&fewer.job),
+        };
+        self.tally.count(0);
+
+        let mut what = Vec::new();
+        reach::note_reference(&mut what, &expected, &got);
+        reach::note_reach(&mut what, &got, &fewer.reach);
+        if what.is_empty() {
+            return Ok(());
+        }
+        Err(self.difference(case(), what, expected.to_string(), got.to_string()))
+    }
+
+    /// Tries a withdrawal from an open job, and its schedules before and after, as
+    /// `one_less` does. After one that is refused nothing alters.
+    pub fn open_one_less(
+        &mut self,
+        memory: &[u8; BYTES],
+        name: Name,
+    ) -> Result<Reply, Box<Difference>> {
+        let case = || Case::OpenOneLess {
+            memory: Box::new(*memory),
+            name,
+        };
+        self.trace(case);
+        self.fill += 1;
+        let reach = reach::of_withdrawal(memory, name);
+        let mut expected_lent = Memory::new(memory);
+        let mut lent = expected_lent.clone();
+        let of_reference = |lent: &Memory| {
+            reach::both_sides(|side| {
+                let mut room = vec![0; LONG_ENOUGH];
+                let planned = reference::open_schedule(&lent.job, side, &mut room);
+                let planned = planned.map_err(|r| calls::reply(Err(r)))?;
+                room.truncate(planned.written as usize);
+                Ok(room)
+            })
+        };
+        let before = of_reference(&expected_lent);
+        let expected = calls::reply(reference::withdraw(&mut expected_lent.job, name));
+        let expected_sheets = Sheets {
+            before,
+            after: of_reference(&expected_lent),
+        };
+        let before = reach::both_sides(|side| self.own_open_schedule(&mut lent, side));
+        let got = (self.calls.withdraw)(&mut lent, name);
+        let after = reach::both_sides(|side| self.own_open_schedule(&mut lent, side));
+        let got_sheets = Sheets { before, after };
+        self.tally.count(expected.number);
+
+        let mut what = Vec::new();
+        note_reply(&mut what, expected != got);
+        note_memory(&mut what, &expected_lent, &lent);
+        reach::note_reference(&mut what, &expected_sheets, &got_sheets);
+        reach::note_reach(&mut what, &got_sheets, &reach);
+        if what.is_empty() {
+            return Ok(got);
+        }
+        let reference = format!("{}, {expected_sheets}", reply_text(expected));
+        let engine = format!("{}, {got_sheets}", reply_text(got));
+        Err(self.difference(case(), what, reference, engine))
+    }
+
+    /// The schedule that the engine itself gives of an open job, or its refusal.
+    fn own_open_schedule(&self, memory: &mut Memory, side: u64) -> Result<Vec<u8>, Reply> {
+        let lent = GUARD..GUARD + LONG_ENOUGH;
+        let mut room = filled_room(LONG_ENOUGH, self.fill);
+        let reply = (self.calls.open_schedule)(memory, side, &mut room, lent);
+        written(reply, room)
     }
 
     pub fn quantity(
@@ -666,9 +768,11 @@ impl Checker {
                 side,
                 station,
             } => self.lookup(right, left, *side, *station).map(|_| ()),
+            Case::OneLess { job, hazard } => self.one_less(job, *hazard),
             Case::OpenJob { memory, step } => {
                 self.step(&mut memory.clone(), step.clone()).map(|_| ())
             }
+            Case::OpenOneLess { memory, name } => self.open_one_less(memory, *name).map(|_| ()),
         }
     }
 
@@ -688,6 +792,18 @@ impl Checker {
             reference,
             engine,
         })
+    }
+}
+
+/// The bytes that a call says it has written to the output of a room.
+fn written(reply: PlanReply, room: Vec<u8>) -> Result<Vec<u8>, Reply> {
+    match reply.number {
+        0 => Ok(room
+            .into_iter()
+            .skip(GUARD)
+            .take(reply.value as usize)
+            .collect()),
+        _ => Err(reply.reply()),
     }
 }
 
@@ -744,7 +860,7 @@ fn note_memory(what: &mut Vec<String>, expected: &Memory, got: &Memory) {
     }
 }
 
-fn reply_text(reply: Reply) -> String {
+pub fn reply_text(reply: Reply) -> String {
     format!("number {} value {}", reply.number, reply.value)
 }
 

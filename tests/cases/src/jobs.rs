@@ -328,7 +328,12 @@ fn bring_together(draft: &mut Draft, random: &mut Random) {
 }
 
 /// Moves the second hazard behind the first's envelope.
-fn move_behind(draft: &mut Draft, first: usize, second: usize, random: &mut Random) -> Option<()> {
+pub fn move_behind(
+    draft: &mut Draft,
+    first: usize,
+    second: usize,
+    random: &mut Random,
+) -> Option<()> {
     draft.hazards[second][SIDE] = draft.hazards[first][SIDE];
     let before = envelope_of(draft, first)?.stretch;
     let moved = envelope_of(draft, second)?.stretch;

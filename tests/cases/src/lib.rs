@@ -13,6 +13,7 @@ pub mod jobs;
 pub mod layouts;
 pub mod one_hazard;
 pub mod open;
+pub mod reach;
 pub mod tally;
 pub mod wrong;
 pub mod wrong_chainage;
@@ -25,6 +26,7 @@ pub mod wrong_numbers;
 pub mod wrong_offset;
 pub mod wrong_open;
 pub mod wrong_overhang;
+pub mod wrong_reach;
 pub mod wrong_states;
 
 pub use calls::{

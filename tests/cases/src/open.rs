@@ -197,7 +197,7 @@ pub fn random_memory(random: &mut Random) -> [u8; BYTES] {
 }
 
 /// A job whose header is accepted; most of its hazards are, each alone.
-fn source(random: &mut Random) -> Draft {
+pub fn source(random: &mut Random) -> Draft {
     loop {
         let mut draft = match random.below(10) {
             0..=3 => jobs::small(random),
@@ -228,23 +228,7 @@ pub fn lists(checker: &mut Checker, random: &mut Random) -> Outcome {
 /// end each state that is kept, one after the other.
 fn list(checker: &mut Checker, random: &mut Random) -> Outcome {
     let draft = source(random);
-    let names = few_names(random);
-    let mut open = Open::new(checker, random, &draft)?;
-    for _ in 0..random.between(10, 60) {
-        let name = random.pick(&names);
-        match random.below(100) {
-            0..=49 => {
-                let fields = draft.hazards[random.index(draft.hazards.len())];
-                let fields = faulty(random, &draft, fields);
-                open.add(checker, name, fields)?;
-            }
-            50..=67 => open.withdraw(checker, name)?,
-            68..=77 => open.keep(checker, state(random))?,
-            78..=87 => open.return_to(checker, state(random))?,
-            88..=97 => open.schedule(checker, random)?,
-            _ => open.open(checker, opening(random, &draft))?,
-        }
-    }
+    let mut open = after_calls(checker, random, &draft)?;
     open.as_planned(checker, random)?;
     for state in 0..STATES as u64 {
         open.return_to(checker, state)?;
@@ -253,6 +237,32 @@ fn list(checker: &mut Checker, random: &mut Random) -> Outcome {
         }
     }
     Ok(())
+}
+
+/// An open job after tens of calls with hazards of this job.
+pub fn after_calls(
+    checker: &mut Checker,
+    random: &mut Random,
+    draft: &Draft,
+) -> Result<Open, Difference> {
+    let names = few_names(random);
+    let mut open = Open::new(checker, random, draft)?;
+    for _ in 0..random.between(10, 60) {
+        let name = random.pick(&names);
+        match random.below(100) {
+            0..=49 => {
+                let fields = draft.hazards[random.index(draft.hazards.len())];
+                let fields = faulty(random, draft, fields);
+                open.add(checker, name, fields)?;
+            }
+            50..=67 => open.withdraw(checker, name)?,
+            68..=77 => open.keep(checker, state(random))?,
+            78..=87 => open.return_to(checker, state(random))?,
+            88..=97 => open.schedule(checker, random)?,
+            _ => open.open(checker, opening(random, draft))?,
+        }
+    }
+    Ok(open)
 }
 
 /// The state numbers mostly, few of them more often than others; some above 7,

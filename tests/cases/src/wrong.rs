@@ -21,7 +21,7 @@ use crate::draft::{G, KIND, PANEL, number_bytes};
 use crate::wrong_numbers::{JobReading, RIGHT_READING, by_reading, not_shortest};
 use crate::{
     wrong_chainage, wrong_corners, wrong_layout, wrong_level, wrong_memory, wrong_names,
-    wrong_offset, wrong_open, wrong_overhang, wrong_states,
+    wrong_offset, wrong_open, wrong_overhang, wrong_reach, wrong_states,
 };
 
 /// Every wrong engine with the name of its slip.
@@ -48,6 +48,7 @@ pub fn all() -> Vec<(&'static str, Calls)> {
     list.extend(wrong_chainage::all());
     list.extend(wrong_names::all());
     list.extend(wrong_layout::all());
+    list.extend(wrong_reach::all());
     list
 }
 
@@ -158,7 +159,7 @@ fn runs_and_overhang_by(
     Ok((runs, envelope::greatest_overhang(&envelopes)))
 }
 
-fn put(bytes: &[u8], out: &mut [u8]) -> Result<u64, Refusal> {
+pub fn put(bytes: &[u8], out: &mut [u8]) -> Result<u64, Refusal> {
     if out.len() < bytes.len() {
         return Err(Refusal::output_short(bytes.len()));
     }

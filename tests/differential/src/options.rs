@@ -17,6 +17,7 @@ one case alone, bytes in hex, no bytes as -:
   --corners JOB HAZARD SHEET_STATION SHEET_OFFSET
   --offset JOB HAZARD LONGEST
   --layout LENGTH,LENGTH RUN LIMIT (no lengths as -)
+  --one-less JOB HAZARD (an accepted job that has the hazard)
   --quantity SCHEDULE LEVEL P Q
   --quantities SCHEDULE LEVEL P,Q,P,Q (no ranges as -)
   --lookup RIGHT LEFT SIDE STATION
@@ -27,6 +28,7 @@ on an open job, its memory in hex, bytes of 0 at the end left out:
   --keep MEMORY STATE
   --return MEMORY STATE
   --schedule MEMORY SIDE OUTPUT_LENGTH FILL
+  --open-one-less MEMORY NAME
 ";
 
 #[derive(Clone, Copy)]
@@ -91,6 +93,7 @@ fn values(option: &str) -> Option<usize> {
         "--plan" | "--corners" | "--quantity" | "--lookup" | "--schedule" => Some(4),
         "--level" | "--offset" | "--layout" | "--quantities" | "--add" => Some(3),
         "--open" | "--withdraw" | "--keep" | "--return" => Some(2),
+        "--one-less" | "--open-one-less" => Some(2),
         _ => None,
     }
 }
@@ -130,6 +133,14 @@ fn read_case(option: &str, values: &[&str]) -> Option<Case> {
             lengths: numbers(0)?,
             run: value(1)?,
             limit: value(2)?,
+        },
+        "--one-less" => Case::OneLess {
+            job: bytes(0)?,
+            hazard: value(1)?,
+        },
+        "--open-one-less" => Case::OpenOneLess {
+            memory: Box::new(hex::read_memory(values.first()?)?),
+            name: value(1)?.try_into().ok()?,
         },
         "--quantity" => Case::Quantity {
             schedule: bytes(0)?,

@@ -20,6 +20,7 @@ pub mod offset;
 pub mod open;
 pub mod program;
 pub mod random;
+pub mod reach;
 pub mod refusal;
 pub mod schedule;
 pub mod stretch;

@@ -5,10 +5,12 @@ mod common;
 use common::*;
 use reference::job::Hazard;
 use reference::random::Random;
+use reference::reach::{altered, outside, reach, reach_on};
 use reference::{
     Layout, OpenJob, Quantities, Refusal, Tried, add, corners, keep, layout, level, memory, offset,
     open, open_schedule, planned, quantities, quantity, return_to, withdraw,
 };
+use reference::{Stretch, job, schedule};
 
 // 1: quantities for a whole contract.
 
@@ -1767,4 +1769,92 @@ fn refusals_of_layouts() {
     }
     assert!(layout(&[1, 20_000], 5, 1).is_ok());
     assert!(layout(&[1, 20_000], 5, ALL_TRIES).is_ok());
+}
+
+// 14: how far one withdrawal reaches.
+
+/// The reach of one hazard, and the stretches of its side that alter without it.
+fn without(draft: &Draft, index: usize) -> (Option<(u64, u64)>, Vec<(u64, u64)>) {
+    let job = job::read(&draft.bytes()).unwrap();
+    let hazard = job.hazards[index];
+    let mut fewer = draft.clone();
+    fewer.hazards.remove(index);
+    let runs = |draft: &Draft, side| -> Vec<_> {
+        let bytes = planned(&draft.bytes(), side).unwrap();
+        let records = schedule::read(&bytes).unwrap();
+        records.into_iter().map(|record| record.run).collect()
+    };
+    let other = 1 - hazard.side;
+    assert_eq!(runs(draft, other), runs(&fewer, other));
+    assert_eq!(reach_on(&job, &hazard, other), None);
+    let altered = altered(&runs(draft, hazard.side), &runs(&fewer, hazard.side));
+    let bound = reach(&job, &hazard);
+    assert_eq!(outside(&altered, bound), []);
+    let ends = |s: &Stretch| (s.start, s.end);
+    (bound.as_ref().map(ends), altered.iter().map(ends).collect())
+}
+
+/// Two gaps of 49 at G = 50: the one that is withdrawn takes both with it, so the
+/// farthest millimetre that alters is the 49th beyond its envelope at either end.
+#[test]
+fn a_withdrawal_alters_the_49th_millimetre_beyond_at_g_50() {
+    let draft = with_envelopes(50, &[(0, 100, 2), (149, 200, 2), (249, 300, 2)]);
+    assert_eq!(draft.right(), [(0, 300, 2)]);
+    assert_eq!(without(&draft, 1), (Some((99, 250)), vec![(100, 249)]));
+    // At the road's ends nothing is cut from the reach but what has no station.
+    assert_eq!(without(&draft, 0), (Some((0, 150)), vec![(0, 149)]));
+    assert_eq!(without(&draft, 2), (Some((199, 350)), vec![(200, 300)]));
+    // A millimetre more in each gap, and the envelope alone alters.
+    let apart = with_envelopes(50, &[(0, 100, 2), (150, 200, 2), (250, 300, 2)]);
+    assert_eq!(without(&apart, 1), (Some((100, 250)), vec![(150, 200)]));
+}
+
+/// Without it one gap is left that is still shorter than G: nothing alters.
+#[test]
+fn a_withdrawal_in_a_short_gap_alters_nothing() {
+    let draft = with_envelopes(50, &[(0, 100, 2), (110, 120, 2), (149, 200, 2)]);
+    assert_eq!(without(&draft, 1), (Some((60, 170)), vec![]));
+    // One of a higher level takes its own millimetres to level 2, no others.
+    let higher = with_envelopes(50, &[(0, 100, 2), (110, 120, 3), (149, 200, 2)]);
+    assert_eq!(without(&higher, 1), (Some((60, 170)), vec![(110, 120)]));
+}
+
+/// K10's gap has level 1; the hazard of level 3 is withdrawn.
+#[test]
+fn a_withdrawal_alters_lower_levels_too() {
+    let draft = with_envelopes(50, &[(0, 100, 3), (140, 200, 1)]);
+    assert_eq!(without(&draft, 0), (Some((0, 150)), vec![(0, 140)]));
+    assert_eq!(without(&draft, 1), (Some((90, 250)), vec![(100, 200)]));
+}
+
+#[test]
+fn an_equal_hazard_that_is_left_lets_nothing_alter() {
+    let draft = with_envelopes(50, &[(0, 100, 2), (149, 200, 2), (149, 200, 2)]);
+    assert_eq!(without(&draft, 1), (Some((99, 250)), vec![]));
+    assert_eq!(without(&draft, 2), (Some((99, 250)), vec![]));
+    let mut sides = draft;
+    sides.hazards[2][SIDE] = 1;
+    assert_eq!(without(&sides, 1), (Some((99, 250)), vec![(100, 200)]));
+    assert_eq!(without(&sides, 2), (Some((99, 250)), vec![(149, 200)]));
+}
+
+/// K6: with n 9,000 nobody reaches it.
+#[test]
+fn a_hazard_without_an_envelope_has_no_reach() {
+    assert_eq!(without(&printed().with_hazard(N, 9_000), 0), (None, vec![]));
+    let reached = printed().with_hazard(N, 8_999).with(G, 1_000);
+    let (bound, altered) = without(&reached, 0);
+    assert_eq!(bound, Some((154_773, 211_000)));
+    assert_eq!(altered, [(155_773, 210_000)]);
+}
+
+/// K1 in panels of 4,000: 44,227 becomes 48,000, and the road begins behind that.
+#[test]
+fn the_reach_of_a_raised_and_cut_envelope() {
+    let raised = printed().in_panels(4_000).with(G, 1_000);
+    let envelope = vec![(152_000, 210_000)];
+    assert_eq!(without(&raised, 0), (Some((151_000, 211_000)), envelope));
+    let cut = raised.with(A, 160_000);
+    let envelope = vec![(160_000, 210_000)];
+    assert_eq!(without(&cut, 0), (Some((159_000, 211_000)), envelope));
 }
