@@ -2,7 +2,7 @@
 -- Assumes nothing.
 use Prim.Native.Nat.{ℕ, suc, _+_, _-_, _*_, _≤_, _<_}
 use native.Mathlib.Omega.{arith}
-use native.Mathlib.Nat.{mul-le-mul-left, mul-le-mul, le-of-mul-le-mul-left}
+use native.Mathlib.Nat.{mul-le-mul-left, mul-le-mul, le-of-mul-le-mul-left, lt-of-not-le}
 use native.Mathlib.Decide.{decLe}
 use mathlib.Core.Path.{_≡_, ap, _∙_, refl, sym}
 use mathlib.Core.Logic.{_↔_, _⊎_, inl, inr, ⊎-elim}
@@ -12,7 +12,8 @@ use borrow.Author.Tests.{le-leb, lt-leb, leb-true, leb-false}
 use Rattle.refusal.specs.Choice.{if_then_else_}
 use Rattle.approach.specs.Approach.{formulaLength, approachLength, BelowFormula, BelowRule, Domain}
 use Rattle.approach.specs.Steps.{flareAcross}
-use Rattle.approach.proofs.FormulaLaws.{not-le, not-lt, formula-below, flare-adds, flare-shortens, unflared-exactly}
+use Rattle.approach.proofs.FormulaLaws.{formula-below, flare-adds, flare-shortens, unflared-exactly}
+use Rattle.refusal.proofs.OrderLaws.{not-lt}
 
 -- The rule.
 -- Its two cases.
@@ -202,4 +203,4 @@ module _ (a b T L R m : ℕ) (d : Domain a b T L R m) where
 
       go : (t : Bool) → leb (L * (R - m)) (T * R) ≡ t → formulaLength a (if t then 0 else b) T L R m ≡ approachLength a b T L R m
       go true e = sym (approach-unflared a b T L R m (test .1 (leb-true (L * (R - m)) (T * R) e)))
-      go false e = sym (approach-flared a b T L R m (not-le (λ l. omega (arith, test .0 l, leb-false (L * (R - m)) (T * R) e))))
+      go false e = sym (approach-flared a b T L R m (lt-of-not-le (λ l. omega (arith, test .0 l, leb-false (L * (R - m)) (T * R) e))))

@@ -2,25 +2,11 @@
 -- Assumes nothing.
 use Prim.Native.Nat.{ℕ, suc, _+_, _-_, _*_, _≤_, _<_}
 use native.Mathlib.Omega.{arith}
-use native.Mathlib.Nat.{lt-div-mul-add, div-lt-iff-lt-mul, mul-le-mul-left, mul-le-mul-right}
-use native.Mathlib.Decide.{decLe, decLt}
+use native.Mathlib.Nat.{lt-div-mul-add, div-lt-iff-lt-mul, mul-le-mul-left, mul-le-mul-right, lt-of-not-le}
+use native.Mathlib.Decide.{decLe}
 use mathlib.Core.Path.{_≡_, ap, _∙_}
 use mathlib.Core.Logic.{_↔_}
 use Rattle.approach.specs.Approach.{ceilDiv, formulaLength, BelowFormula}
-
-pub not-le : {m n : ℕ} → (n ≤ m → ⊥) → m < n
-not-le {m} {n} h = go (decLt m n)
-  where
-    go : Dec (m < n) → m < n
-    go (yes l) = l
-    go (no l) = absurd (h (omega arith))
-
-pub not-lt : {m n : ℕ} → (n < m → ⊥) → m ≤ n
-not-lt {m} {n} h = go (decLe m n)
-  where
-    go : Dec (m ≤ n) → m ≤ n
-    go (yes l) = l
-    go (no l) = absurd (h (omega arith))
 
 -- Rounding up.
 -- x ≤ ⌈x / y⌉ × y, and no smaller number has that.
@@ -44,8 +30,8 @@ module _ (a b T L R m : ℕ) (some : 0 < b * L + a * R) where
 
   pub formula-below : (d : ℕ) → (d < formulaLength a b T L R m) ↔ BelowFormula a b T L R m d
   formula-below d = (
-    λ l. not-le (λ h. omega (arith, formula-exactly d .1 h)),
-    λ h. not-le (λ l. omega (arith, formula-exactly d .0 l)),
+    λ l. lt-of-not-le (λ h. omega (arith, formula-exactly d .1 h)),
+    λ h. lt-of-not-le (λ l. omega (arith, formula-exactly d .0 l)),
   )
 
 -- A weighted mean.
@@ -66,7 +52,7 @@ module _ (X Y w T n : ℕ) where
   mean-least l h = omega (arith, mul-le-mul-left w l)
 
   mean-above : T * Y < X → X + w * T ≤ n * (w + Y) → T < n
-  mean-above l h = not-le (λ e. omega (arith, mul-le-mul-left w e, mul-le-mul-right Y e))
+  mean-above l h = lt-of-not-le (λ e. omega (arith, mul-le-mul-left w e, mul-le-mul-right Y e))
 
 module _ (a b T L R m : ℕ) (some : 0 < a * R) (uncut : a * m ≤ a * R) where
   -- The length without flare and the length with it.
@@ -98,6 +84,6 @@ module _ (a b T L R m : ℕ) (some : 0 < a * R) (uncut : a * m ≤ a * R) where
       let n = formulaLength a b T L R m in
       let k = formulaLength a 0 T L R m in
       let x = unflared-exactly k .0 (omega arith) in (
-        mean-above X (a * R) (b * L) T n (not-le (λ h. omega (arith, unflared-exactly T .1 h))) (flared-exactly n .0 (omega arith)),
+        mean-above X (a * R) (b * L) T n (lt-of-not-le (λ h. omega (arith, unflared-exactly T .1 h))) (flared-exactly n .0 (omega arith)),
         flared-exactly k .1 (mean-least X (a * R) (b * L) T k (omega arith) x),
       )

@@ -2,12 +2,12 @@
 -- Assumes nothing.
 use Prim.Native.Nat.{ℕ, zero, suc, _+_, _*_, _≤_, _<_}
 use native.Mathlib.Omega.{arith}
-use native.Mathlib.Nat.{mul-le-mul-right}
+use native.Mathlib.Nat.{mul-le-mul-right, lt-of-not-le}
 use mathlib.Core.Path.{_≡_, refl}
 use mathlib.Core.Logic.{_↔_}
 use Rattle.approach.specs.Approach.{ceilDiv, approachLength, Domain}
-use Rattle.approach.specs.Panel.{Multiple, LeastMultiple, raised, Raising, raisedLength, BelowRaised}
-use Rattle.approach.proofs.FormulaLaws.{not-le, ceil-covers, ceil-least}
+use Rattle.approach.specs.Panel.{LeastMultiple, raised, Raising, raisedLength, BelowRaised}
+use Rattle.approach.proofs.FormulaLaws.{ceil-covers, ceil-least}
 use Rattle.approach.proofs.ApproachLaws.{approach-below, length-some, length-fits}
 
 -- The raising.
@@ -44,7 +44,7 @@ raised-monotone p x y h l = let r = raised-least p y h in raised-least p x h .le
 pub raised-less : (p x : ℕ) → 1 ≤ p → raised p x < x + p
 unfolding raised
 raised-less p x h =
-    not-le (λ l. omega (arith, lower l))
+    lt-of-not-le (λ l. omega (arith, lower l))
   where
     lower : x + p ≤ ceilDiv x p * p → ⊥
     lower l = below (ceilDiv x p) (λ n. ceil-least x p n h) l
@@ -55,7 +55,7 @@ raised-less p x h =
 
 -- The numbers below the raised length: no multiple up to them reaches the length.
 pub raised-below : (p x d : ℕ) → 1 ≤ p → (d < raised p x) ↔ ((k : ℕ) → k * p ≤ d → k * p < x)
-raised-below p x d h = (λ l k q. not-le (λ z. omega (arith, r .least (k * p) (record { times = k; product = refl }) z)), λ f. not-le (λ l. back f l))
+raised-below p x d h = (λ l k q. lt-of-not-le (λ z. omega (arith, r .least (k * p) (record { times = k; product = refl }) z)), λ f. lt-of-not-le (λ l. back f l))
   where
     r : LeastMultiple p x (raised p x)
     r = raised-least p x h

@@ -3,14 +3,15 @@
 -- Assumes nothing.
 use Prim.Native.Nat.{ℕ, zero, suc, _≤_, _<_}
 use native.Mathlib.Omega.{arith}
-use mathlib.Core.Path.{_≡_, sym, ap, _∙_}
+use mathlib.Core.Path.{_≡_, ap, _∙_}
 use mathlib.Core.Bool.{true}
-use mathlib.Core.List.{List, _∷_, _++_, append-assoc, List·Memᴰ}
+use mathlib.Core.List.{List, _∷_, _++_, append-assoc, List·Memᴰ, []}
 use lib.Dec.{eqb}
 use Rattle.refusal.specs.Choice.{if_then_else_}
 use Rattle.refusal.specs.Answer.{accepted}
 use Rattle.job.specs.declared.Hazard.{Hazard}
 use Rattle.job.specs.Job.{Job}
+use Rattle.job.proofs.RangeLaws.{header-bounds, hazard-bounds}
 use Rattle.runs.specs.declared.Stretch.{Stretch}
 use Rattle.runs.specs.Level.{Has}
 use Rattle.runs.proofs.RunLaws.{ShownRun, shown-run}
@@ -44,51 +45,22 @@ lines-split : (word : List ℕ) (rs before : List Stretch) (r : Stretch) (after 
 unfolding runLines
 lines-split word rs before r after e = ap (runLines word) e ∙ lines-append word before (r ∷ after)
 
--- A run that a side's runs show at t is printed.
 module _ (s : List ℕ) (j : Job) (a : acceptJob s ≡ accepted j) (v t : ℕ) where
-  right-printed : (w : ShownRun (jobRuns j 0) t) → v ≤ w .run .level → PrintedRun s rightWord v t
-  unfolding runsReport reportedBy
-  right-printed w h =
-      let A = runLines rightWord (w .before) in
-      let B = runLines rightWord (w .after) in
-      let line = runLine rightWord (w .run .start) (w .run .end) (w .run .level) in
-      let left = runLines leftWord (jobRuns j 1) in
-      let total = totalLine (covered (jobRuns j 0)) (covered (jobRuns j 1)) in
-      record {
-        run = w .run;
-        has = w .has;
-        level = h;
-        before = A;
-        after = B ++ (left ++ total);
-        text = rw (a, lines-split rightWord (jobRuns j 0) (w .before) (w .run) (w .after) (w .split)) (
-            ap (λ (l : List ℕ). l ++ total) (append-assoc A (line ++ B) left ∙ ap (λ (l : List ℕ). A ++ l) (append-assoc line B left))
-            ∙ append-assoc A (line ++ (B ++ left)) total
-            ∙ ap (λ (l : List ℕ). A ++ l) (append-assoc line (B ++ left) total ∙ ap (λ (l : List ℕ). line ++ l) (append-assoc B left total)));
-      }
-
-  left-printed : (w : ShownRun (jobRuns j 1) t) → v ≤ w .run .level → PrintedRun s leftWord v t
-  unfolding runsReport reportedBy
-  left-printed w h =
-      let A = runLines leftWord (w .before) in
-      let B = runLines leftWord (w .after) in
-      let line = runLine leftWord (w .run .start) (w .run .end) (w .run .level) in
-      let right = runLines rightWord (jobRuns j 0) in
-      let total = totalLine (covered (jobRuns j 0)) (covered (jobRuns j 1)) in
-      record {
-        run = w .run;
-        has = w .has;
-        level = h;
-        before = right ++ A;
-        after = B ++ total;
-        text = rw (a, lines-split leftWord (jobRuns j 1) (w .before) (w .run) (w .after) (w .split)) (
-            ap (λ (l : List ℕ). l ++ total) (sym (append-assoc right A (line ++ B)))
-            ∙ append-assoc (right ++ A) (line ++ B) total
-            ∙ ap (λ (l : List ℕ). (right ++ A) ++ l) (append-assoc line B total));
-      }
+  -- A run that runs show at t is printed, where their lines stand in the text.
+  line-printed : (word : List ℕ) (rs : List Stretch) (w : ShownRun rs t) → v ≤ w .run .level → (p q : List ℕ) → reported s ≡ p ++ (runLines word rs ++ q) → PrintedRun s word v t
+  line-printed word rs w h p q text = record {
+    run = w .run;
+    has = w .has;
+    level = h;
+    before = p ++ runLines word (w .before);
+    after = runLines word (w .after) ++ q;
+    text = text ∙ rw (lines-split word rs (w .before) (w .run) (w .after) (w .split)) (simp append-assoc);
+  }
 
   printed : (side : ℕ) → side ≤ 1 → (w : ShownRun (jobRuns j side) t) → v ≤ w .run .level → PrintedRun s (sideWord side) v t
-  printed zero l w h = right-printed w h
-  printed (suc zero) l w h = left-printed w h
+  unfolding runsReport reportedBy
+  printed zero l w h = line-printed rightWord (jobRuns j 0) w h [] (runLines leftWord (jobRuns j 1) ++ totalLine (covered (jobRuns j 0)) (covered (jobRuns j 1))) (rw a (append-assoc (runLines rightWord (jobRuns j 0)) _ _))
+  printed (suc zero) l w h = line-printed leftWord (jobRuns j 1) w h (runLines rightWord (jobRuns j 0)) (totalLine (covered (jobRuns j 0)) (covered (jobRuns j 1))) (rw a (append-assoc (runLines rightWord (jobRuns j 0)) _ _))
   printed (suc (suc n)) l w h = absurd (omega arith)
 
 -- For every accepted job: upstream of a hazard, a millimetre of the road whose end towards it is nearer than the approach length in whole panels lies in a printed run
@@ -97,7 +69,7 @@ pub printed-formula : (s : List ℕ) (j : Job) → acceptJob s ≡ accepted j �
     → (d t : ℕ) → Upstream traffic z d t → BelowApproach (j .header) z traffic d → OnRoad (j .header) t → PrintedRun s (sideWord (z .side)) (z .level) t
 printed-formula s j a z m traffic r d t u l road =
     let fits = accepted-fits s j a in
-    let own = fits .fits .hazards .each z m in
+    let own = hazard-bounds (j .header) z (fits .fits .hazards .each z m) in
     let shows = job-runs j (z .side) fits .shows t in
     let level = formula-level j fits z m traffic r d t u l road in
     let w = shown-run (jobRuns j (z .side)) t (omega (arith, own .level-low)) in
@@ -111,4 +83,4 @@ pub printed-length : (s : List ℕ) (j : Job) → acceptJob s ≡ accepted j →
 printed-length s j a z m traffic r d t u l road =
     let fits = accepted-fits s j a in
     let some = divisor-some _ _ _ _ _ _ (domain-of j fits z m traffic r) in
-    printed-formula s j a z m traffic r d t u (raised-length-below _ _ _ _ _ _ _ (fits .fits .header .panel-low) some d .0 l) road
+    printed-formula s j a z m traffic r d t u (raised-length-below _ _ _ _ _ _ _ (header-bounds (j .header) (fits .fits .header) .panel-low) some d .0 l) road

@@ -1,2 +1,11 @@
-pub mod Called
-pub mod Slots
+pub mod Borrow
+pub mod ByValue
+pub mod Chosen
+pub mod Data
+pub mod Emptied
+pub mod Replaced
+pub mod Shell
+pub mod States
+pub mod Steps
+pub mod Tests
+pub mod Walks

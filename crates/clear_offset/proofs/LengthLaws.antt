@@ -11,6 +11,7 @@ use Rattle.approach.proofs.OffsetLaws.{length-falls}
 use Rattle.job.specs.declared.Header.{Header}
 use Rattle.job.specs.declared.Hazard.{Hazard}
 use Rattle.job.specs.Job.{withOffset}
+use Rattle.job.proofs.RangeLaws.{header-bounds, hazard-bounds}
 use Rattle.planning.specs.Envelope.{Traffic, forward, opposite, adjacentTraffic, runout, lengthening}
 use Rattle.planning.proofs.ReachLaws.{reaches-adjacent, present-runout, runout-top}
 use Rattle.planning.proofs.AdjacentLaws.{is-adjacent, adjacent-reaches}
@@ -33,29 +34,30 @@ module _ (h : Header) (z : Hazard) (c : Clear h z) where
     pub offset-domain : Domain (h .along) (h .across) (h .straight) (runout h (adjacentTraffic h (z .side))) (min (z .far) (h .zone)) M
     offset-domain =
         let hf = c .header in
+        let bounds = header-bounds h hf in
         let t = adjacentTraffic h (z .side) in
         record {
-          along-low = hf .along-low;
-          along-top = hf .along-top;
-          across-top = hf .across-top;
-          straight-top = hf .straight-top;
-          runout-low = ltb-true 0 (runout h t) (sym (present-runout h hf t) ∙ is-adjacent h (z .side) (c .hazard .side) .there);
+          along-low = bounds .along-low;
+          along-top = bounds .along-top;
+          across-top = bounds .across-top;
+          straight-top = bounds .straight-top;
+          runout-low = ltb-true 0 (runout h t) (sym (present-runout h hf t) ∙ is-adjacent h (z .side) (hazard-bounds h z (c .hazard) .side) .there);
           runout-top = runout-top h hf t;
-          reach-top = omega (arith, hf .clear-top);
-          offset-below = omega (arith, hf .deflection-low, c .reach, c .hazard .offsets);
+          reach-top = omega (arith, bounds .clear-top);
+          offset-below = omega (arith, bounds .deflection-low, c .reach, hazard-bounds h z (c .hazard) .offsets);
         }
 
     pub length-is : lengthAt h z M ≡ raisedLength (h .panel) (h .along) (h .across) (h .straight) (runout h (adjacentTraffic h (z .side))) (min (z .far) (h .zone)) M
     unfolding lengthAt lengthening adjacentTraffic
     length-is =
         let t = adjacentTraffic h (z .side) in
-        let by = reaches-adjacent (withOffset h M) z t (is-adjacent (withOffset h M) (z .side) (c .hazard .side) .beside) in
-        rw (adjacent-reaches (withOffset h M) z (c .hazard .side) ∙ lt-ltb (z .near) (h .zone) (c .reach), by .1, by .2, runout-same h M t)
+        let by = reaches-adjacent (withOffset h M) z t (is-adjacent (withOffset h M) (z .side) (hazard-bounds h z (c .hazard) .side) .beside) in
+        rw (adjacent-reaches (withOffset h M) z (hazard-bounds h z (c .hazard) .side) ∙ lt-ltb (z .near) (h .zone) (c .reach), by .1, by .2, runout-same h M t)
 
   pub length-at-some : (M : ℕ) → M + h .deflection ≤ z .near → 1 ≤ lengthAt h z M
-  length-at-some M free = rw (length-is M free) (raised-length-some _ _ _ _ _ _ _ (c .header .panel-low) (offset-domain M free))
+  length-at-some M free = rw (length-is M free) (raised-length-some _ _ _ _ _ _ _ (header-bounds h (c .header) .panel-low) (offset-domain M free))
 
   -- A barrier farther out needs an approach that is no longer.
   pub length-at-falls : (M k : ℕ) → M ≤ k → k + h .deflection ≤ z .near → lengthAt h z k ≤ lengthAt h z M
   length-at-falls M k l free =
-      rw (length-is k free, length-is M (omega arith)) (length-falls _ _ _ _ _ _ M k (c .header .panel-low) (offset-domain k free) l)
+      rw (length-is k free, length-is M (omega arith)) (length-falls _ _ _ _ _ _ M k (header-bounds h (c .header) .panel-low) (offset-domain k free) l)

@@ -5,7 +5,7 @@ use Rattle.refusal.specs.Answer.{Answer, accepted, _>>=_}
 use Rattle.job.specs.declared.Header.{Header}
 use Rattle.job.specs.declared.Hazard.{Hazard}
 use Rattle.job.specs.Job.{Job}
-use Rattle.job.proofs.JobLaws.{HeaderFits, HazardFits}
+use Rattle.job.specs.Fits.{HeaderFits, HazardFits}
 use Rattle.planning.specs.Approached.{approachedHazard}
 use Rattle.clear_offset.specs.Offset.{Smallest, hazardOffset}
 

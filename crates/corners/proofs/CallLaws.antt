@@ -1,16 +1,14 @@
 -- The call behind the test of the sheet corner.
 -- Assumes nothing.
 use Prim.Native.Nat.{ℕ, _≤_, _<_}
-use native.Mathlib.Omega.{arith}
-use native.Mathlib.Decide.{decLe}
 use mathlib.Core.Path.{_≡_}
 use mathlib.Core.Logic.{_⊎_, inl, inr, ⊎-elim}
 use mathlib.Core.Bool.{true, false, _||_, and-false}
 use mathlib.Core.List.{List}
 use lib.Dec.{ltb, leb}
-use borrow.Author.Tests.{lt-ltb, ltb-true, lt-leb, le-leb}
+use borrow.Author.Tests.{ltb-true, lt-leb, le-leb, ltb-false}
 use Rattle.refusal.specs.Answer.{Answer, refused, _>>=_}
-use Rattle.refusal.proofs.TestLaws.{or-cases, or-left, or-right, not-both}
+use Rattle.refusal.proofs.TestLaws.{or-cases, or-false}
 use Rattle.planning.specs.Envelope.{acceptJob}
 use Rattle.corners.specs.declared.reply.Corners.{Corners}
 use Rattle.corners.specs.Corners.{Points, sheetTop, cornersOfBy, cornersOf}
@@ -27,15 +25,7 @@ module _ (x y : ℕ) where
   off-tested e = ⊎-elim (λ t. inl (ltb-true sheetTop x t)) (λ t. inr (ltb-true sheetTop y t)) (or-cases (ltb sheetTop x) (ltb sheetTop y) e)
 
   pub on-tested : (ltb sheetTop x || ltb sheetTop y) ≡ false → (x ≤ sheetTop) × (y ≤ sheetTop)
-  on-tested e = (left (decLe x sheetTop), above (decLe y sheetTop))
-    where
-      left : Dec (x ≤ sheetTop) → x ≤ sheetTop
-      left (yes l) = l
-      left (no l) = absurd (not-both (or-left _ (lt-ltb sheetTop x (omega arith))) e)
-
-      above : Dec (y ≤ sheetTop) → y ≤ sheetTop
-      above (yes l) = l
-      above (no l) = absurd (not-both (or-right (ltb sheetTop x) (lt-ltb sheetTop y (omega arith))) e)
+  on-tested e = let w = or-false (ltb sheetTop x) (ltb sheetTop y) e in (ltb-false sheetTop x (w .0), ltb-false sheetTop y (w .1))
 
   module _ (s : List ℕ) (i : ℕ) where
     pub off-sheet : (sheetTop < x) ⊎ (sheetTop < y) → cornersOf s i x y ≡ refused 8 0

@@ -17,7 +17,8 @@ use Rattle.approach.specs.Approach.{approachLength, Domain}
 use Rattle.approach.specs.Panel.{raisedLength}
 use Rattle.job.specs.declared.Header.{Header}
 use Rattle.job.specs.declared.Hazard.{Hazard}
-use Rattle.job.proofs.JobLaws.{HeaderFits, HazardFits}
+use Rattle.job.specs.Fits.{HeaderFits, HazardFits}
+use Rattle.job.proofs.RangeLaws.{header-bounds}
 use Rattle.planning.specs.Envelope.{Traffic, forward, opposite, adjacent, runout, reaches, lengthening}
 use Rattle.planning.proofs.ReachLaws.{reaches-adjacent, reaching-domain, reaching-length, reaching-raised, lengthening-top}
 use Rattle.corners.specs.declared.points.Lengths.{Lengths}
@@ -59,7 +60,7 @@ upstream-size opposite z d = omega arith
 
 module _ (h : Header) (hf : HeaderFits h) (l : Lengths) (few : l .raised < 210000) where
   pub across-top : h .across * (l .raised - h .straight) ≤ 10 * 210000
-  across-top = mul-le-mul (hf .across-top) (let e : l .raised - h .straight ≤ 210000 = omega arith in e)
+  across-top = mul-le-mul (header-bounds h hf .across-top) (let e : l .raised - h .straight ≤ 210000 = omega arith in e)
 
   pub away-top : (h .across * (l .raised - h .straight)) / h .along ≤ 10 * 210000
   away-top = omega (arith, across-top, div-le-self (h .across * (l .raised - h .straight)) (h .along))

@@ -7,7 +7,9 @@ use mathlib.Core.List.{List}
 use lib.Dec.{ltb, leb}
 use lib.IntN.{ℤ, pos, _+ℤ_, _-ℤ_}
 use Rattle.refusal.specs.Choice.{if_then_else_}
-use Rattle.refusal.specs.Answer.{Answer, accepted, _>>=_, unless-refuse}
+use Rattle.refusal.specs.Answer.{Answer, accepted, _>>=_}
+use Rattle.refusal.specs.Refusal.{unless-refuse}
+use Rattle.refusal.specs.declared.Refusal.the-variants as Row
 use Rattle.refusal.specs.Limits.{Limits, limits}
 use Rattle.approach.specs.Approach.{approachLength}
 use Rattle.job.specs.declared.Header.{Header}
@@ -76,7 +78,7 @@ onSheet = onSheetBy limits
 -- without 9"; "then 14". 8 and 14 return 0.
 unfoldable pub cornersOfBy : Limits → (s : List ℕ) (hazard x y : ℕ) → Answer Points
 cornersOfBy L s i x y =
-    unless-refuse (onSheetBy L x y) 8 0 >>= λ _.
+    unless-refuse (onSheetBy L x y) Row.Argument >>= λ _.
     acceptJobBy L s >>= λ j.
     approachedHazard j i >>= λ z.
     accepted (approachPoints x y (j .header) z (adjacentTraffic (j .header) (z .side)))

@@ -12,7 +12,7 @@ ghost use mathlib.Core.Bool.{true};
 ghost use Prim.Native.Nat.{_+_, _≤_};
 ghost use Rattle.refusal.specs.Answer.{accepted};
 ghost use Rattle.exact.specs.Whole.{Whole};
-ghost use Rattle.job.proofs.JobLaws.{HeaderFits, HazardFits};
+ghost use Rattle.job.specs.Fits.{HeaderFits, HazardFits};
 ghost use Rattle.planning.specs.Envelope.{adjacent, reaches};
 ghost use Rattle.planning.specs.Reply.{trafficOf};
 ghost use Rattle.corners.specs.Corners.{upstreamBy, pointAt, approachPoints};

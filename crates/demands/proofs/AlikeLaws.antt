@@ -5,14 +5,16 @@ use native.Mathlib.Nat.{le-antisymm}
 use mathlib.Core.Path.{_≡_, sym, ap, ap₂, _∙_}
 use mathlib.Core.List.{List, List·Memᴰ}
 use lib.Dec.{leb}
-use Rattle.refusal.specs.Answer.{_>>=_, unless-refuse}
+use Rattle.refusal.specs.Answer.{_>>=_}
+use Rattle.refusal.specs.Refusal.{unless-refuse}
+use Rattle.refusal.specs.declared.Refusal.the-variants as Row
 use Rattle.job.specs.declared.Header.{Header}
 use Rattle.job.specs.declared.Hazard.{Hazard}
 use Rattle.job.specs.Job.{Job}
 use Rattle.runs.specs.declared.Stretch.{Stretch}
 use Rattle.runs.specs.Level.{requiredLevel}
-use Rattle.runs.proofs.ChangeLaws.{level-same}
-use Rattle.runs.proofs.RequiredLaws.{runs-of-unique}
+use Rattle.runs.proofs.LevelLaws.{level-same}
+use Rattle.runs.proofs.RunsOfLaws.{runs-of-unique}
 use Rattle.planning.specs.declared.Overhangs.{Overhangs}
 use Rattle.planning.specs.Envelope.{farther, reaches, reachOf, offsetOf, lengthening, sideEnvelopes, overhang, sideOverhangs}
 use Rattle.planning.specs.Overhang.{SideHazard, Greatest}
@@ -24,13 +26,13 @@ use Rattle.schedule.specs.Schedule.{writeSchedule}
 use Rattle.schedule.specs.Plan.{fitted, planBy, plan}
 use Rattle.schedule.specs.Planned.{Accepted}
 use Rattle.demands.specs.Demands.{Alike}
-use Rattle.demands.proofs.DemandLaws.{alike-path, alike-reached, alike-cut}
+use Rattle.demands.proofs.DemandLaws.{alike-reached, alike-cut}
 
 alike-overhang : (h k : Header) → Alike h k → (z : Hazard) → overhang h z ≡ overhang k z
 unfolding overhang lengthening reaches reachOf offsetOf farther
-alike-overhang h k a z = ap (λ (x : Header). overhang x z) (alike-path h k a)
+alike-overhang h k a z = ap (λ (x : Header). overhang x z) a
 
-plan-accepted : (s : List ℕ) (j : Job) → Accepted s j → (side room : ℕ) → plan s side room ≡ (unless-refuse (leb side 1) 8 0 >>= λ _. fitted (writeSchedule (jobRuns j side)) (sideOverhangs j side) room)
+plan-accepted : (s : List ℕ) (j : Job) → Accepted s j → (side room : ℕ) → plan s side room ≡ (unless-refuse (leb side 1) Row.Argument >>= λ _. fitted (writeSchedule (jobRuns j side)) (sideOverhangs j side) room)
 unfolding planBy
 plan-accepted s j a side room = rw a
 
@@ -51,7 +53,7 @@ module _ (j₁ j₂ : Job) (alike₁ : Alike (j₁ .header) (j₂ .header)) (ali
   pub same-levels : (t : ℕ) → jobLevel j₁ side t ≡ jobLevel j₂ side t
   unfolding jobLevel
   same-levels t =
-      ap (λ (G : ℕ). requiredLevel (sideEnvelopes j₁ side) G t) (alike₁ .continuity)
+      ap (λ (G : ℕ). requiredLevel (sideEnvelopes j₁ side) G t) (ap (λ (x : Header). x .continuity) alike₁)
       ∙ level-same (sideEnvelopes j₁ side) (sideEnvelopes j₂ side) (j₂ .header .continuity) t (more-envelopes j₁ j₂ alike₁ side more₁) (more-envelopes j₂ j₁ alike₂ side more₂)
 
   same-overhangs : sideOverhangs j₁ side ≡ sideOverhangs j₂ side
@@ -70,5 +72,5 @@ module _ (j₁ j₂ : Job) (alike₁ : Alike (j₁ .header) (j₂ .header)) (ali
     pub same-plan : (room : ℕ) → plan s₁ side room ≡ plan s₂ side room
     same-plan room =
         plan-accepted s₁ j₁ a₁ side room
-        ∙ ap₂ (λ (rs : List Stretch) (o : Overhangs). unless-refuse (leb side 1) 8 0 >>= λ _. fitted (writeSchedule rs) o room) same-runs same-overhangs
+        ∙ ap₂ (λ (rs : List Stretch) (o : Overhangs). unless-refuse (leb side 1) Row.Argument >>= λ _. fitted (writeSchedule rs) o room) same-runs same-overhangs
         ∙ sym (plan-accepted s₂ j₂ a₂ side room)

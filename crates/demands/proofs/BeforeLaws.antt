@@ -6,7 +6,9 @@ use mathlib.Core.Logic.{inl, inr}
 use mathlib.Core.Bool.{Bool, true, false}
 use mathlib.Core.List.{List}
 use lib.Dec.{leb}
-use Rattle.refusal.specs.Answer.{Answer, accepted, refused, _>>=_, unless-refuse}
+use Rattle.refusal.specs.Answer.{Answer, accepted, refused, _>>=_}
+use Rattle.refusal.specs.Refusal.{unless-refuse}
+use Rattle.refusal.specs.declared.Refusal.the-variants as Row
 use Rattle.refusal.proofs.AnswerLaws.{bound}
 use Rattle.job.specs.Job.{Job, readJob}
 use Rattle.planning.specs.declared.Overhangs.{Overhangs}
@@ -54,7 +56,7 @@ plan-before-8 s side room = sided (leb side 1)
     read (accepted j) = tested j (tests-before (j .header) 0 (j .hazards))
     read (refused k v) = inl refl
 
-    sided : (t : Bool) → AsBefore (unless-refuse t 8 0 >>= λ _. acceptBefore lengthening (readJob s) >>= λ i. plannedThen side room lengthening i) (unless-refuse t 8 0 >>= λ _. acceptJob s >>= λ i. plannedNow side room i)
+    sided : (t : Bool) → AsBefore (unless-refuse t Row.Argument >>= λ _. acceptBefore lengthening (readJob s) >>= λ i. plannedThen side room lengthening i) (unless-refuse t Row.Argument >>= λ _. acceptJob s >>= λ i. plannedNow side room i)
     sided true = read (readJob s)
     sided false = inl refl
 
@@ -74,6 +76,6 @@ plan-before-4 s plain side room = subst (λ (a : Answer PlannedSide). AsBefore a
     go (accepted j) e = rw (envelopes-alike (j .header) (one j e) side (j .hazards))
     go (refused k v) e = refl
 
-    same : (t : Bool) → (unless-refuse t 8 0 >>= λ _. acceptBefore lengthening (readJob s) >>= λ j. plannedThen side room lengthening j) ≡ (unless-refuse t 8 0 >>= λ _. acceptBefore lengtheningBefore (readJobBefore s) >>= λ j. plannedThen side room lengtheningBefore j)
+    same : (t : Bool) → (unless-refuse t Row.Argument >>= λ _. acceptBefore lengthening (readJob s) >>= λ j. plannedThen side room lengthening j) ≡ (unless-refuse t Row.Argument >>= λ _. acceptBefore lengtheningBefore (readJobBefore s) >>= λ j. plannedThen side room lengtheningBefore j)
     same true = go (acceptBefore lengthening (readJob s)) refl ∙ ap (λ (a : Answer Job). a >>= λ j. plannedThen side room lengtheningBefore j) (accept-alike s plain)
     same false = refl

@@ -3,17 +3,16 @@
 use Prim.Native.Nat.{ℕ, _+_, _-_, _*_, _/_, _≤_, _<_}
 use native.Mathlib.Omega.{arith}
 use native.Mathlib.Nat.{lt-div-mul-add, div-mul-le-self}
-use native.Mathlib.Decide.{decLe, decLt}
-use mathlib.Core.Path.{_≡_, refl, sym, ap, ap₂, _∙_}
-use mathlib.Core.Logic.{_⊎_, inl, inr, ⊎-elim, _≢_}
-use mathlib.Core.Bool.{Bool, true, false}
+use native.Mathlib.Decide.{decLe}
+use mathlib.Core.Path.{_≡_, refl, sym, subst, ap, _∙_}
+use mathlib.Core.Logic.{_⊎_, inl, inr}
+use mathlib.Core.Bool.{true}
 use mathlib.Core.List.{List, map}
-use lib.ListN.{length}
 use lib.IntN.{ℤ, pos, negℤ, _+ℤ_, _-ℤ_, +ℤ-assoc, +ℤ-comm, +ℤ-idr, -ℤ-+ℤ-cancel, +ℤ-negℤ-cancel}
 use borrow.Author.Tests.{ltb-true}
 use Rattle.refusal.specs.Choice.{someOf, keep}
-use Rattle.refusal.specs.Answer.{Answer, accepted, refused, _>>=_}
-use Rattle.refusal.proofs.TestLaws.{not-both}
+use Rattle.refusal.specs.Answer.{refused}
+use Rattle.refusal.proofs.TestLaws.{impossible}
 use Rattle.number.specs.Number.{writeIn, writeNumberBy, scan, readNumberBy, numberAtBy}
 use Rattle.approach.specs.Approach.{ceilDiv, formulaLength, approachLength}
 use Rattle.approach.specs.Panel.{raised, raisedLength}
@@ -21,107 +20,67 @@ use Rattle.job.specs.declared.Header.{Header}
 use Rattle.job.specs.declared.Hazard.{Hazard}
 use Rattle.job.specs.Job.{Job, sharedRangesBy, headerRangesBy, hazardRanges, readFieldsBy, readHeaderBy, readHazardsBy, readRestBy, readJobBy}
 use Rattle.job.specs.Writing.{writeNumbers}
+use Rattle.job.proofs.RangeLaws.{header-bounds}
 use Rattle.planning.proofs.EnvelopeLaws.{accepted-fits}
-use Rattle.planning.proofs.ApproachedLaws.{no-such, not-reached, approached, reach-test, approached-fits}
-use Rattle.planning.specs.Envelope.{Traffic, forward, opposite, adjacentTraffic, farther, reachOf, offsetOf, reaches, reached, lengthening, envelope, standsNear, testHazard, testHazards, acceptJobBy, acceptJob}
-use Rattle.schedule.specs.Plan.{plan}
+use Rattle.planning.proofs.ApproachedLaws.{reach-test, approached-fits}
+use Rattle.planning.specs.Envelope.{Traffic, forward, opposite, adjacentTraffic, farther, reachOf, offsetOf, reaches, reached, lengthening, envelope, standsNear, testHazard, testHazards, acceptJobBy}
 use Rattle.corners.specs.Corners.{upstreamBy, pointAt, lengthBefore, flareEntered, upstreamOffset, Points, approachPoints, sheetTop, cornersOfBy, cornersOf}
-use Rattle.planning.specs.Approached.{hazardAt, adjacentReaches, approachedHazard}
+use Rattle.planning.specs.Approached.{hazardAt, approachedHazard}
 use Rattle.corners.specs.Steps.{jobCorners}
 use Rattle.corners.proofs.PointLaws.{raised-past-straight}
 use Rattle.corners.proofs.CallLaws.{off-sheet, on-sheet}
 use Rattle.demands.specs.Cases.{header, hazard}
-use Rattle.demands.specs.Corners.{Corners-eight, NoApproach, Corners-fourteen, Corners-refusals, Apart, EnvelopeEnd, hazardEnd, RoundedDown, CornersLie, Corners-lie, cornerCases, drawnCorners, expectedCorners}
-use Rattle.demands.proofs.RefusalLaws.{OneToSeven, accept-refusals, PlanVerdict, bad-side, bad-job, no-room, written, plan-verdict, plan-job}
+use Rattle.demands.specs.Corners.{Corners-eight, NoApproach, Corners-fourteen, Corners-refusals, Apart, EnvelopeEnd, hazardEnd, RoundedDown, CornersLie, Corners-lie}
+use Rattle.demands.specs.CornerCases.{cornerCases, drawnCorners, expectedCorners}
+use Rattle.demands.specs.Offset.{Approached}
+use Rattle.demands.proofs.HazardLaws.{told, told-given, told-fourteen, told-refusals, told-not-eight}
 
 -- Refusals
 
+-- What is told of the hazard.
+abbrev drawn : (x y : ℕ) → Job → Hazard → Points
+drawn x y j z = approachPoints x y (j .header) z (adjacentTraffic (j .header) (z .side))
+
 module _ (s : List ℕ) (i x y : ℕ) where
-  abbrev drawnAs : Job → Points
-  drawnAs j = approachPoints x y (j .header) (hazardAt j i) (adjacentTraffic (j .header) (hazardAt j i .side))
+  told-on-sheet : x ≤ sheetTop → y ≤ sheetTop → cornersOf s i x y ≡ told (drawn x y) s i
+  unfolding jobCorners
+  told-on-sheet k l = on-sheet x y s i k l
 
-  -- Whether adjacent traffic reaches the hazard asked for.
-  abbrev reachedBy : Job → Bool
-  reachedBy j = adjacentReaches (j .header) (hazardAt j i)
+  -- The sheet corner lies in its range, or the call is refused by it.
+  data Sheet : Type 0 where
+    within : x ≤ sheetTop → y ≤ sheetTop → Sheet
+    outside : (sheetTop < x) ⊎ (sheetTop < y) → cornersOf s i x y ≡ refused 8 0 → Sheet
 
-  -- What the call answers, and why.
-  data CornersVerdict : Type 0 where
-    off-the-sheet : (sheetTop < x) ⊎ (sheetTop < y) → cornersOf s i x y ≡ refused 8 0 → CornersVerdict
-    unaccepted : x ≤ sheetTop → y ≤ sheetTop → (k v : ℕ) → acceptJob s ≡ refused k v → k ≤ 7 → cornersOf s i x y ≡ refused k v → CornersVerdict
-    unapproached : x ≤ sheetTop → y ≤ sheetTop → NoApproach s i → cornersOf s i x y ≡ refused 14 0 → CornersVerdict
-    drawn : x ≤ sheetTop → y ≤ sheetTop → (j : Job) → acceptJob s ≡ accepted j → i < length (j .hazards) → reachedBy j ≡ true → cornersOf s i x y ≡ accepted (drawnAs j) → CornersVerdict
-
-  module _ (across : x ≤ sheetTop) (along : y ≤ sheetTop) where
-    by-job : {a : Answer Job} → acceptJob s ≡ a → cornersOf s i x y ≡ (a >>= λ j. jobCorners x y j i)
-    by-job e = on-sheet x y s i across along ∙ rw e
-
-    of-job : (j : Job) → acceptJob s ≡ accepted j → CornersVerdict
-    unfolding jobCorners
-    of-job j e = place (decLt i (length (j .hazards)))
-      where
-        reach : (t : Bool) → reachedBy j ≡ t → i < length (j .hazards) → CornersVerdict
-        reach true q l = drawn across along j e l q (by-job e ∙ rw (approached j i l q))
-        reach false q l = unapproached across along (record { job = j; taken = e; why = inr q }) (by-job e ∙ rw (not-reached j i q))
-
-        place : Dec (i < length (j .hazards)) → CornersVerdict
-        place (yes l) = reach _ refl l
-        place (no l) = unapproached across along (record { job = j; taken = e; why = inl (omega arith) }) (by-job e ∙ rw (no-such j i (omega arith)))
-
-    of-answer : (a : Answer Job) → acceptJob s ≡ a → OneToSeven a → CornersVerdict
-    of-answer (accepted j) e o = of-job j e
-    of-answer (refused k v) e o = unaccepted across along k v e (o .1) (by-job e)
-
-  corners-verdict : CornersVerdict
-  corners-verdict = go (decLe x sheetTop) (decLe y sheetTop)
+  sheet : Sheet
+  sheet = go (decLe x sheetTop) (decLe y sheetTop)
     where
-      go : Dec (x ≤ sheetTop) → Dec (y ≤ sheetTop) → CornersVerdict
-      go (yes k) (yes l) = of-answer k l (acceptJob s) refl (accept-refusals s)
-      go (no k) l = let q : (sheetTop < x) ⊎ (sheetTop < y) = inl (omega arith) in off-the-sheet q (off-sheet x y s i q)
-      go (yes k) (no l) = let q : (sheetTop < x) ⊎ (sheetTop < y) = inr (omega arith) in off-the-sheet q (off-sheet x y s i q)
+      off : (sheetTop < x) ⊎ (sheetTop < y) → Sheet
+      off q = outside q (off-sheet x y s i q)
+
+      go : Dec (x ≤ sheetTop) → Dec (y ≤ sheetTop) → Sheet
+      go (yes k) (yes l) = within k l
+      go (no k) l = off (inl (omega arith))
+      go (yes k) (no l) = off (inr (omega arith))
 
 pub corners-eight : Corners-eight
-corners-eight s i x y v = (λ e. go e (corners-verdict s i x y), λ w. off-sheet x y s i (w .1) ∙ ap (refused 8) (sym (w .0)))
+corners-eight s i x y v = (λ e. go e (sheet s i x y), λ w. off-sheet x y s i (w .1) ∙ ap (refused 8) (sym (w .0)))
   where
-    go : cornersOf s i x y ≡ refused 8 v → CornersVerdict s i x y → (v ≡ 0) × ((sheetTop < x) ⊎ (sheetTop < y))
-    go e (off-the-sheet q p) = ((cc), q)
-    go e (unaccepted k l n w a few p) = absurd (let z : n ≡ 8 = cc in omega arith)
-    go e (unapproached k l w p) = absurd (let z : _≡_ {A = ℕ} 14 8 = cc in omega arith)
-    go e (drawn k l j a m r p) = absurd (let z : _≡_ {A = ℕ} 0 1 = cc in omega arith)
+    go : cornersOf s i x y ≡ refused 8 v → Sheet s i x y → (v ≡ 0) × ((sheetTop < x) ⊎ (sheetTop < y))
+    go e (within k l) = absurd (told-not-eight (drawn x y) s i v (sym (told-on-sheet s i x y k l) ∙ e))
+    go e (outside q p) = ((cc), q)
 
 pub corners-fourteen : Corners-fourteen
-corners-fourteen s i x y v = (λ e. to e (corners-verdict s i x y), λ w. from (w .1) (w .2) (w .3) (corners-verdict s i x y) ∙ ap (refused 14) (sym (w .0)))
+corners-fourteen s i x y v = (λ e. go e (sheet s i x y), λ w. told-on-sheet s i x y (w .1) (w .2) ∙ told-fourteen (drawn x y) s i v .1 (w .0, w .3))
   where
-    to : cornersOf s i x y ≡ refused 14 v → CornersVerdict s i x y → (v ≡ 0) × (x ≤ sheetTop) × (y ≤ sheetTop) × NoApproach s i
-    to e (off-the-sheet q p) = absurd (let z : _≡_ {A = ℕ} 8 14 = cc in omega arith)
-    to e (unaccepted k l n w a few p) = absurd (let z : n ≡ 14 = cc in omega arith)
-    to e (unapproached k l w p) = ((cc), k, l, w)
-    to e (drawn k l j a m r p) = absurd (let z : _≡_ {A = ℕ} 0 1 = cc in omega arith)
-
-    neither : (j : Job) → i < length (j .hazards) → reachedBy s i x y j ≡ true → (length (j .hazards) ≤ i) ⊎ (reachedBy s i x y j ≡ false) → ⊥
-    neither j m r (inl l) = omega arith
-    neither j m r (inr q) = not-both r q
-
-    from : x ≤ sheetTop → y ≤ sheetTop → NoApproach s i → CornersVerdict s i x y → cornersOf s i x y ≡ refused 14 0
-    from k l w (off-the-sheet q p) = absurd (⊎-elim (λ (o : sheetTop < x). omega arith) (λ (o : sheetTop < y). omega arith) q)
-    from k l w (unaccepted across along n u a few p) = absurd (let a2 = w .taken in let z : _≡_ {A = ℕ} 0 1 = cc in omega arith)
-    from k l w (unapproached across along u p) = p
-    from k l w (drawn across along j a m r p) =
-        absurd (let a2 = w .taken in let same : w .job ≡ j = cc in neither j m r (rw same at (w .why)))
+    go : cornersOf s i x y ≡ refused 14 v → Sheet s i x y → (v ≡ 0) × (x ≤ sheetTop) × (y ≤ sheetTop) × NoApproach s i
+    go e (within k l) = let w = told-fourteen (drawn x y) s i v .0 (sym (told-on-sheet s i x y k l) ∙ e) in (w .0, k, l, w .1)
+    go e (outside q p) = absurd (let z : _≡_ {A = ℕ} 8 14 = cc in omega arith)
 
 pub corners-refusals : Corners-refusals
-corners-refusals s i x y side room k v across along h = (λ e. to (e .0) (e .1) (corners-verdict s i x y), λ e. from (e .0) (e .1) (plan-verdict s side room))
-  where
-    to : cornersOf s i x y ≡ refused k v → k ≢ 14 → CornersVerdict s i x y → (plan s side room ≡ refused k v) × (k ≢ 9)
-    to e n (off-the-sheet q p) = absurd (⊎-elim (λ (o : sheetTop < x). omega arith) (λ (o : sheetTop < y). omega arith) q)
-    to e n (unaccepted b l m w a few p) = let number : m ≡ k = cc in let value : w ≡ v = cc in (plan-job s side room k v (omega arith) .1 (h, a ∙ ap₂ refused number value), λ q. omega arith)
-    to e n (unapproached b l w p) = absurd (n (let number : 14 ≡ k = cc in sym number))
-    to e n (drawn b l j a m r p) = absurd (let z : _≡_ {A = ℕ} 0 1 = cc in omega arith)
-
-    from : plan s side room ≡ refused k v → k ≢ 9 → PlanVerdict s side room → (cornersOf s i x y ≡ refused k v) × (k ≢ 14)
-    from e n (bad-side b p) = absurd (omega arith)
-    from e n (bad-job b m w a l u o p) = let number : m ≡ k = cc in let value : w ≡ v = cc in (by-job s i x y across along a ∙ ap₂ refused number value, λ q. omega arith)
-    from e n (no-room b j a l p) = absurd (n (let number : 9 ≡ k = cc in sym number))
-    from e n (written b j a l p) = absurd (let z : _≡_ {A = ℕ} 0 1 = cc in omega arith)
+corners-refusals s i x y side room k v across along h =
+    let same = told-on-sheet s i x y across along in
+    let both = told-refusals (drawn x y) s i side room k v h in
+    (λ e. both .0 (sym same ∙ e .0, e .1), λ e. let w = both .1 e in (same ∙ w .0, w .1))
 
 -- Where the corners lie
 
@@ -167,22 +126,30 @@ points-lie x y h z t some past = record {
   straight = λ e. rw e (refl, refl);
 }
 
+approached-lie : (s : List ℕ) (j : Job) (i x y : ℕ) → Approached s j i
+    → CornersLie x y (j .header) (hazardAt j i) (adjacentTraffic (j .header) (hazardAt j i .side)) (drawn x y j (hazardAt j i))
+approached-lie s j i x y a =
+    let fits = accepted-fits s j (a .job) in
+    let own = approached-fits j fits i (a .there) (ltb-true _ _ (sym (reach-test j fits i (a .there)) ∙ a .reach)) in
+    points-lie x y (j .header) (hazardAt j i) (adjacentTraffic (j .header) (hazardAt j i .side)) (omega (arith, header-bounds (j .header) (own .header) .along-low))
+    (raised-past-straight (j .header) (hazardAt j i) (adjacentTraffic (j .header) (hazardAt j i .side)) (own .header) (own .hazard) (own .clear) (a .reach))
+
 pub corners-lie : Corners-lie
-corners-lie s j i x y p accept e = go (corners-verdict s i x y)
+corners-lie s j i x y p accept e = go (sheet s i x y)
   where
-    go : CornersVerdict s i x y → CornersLie x y (j .header) (hazardAt j i) (adjacentTraffic (j .header) (hazardAt j i .side)) p
-    go (off-the-sheet q w) = absurd (let z : _≡_ {A = ℕ} 0 1 = cc in omega arith)
-    go (unaccepted b l m u a few w) = absurd (let z : _≡_ {A = ℕ} 0 1 = cc in omega arith)
-    go (unapproached b l u w) = absurd (let z : _≡_ {A = ℕ} 0 1 = cc in omega arith)
-    go (drawn b l k a m r w) =
-        let same : k ≡ j = cc in
-        let points : p ≡ drawnAs s i x y j = let q : p ≡ drawnAs s i x y k = cc in rw same at q in
-        let fits = accepted-fits s j accept in
-        let here : i < length (j .hazards) = rw same at m in
-        let reach : adjacentReaches (j .header) (hazardAt j i) ≡ true = rw same at r in
-        let own = approached-fits j fits i here (ltb-true _ _ (sym (reach-test j fits i here) ∙ reach)) in
-        rw points (points-lie x y (j .header) (hazardAt j i) (adjacentTraffic (j .header) (hazardAt j i .side)) (omega (arith, own .header .along-low))
-        (raised-past-straight (j .header) (hazardAt j i) (adjacentTraffic (j .header) (hazardAt j i .side)) (own .header) (own .hazard) (own .clear) reach))
+    Lie : Type 0
+    Lie = CornersLie x y (j .header) (hazardAt j i) (adjacentTraffic (j .header) (hazardAt j i .side)) p
+
+    own : (k : Job) → Approached s k i → drawn x y k (hazardAt k i) ≡ p → k ≡ j → Lie
+    own k a q same = subst (CornersLie x y (j .header) (hazardAt j i) (adjacentTraffic (j .header) (hazardAt j i .side))) (rw same at q) (approached-lie s j i x y (rw same at a))
+
+    go : Sheet s i x y → Lie
+    go (outside q w) = impossible cc
+    go (within k l) =
+        let w = told-given (drawn x y) s i p (sym (told-on-sheet s i x y k l) ∙ e) in
+        let taken = w .1 .job in
+        let same : w .0 ≡ j = cc in
+        own (w .0) (w .1) (w .2) same
 
 -- Worked jobs, one theorem over the list.
 pub corner-cases-hold : map drawnCorners cornerCases ≡ map expectedCorners cornerCases

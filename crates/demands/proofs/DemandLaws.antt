@@ -9,10 +9,12 @@ use lib.ListN.{length, take, drop}
 use lib.Seq.{take-append-seam, drop-append-seam}
 use lib.Dec.{leb, eqb}
 use borrow.Author.Tests.{le-leb, leb-true}
-use Rattle.refusal.specs.Answer.{Answer, accepted, refused, _>>=_, unless-refuse}
+use Rattle.refusal.specs.Answer.{Answer, accepted, refused, _>>=_}
+use Rattle.refusal.specs.Refusal.{unless-refuse}
+use Rattle.refusal.specs.declared.Refusal.the-variants as Row
 use Rattle.job.specs.declared.Header.{Header}
 use Rattle.job.specs.declared.Hazard.{Hazard}
-use Rattle.job.specs.Job.{Job}
+use Rattle.job.specs.Job.{Job, counted}
 use Rattle.runs.specs.declared.Stretch.{Stretch}
 use Rattle.planning.specs.Envelope.{farther, reachOf, offsetOf, reaches, lengthening, acceptJob, reached, envelope, cutToRoad, cutEnvelope, sideEnvelopes, sideOverhangs}
 use Rattle.runs.specs.Level.{Covers, NoShortGap, Has, requiredLevel}
@@ -26,16 +28,18 @@ use Rattle.planning.specs.Required.{jobLevel, jobRuns}
 use Rattle.queries.specs.Lookup.{Found, found, nowhere, asked}
 use Rattle.schedule.specs.Plan.{PlannedSide, fitted, planBy, plan, outputAfter}
 use Rattle.queries.specs.Quantity.{millimetres, quantityBy, quantity}
-use Rattle.runs.proofs.GapLaws.{required-covers, required-no-short-gap, required-least, required-is-highest, required-more}
-use Rattle.runs.proofs.RequiredLaws.{runs-of-unique, member→run, run→member}
+use Rattle.runs.proofs.LevelLaws.{required-more}
+use Rattle.runs.proofs.GapLaws.{required-is-highest}
+use Rattle.runs.proofs.LeastLaws.{required-covers, required-no-short-gap, required-least}
+use Rattle.runs.proofs.RunsOfLaws.{runs-of-unique, member→run, run→member}
 use Rattle.refusal.proofs.AnswerLaws.{bound, tested}
 use Rattle.schedule.specs.Planned.{Accepted, scheduleAlone, Planned, scheduleLevel}
 use Rattle.schedule.proofs.PlannedLaws.{planned-writing, planned-only, job-read, job-shown}
 use Rattle.planning.proofs.JobRunLaws.{job-runs, job-run-list}
 use Rattle.planning.proofs.EnvelopeLaws.{AcceptedFits, accepted-fits, cut-has, FromCut, from-cut, to-cut, side-lies, side-proper, side-levelled}
 use Rattle.planning.proofs.RoadLaws.{level-off-road}
-use Rattle.open_memory.specs.Memory.{counted}
 use Rattle.demands.specs.Demands.{CoversHazards, NoShortGapOnRoad, LeastCovering, Demand2, Demand1, ShowsLevel, Demand2-lookup, Demand3-writing, Demand3-planned, Demand3-equal, Demand3-off-road, Alike, Demand3-growth, RisingStations, lastOf, lotsTotal, Demand3-quantities}
+use Rattle.refusal.proofs.TestLaws.{impossible}
 
 pub demand3-planned : Demand3-planned
 demand3-planned s j side a h = planned-writing s j side a h
@@ -122,48 +126,13 @@ pub demand3-off-road : Demand3-off-road
 demand3-off-road s j side a t off = level-off-road j side (accepted-fits s j a) t off
 
 -- Headers that are alike give a hazard the same envelope.
-pub alike-path : (h k : Header) → Alike h k → record {
-  kind = h .kind;
-  begin = h .begin;
-  end = h .end;
-  forward = h .forward;
-  opposite = h .opposite;
-  zone = h .zone;
-  way = h .way;
-  offset = h .offset;
-  deflection = h .deflection;
-  along = h .along;
-  across = h .across;
-  straight = h .straight;
-  continuity = h .continuity;
-  panel = h .panel;
-  count = k .count;
-} ≡ k
-alike-path h k a = λ i. record {
-  kind = a .kind i;
-  begin = a .begin i;
-  end = a .end i;
-  forward = a .forward i;
-  opposite = a .opposite i;
-  zone = a .zone i;
-  way = a .way i;
-  offset = a .offset i;
-  deflection = a .deflection i;
-  along = a .along i;
-  across = a .across i;
-  straight = a .straight i;
-  continuity = a .continuity i;
-  panel = a .panel i;
-  count = k .count;
-}
-
 pub alike-reached : (h k : Header) → Alike h k → (z : Hazard) → reached h z ≡ reached k z
 unfolding reached reaches farther
-alike-reached h k a z = ap (λ (x : Header). reached x z) (alike-path h k a)
+alike-reached h k a z = ap (λ (x : Header). reached x z) a
 
 alike-envelope : (h k : Header) → Alike h k → (z : Hazard) → cutEnvelope h z ≡ cutEnvelope k z
 unfolding cutEnvelope cutToRoad envelope lengthening reaches reachOf offsetOf farther
-alike-envelope h k a z = ap (λ (x : Header). cutEnvelope x z) (alike-path h k a)
+alike-envelope h k a z = ap (λ (x : Header). cutEnvelope x z) a
 
 -- So an envelope of the first job is one of the second, where that has the hazard too.
 pub alike-cut : (j₁ j₂ : Job) → Alike (j₁ .header) (j₂ .header) → (side : ℕ) (e : Stretch) (w : FromCut j₁ side e) → List·Memᴰ (w .hazard) (j₂ .hazards) → List·Memᴰ e (sideEnvelopes j₂ side)
@@ -174,11 +143,11 @@ alike-cut j₁ j₂ alike side e w m =
 
 -- Headers that differ in the hazard count alone.
 pub counted-alike : (h : Header) (a b : ℕ) → Alike (counted h a) (counted h b)
-counted-alike h a b = record { kind = refl; begin = refl; end = refl; forward = refl; opposite = refl; zone = refl; way = refl; offset = refl; deflection = refl; along = refl; across = refl; straight = refl; continuity = refl; panel = refl }
+counted-alike h a b = refl
 
 pub demand3-growth : Demand3-growth
 unfolding jobLevel
-demand3-growth s₁ s₂ j₁ j₂ side w₁ w₂ a₁ a₂ h p₁ p₂ alike more t = rw (shown₁, shown₂) (subst (λ (G : ℕ). requiredLevel (sideEnvelopes j₁ side) G t ≤ requiredLevel (sideEnvelopes j₂ side) (j₂ .header .continuity) t) (sym (alike .continuity)) grows)
+demand3-growth s₁ s₂ j₁ j₂ side w₁ w₂ a₁ a₂ h p₁ p₂ alike more t = rw (shown₁, shown₂) (subst (λ (G : ℕ). requiredLevel (sideEnvelopes j₁ side) G t ≤ requiredLevel (sideEnvelopes j₂ side) (j₂ .header .continuity) t) (sym (ap (λ (x : Header). x .continuity) alike)) grows)
   where
     shown₁ : scheduleLevel w₁ t ≡ jobLevel j₁ side t
     shown₁ = demand2 s₁ j₁ side w₁ a₁ h p₁ .level t
@@ -232,7 +201,7 @@ demand1 s side out = record { planned = written (plan s side (length out)); refu
   where
     written : (a : Answer PlannedSide) (w : List ℕ) → (a >>= λ p. accepted (p .schedule)) ≡ accepted w → (take (length w) (outputAfter a out) ≡ w) × (drop (length w) (outputAfter a out) ≡ drop (length w) out)
     written (accepted p) w e = let same : p .schedule ≡ w = cc in rw same (take-append-seam w (drop (length w) out), drop-append-seam w (drop (length w) out))
-    written (refused k v) w e = absurd (let z : _≡_ {A = ℕ} 0 1 = cc in omega arith)
+    written (refused k v) w e = impossible cc
 
 pub demand2-lookup : Demand2-lookup
 demand2-lookup s j side right left a h p t =
@@ -262,10 +231,10 @@ pub record PlannedJob (s : List ℕ) (side : ℕ) (w : List ℕ) : Type 0 where
 pub plan-accepted : (s : List ℕ) (side room : ℕ) (p : PlannedSide) → plan s side room ≡ accepted p → PlannedJob s side (p .schedule)
 unfolding planBy fitted
 plan-accepted s side room p e =
-    let b1 = bound (unless-refuse (leb side 1) 8 0) _ p e in
+    let b1 = bound (unless-refuse (leb side 1) Row.Argument) _ p e in
     let b2 = bound (acceptJob s) _ p (b1 .rest) in
-    let b3 = bound (unless-refuse (leb (length (writeSchedule (jobRuns (b2 .first) side))) room) 9 (length (writeSchedule (jobRuns (b2 .first) side)))) _ p (b2 .rest) in
-    finish (b2 .first) (b2 .taken) (leb-true side 1 (tested (leb side 1) 8 0 (b1 .first) (b1 .taken))) (b3 .rest)
+    let b3 = bound (unless-refuse (leb (length (writeSchedule (jobRuns (b2 .first) side))) room) (Row.Room (length (writeSchedule (jobRuns (b2 .first) side))))) _ p (b2 .rest) in
+    finish (b2 .first) (b2 .taken) (leb-true side 1 (tested (leb side 1) Row.Argument (b1 .first) (b1 .taken))) (b3 .rest)
   where
     finish : (j : Job) → Accepted s j → side ≤ 1 → accepted (record { schedule = writeSchedule (jobRuns j side); overhangs = sideOverhangs j side }) ≡ accepted p → PlannedJob s side (p .schedule)
     finish j a h q =

@@ -1,15 +1,15 @@
 -- Request 5: the level at a station is the one that lookup shows in the planned schedule, and is refused exactly as plan is without 9.
 -- Assumes nothing.
-use Prim.Native.Nat.{ℕ, _+_, _-_, _≤_, _<_}
+use Prim.Native.Nat.{ℕ, _+_, _-_, _≤_}
 use native.Mathlib.Omega.{arith}
 use native.Mathlib.Decide.{decLe}
 use mathlib.Core.Path.{_≡_, refl, sym, ap, ap₂, _∙_}
-use mathlib.Core.Logic.{_≢_}
+use mathlib.Core.Logic.{_≢_, _↔_}
 use mathlib.Core.List.{List, [], _++_, append-nil}
 use lib.ListN.{length, drop}
-use Rattle.refusal.specs.Answer.{Answer, accepted, refused}
+use Rattle.refusal.specs.Answer.{Answer, accepted, refused, _>>=_}
 use Rattle.number.specs.Number.{writeNumber}
-use Rattle.number.proofs.NumberLaws.{read-number, after-number}
+use Rattle.number.proofs.ReadLaws.{read-number, after-number}
 use Rattle.job.specs.Job.{Job}
 use Rattle.runs.specs.declared.Stretch.{Stretch}
 use Rattle.runs.specs.RunList.{lastEnd}
@@ -29,7 +29,8 @@ use Rattle.queries.specs.Lookup.{Found, found, nowhere, asked}
 use Rattle.demands.specs.Demands.{ShowsLevel}
 use Rattle.demands.specs.Level.{recordLevel, levelFound, lookupLevel, Level-lookup, Level-refusals, Level-off-road}
 use Rattle.demands.proofs.DemandLaws.{demand2-lookup}
-use Rattle.demands.proofs.RefusalLaws.{OneToSeven, accept-refusals, PlanVerdict, bad-side, bad-job, no-room, written, plan-verdict, plan-job}
+use Rattle.demands.proofs.RefusalLaws.{plan-refuses}
+use Rattle.refusal.proofs.TestLaws.{impossible}
 
 -- The level in a run's record is the run's.
 record-level : (e v : ℕ) (r : Stretch) → Next e v r → recordLevel (writeRecord e r) ≡ accepted (r .level)
@@ -87,33 +88,24 @@ level-lookup s j side right left a h p t =
     go nowhere none = ap accepted (sym none)
 
 pub level-refusals : Level-refusals
-level-refusals s side t room k v = (λ e. to e (decLe side 1), λ w. from (w .0) (w .1) (plan-verdict s side room))
+level-refusals s side t room k v = go (decLe side 1)
   where
-    bad : 1 < side → levelAt s side t ≡ refused k v → (plan s side room ≡ refused k v) × (k ≢ 9)
-    bad h e =
-        let same : _≡_ {A = Answer ℕ} (refused 8 0) (refused k v) = sym (level-bad-side s side t h) ∙ e in
-        let number : 8 ≡ k = cc in
-        let value : 0 ≡ v = cc in
-        (plan-bad-side s side room h ∙ ap₂ refused number value, λ q. omega arith)
+    alike : (a : Answer Job) → ((a >>= λ j. accepted (jobLevel j side t)) ≡ refused k v) ↔ (a ≡ refused k v)
+    alike (accepted j) = (λ e. impossible cc, λ e. impossible cc)
+    alike (refused i w) =
+        (λ e. let number : i ≡ k = cc in let value : w ≡ v = cc in ap₂ refused number value, λ e. let number : i ≡ k = cc in let value : w ≡ v = cc in ap₂ refused number value)
 
-    job : side ≤ 1 → levelAt s side t ≡ refused k v → (a : Answer Job) → acceptJob s ≡ a → OneToSeven a → (plan s side room ≡ refused k v) × (k ≢ 9)
-    job h e (accepted j) q o =
-        absurd (let z : _≡_ {A = Answer ℕ} (accepted (jobLevel j side t)) (refused k v) = sym (job-required s side t h j q) ∙ e in let w : _≡_ {A = ℕ} 0 1 = cc in omega arith)
-    job h e (refused i w) q o =
-        let same : _≡_ {A = Answer ℕ} (refused i w) (refused k v) = sym (job-refused s side t h i w q) ∙ e in
-        let number : i ≡ k = cc in
-        let value : w ≡ v = cc in
-        (plan-job s side room k v (omega (arith, o .1)) .1 (h, q ∙ ap₂ refused number value), λ x. omega (arith, o .1))
-
-    to : levelAt s side t ≡ refused k v → Dec (side ≤ 1) → (plan s side room ≡ refused k v) × (k ≢ 9)
-    to e (yes h) = job h e (acceptJob s) refl (accept-refusals s)
-    to e (no h) = bad (omega arith) e
-
-    from : plan s side room ≡ refused k v → k ≢ 9 → PlanVerdict s side room → levelAt s side t ≡ refused k v
-    from e n (bad-side h p) = let number : 8 ≡ k = cc in let value : 0 ≡ v = cc in level-bad-side s side t h ∙ ap₂ refused number value
-    from e n (bad-job h i w a l u x p) = let number : i ≡ k = cc in let value : w ≡ v = cc in job-refused s side t h i w a ∙ ap₂ refused number value
-    from e n (no-room h j a l p) = absurd (n (let number : 9 ≡ k = cc in sym number))
-    from e n (written h j a l p) = absurd (let z : _≡_ {A = ℕ} 0 1 = cc in omega arith)
+    go : Dec (side ≤ 1) → (levelAt s side t ≡ refused k v) ↔ ((plan s side room ≡ refused k v) × (k ≢ 9))
+    go (yes h) =
+        let plans = plan-refuses s side room h k v in
+        let by = level-by-job s side t h in
+        (λ e. plans .0 (alike (acceptJob s) .0 (sym by ∙ e)), λ w. by ∙ alike (acceptJob s) .1 (plans .1 w))
+    go (no h) =
+        let level = level-bad-side s side t (omega arith) in
+        let planned = plan-bad-side s side room (omega arith) in (
+          λ e. (let number : 8 ≡ k = cc in let value : 0 ≡ v = cc in planned ∙ ap₂ refused number value, λ q. let number : 8 ≡ k = cc in omega arith),
+          λ w. let e = w .0 in let number : 8 ≡ k = cc in let value : 0 ≡ v = cc in level ∙ ap₂ refused number value,
+        )
 
 pub level-off : Level-off-road
 level-off s j side t a h off = job-required s side t h j a ∙ ap accepted (level-off-road j side (accepted-fits s j a) t off)

@@ -10,6 +10,7 @@ pub mod CaseLaws
 pub mod BeforeLaws
 pub mod LimitLaws
 pub mod LevelLaws
+pub mod HazardLaws
 pub mod CornerLaws
 pub mod OffsetLaws
 pub mod WithdrawalLaws

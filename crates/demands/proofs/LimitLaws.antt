@@ -1,11 +1,8 @@
 -- Document 02's request 11: "bytes accepted before give the same replies".
 -- Assumes nothing.
-use mathlib.Core.Path.{_≡_, ap}
-use mathlib.Core.List.{List}
-use Rattle.refusal.specs.Answer.{Answer, accepted, _>>=_, unless-refuse}
+use mathlib.Core.Path.{_≡_}
 use Rattle.refusal.specs.Limits.{earlier}
 use Rattle.refusal.proofs.LimitLaws.{limits-wider}
-use Rattle.job.specs.Job.{Job}
 use Rattle.job.proofs.LimitLaws.{jobs-alike}
 use Rattle.planning.specs.Envelope.{acceptJobBy, acceptJob}
 use Rattle.planning.proofs.LimitLaws.{accepts-alike}
@@ -14,7 +11,7 @@ use Rattle.station_level.specs.Level.{levelAtBy}
 use Rattle.corners.specs.Corners.{cornersOfBy}
 use Rattle.clear_offset.specs.Offset.{smallestOffsetBy}
 use Rattle.queries.proofs.LimitLaws.{quantity-before, quantities-before, lookup-before}
-use Rattle.demands.specs.Before.{JobAsBefore, Jobs-before-11, ScheduleAsBefore, Schedules-before-11}
+use Rattle.demands.specs.Before.{Jobs-before-11, Schedules-before-11}
 
 pub jobs-before-11 : Jobs-before-11
 unfolding levelAtBy cornersOfBy smallestOffsetBy

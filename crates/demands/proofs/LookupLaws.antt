@@ -8,28 +8,29 @@ use mathlib.Core.Logic.{_⊎_, inl, inr}
 use mathlib.Core.Bool.{Bool, true, false, _&&_}
 use mathlib.Core.List.{List, [], _∷_, _++_, append-assoc, append-nil, List·Memᴰ, List·Memᴰ·head, List·Memᴰ·tail, List·Memᴰ·cases-cons, List·Memᴰ·not-nil}
 use lib.ListN.{length, take, drop, length-append}
-use lib.Seq.{drop-drop, drop-append-seam, take-append-seam}
+use lib.Seq.{take-append-seam}
 use lib.Dec.{ltb, leb}
 use borrow.Author.Tests.{ltb-true, ltb-false, lt-ltb, leb-true, leb-false, le-leb}
 use Rattle.refusal.specs.Choice.{if_then_else_}
 use Rattle.refusal.specs.Answer.{accepted}
-use Rattle.refusal.proofs.TestLaws.{and-right, and-intro, not-both}
+use Rattle.refusal.proofs.TestLaws.{and-intro, not-both, impossible}
 use Rattle.number.specs.Number.{writeNumber}
-use Rattle.number.proofs.NumberLaws.{after-number}
+use Rattle.number.proofs.ReadLaws.{after-number}
 use Rattle.runs.specs.declared.Stretch.{Stretch}
 use Rattle.runs.specs.Level.{Has, has}
-use Rattle.runs.specs.RunList.{mostRuns, isRunListBy, shownLevel}
-use Rattle.runs.proofs.RunLaws.{Rising, rising, shown-in, shown-before, shown-after}
-use Rattle.schedule.specs.Schedule.{writeRecord, writeRecordsBy, writeRecords, writeScheduleBy, IsSchedule, readSchedule}
+use Rattle.runs.specs.RunList.{shownLevel}
+use Rattle.runs.proofs.RunLaws.{Rising, shown-in, shown-before, shown-after}
+use Rattle.runs.proofs.StoredLaws.{run-list-rising}
+use Rattle.schedule.specs.Schedule.{writeRecord, writeRecordsBy, writeRecords, writeScheduleBy, IsSchedule}
 use Rattle.queries.specs.Lookup.{Part, Found, found, nowhere, findRecordBy, findRecord, placeInBy, asked, lookupBy, lookup, FoundRun}
-use Rattle.schedule.proofs.ScheduleLaws.{read-schedule}
+use Rattle.schedule.proofs.ScheduleLaws.{after-bytes, schedule-runs}
 
 part-of-split : (s : List ℕ) (i : ℕ) (w rest : List ℕ) → drop i s ≡ w ++ rest → take (length w) (drop i s) ≡ w
 part-of-split s i w rest e = rw e (take-append-seam w rest)
 
 find-found : (s : List ℕ) (e v i : ℕ) (rs : List Stretch) (rest : List ℕ) (t : ℕ) (p : Part) → Rising e v rs → drop i s ≡ writeRecords e rs ++ rest → findRecord e i rs t ≡ found p → FoundRun s e i rs t p
 unfolding findRecordBy writeRecordsBy
-find-found s e v i [] rest t p up q f = let z : _≡_ {A = ℕ} 0 1 = cc in absurd (omega arith)
+find-found s e v i [] rest t p up q f = impossible cc
 find-found s e v i (r ∷ rs) rest t p up q f =
     go (leb (r .start) t) refl (ltb t (r .end)) refl f (find-found s (r .end) (r .level) (i + length (writeRecord e r)) rs rest t p (up .1) later)
   where
@@ -37,7 +38,7 @@ find-found s e v i (r ∷ rs) rest t p up q f =
     split = q ∙ append-assoc (writeRecord e r) (writeRecords (r .end) rs) rest
 
     later : drop (i + length (writeRecord e r)) s ≡ writeRecords (r .end) rs ++ rest
-    later = sym (drop-drop (length (writeRecord e r)) i s) ∙ rw split (drop-append-seam (writeRecord e r) (writeRecords (r .end) rs ++ rest))
+    later = after-bytes s i (writeRecord e r) (writeRecords (r .end) rs ++ rest) split
 
     Rec : Type 0
     Rec = findRecord (r .end) (i + length (writeRecord e r)) rs t ≡ found p → FoundRun s (r .end) (i + length (writeRecord e r)) rs t p
@@ -81,7 +82,7 @@ find-none e i (x ∷ rs) t q r m h = go (has x t) refl q (List·Memᴰ·cases-co
   where
     go : (a : Bool) → has x t ≡ a → (if a then found (record { at = i; len = length (writeRecord e x) }) else findRecord (x .end) (i + length (writeRecord e x)) rs t) ≡ nowhere
         → (r ≡ x) ⊎ List·Memᴰ r rs → (findRecord (x .end) (i + length (writeRecord e x)) rs t ≡ nowhere → List·Memᴰ r rs → ⊥) → ⊥
-    go true p c w rec = let z : _≡_ {A = ℕ} 0 1 = cc in omega arith
+    go true p c w rec = impossible cc
     go false p c (inl s) rec = let k : Has x t = subst (λ (y : Stretch). Has y t) s h in not-both (and-intro (le-leb _ _ (k .0)) (lt-ltb _ _ (k .1))) p
     go false p c (inr k) rec = rec c k
 
@@ -108,17 +109,14 @@ pub record LookedIn (right left : List ℕ) (side : ℕ) (rs : List Stretch) (t 
   pub finds : Finds (asked side right left) rs t answer
 
 pub lookup-written : (right left : List ℕ) (side t : ℕ) → side ≤ 1 → (w : IsSchedule (asked side right left)) → LookedIn right left side (w .runs) t
-unfolding lookupBy placeInBy writeScheduleBy isRunListBy
-lookup-written right left side t h w = record { answer = answer; replies = rw (le-leb side 1 h, read); finds = go answer refl }
+unfolding lookupBy placeInBy writeScheduleBy
+lookup-written right left side t h w = record { answer = answer; replies = rw (le-leb side 1 h, schedule-runs (asked side right left) w); finds = go answer refl }
   where
     s : List ℕ
     s = asked side right left
 
     rs : List Stretch
     rs = w .runs
-
-    read : readSchedule s ≡ accepted rs
-    read = ap readSchedule (w .writes) ∙ read-schedule rs (w .run-list)
 
     answer : Found
     answer = findRecord 0 (length (writeNumber (length rs))) rs t
@@ -128,6 +126,6 @@ lookup-written right left side t h w = record { answer = answer; replies = rw (l
 
     go : (f : Found) → findRecord 0 (length (writeNumber (length rs))) rs t ≡ f → Finds s rs t f
     go (found p) e =
-        find-found s 0 0 (length (writeNumber (length rs))) rs [] t p (rising 0 0 rs (and-right (leb (length rs) mostRuns) _ (w .run-list)))
+        find-found s 0 0 (length (writeNumber (length rs))) rs [] t p (run-list-rising rs (w .run-list))
         (ap (λ (i : ℕ). drop i s) (let z : length (writeNumber (length rs)) ≡ 0 + length (writeNumber (length rs)) = omega arith in z) ∙ after) e
     go nowhere e = find-none 0 (length (writeNumber (length rs))) rs t e

@@ -10,13 +10,15 @@ use mathlib.Core.List.{List, [], _∷_, _++_}
 use lib.ListN.{length}
 use lib.Dec.{leb}
 use borrow.Author.Tests.{le-leb}
-use Rattle.refusal.specs.Answer.{Answer, accepted, refused, _>>=_, unless-refuse}
+use Rattle.refusal.specs.Answer.{Answer, accepted, refused, _>>=_}
+use Rattle.refusal.specs.Refusal.{unless-refuse, numberOf}
+use Rattle.refusal.specs.declared.Refusal.the-variants as Row
 use Rattle.number.specs.declared.Read.{Read}
 use Rattle.number.specs.declared.Read.the-variants.{Number, Ended, Malformed}
 use Rattle.number.specs.Number.{readNumber, readingOf, numberAtBy, numberAt}
 use Rattle.job.specs.declared.Header.{Header}
 use Rattle.job.specs.declared.Hazard.{Hazard}
-use Rattle.job.specs.Job.{Job, Range, within, nextInHeader, nextInHazard, readFieldsBy, readFields, moreNumbers, readHeaderBy, readHeader, headerOf, hazardOf, readHazardsBy, readHazards, readJobBy, readJob, readRestBy}
+use Rattle.job.specs.Job.{Job, Range, within, nextInHeader, nextInHazard, readFieldsBy, readFields, moreNumbers, readHeaderBy, readHeader, headerOf, hazardOf, readHazardsBy, readHazards, readJobBy, readJob, readRestBy, outsideHeader, outsideHazard}
 use Rattle.planning.specs.Envelope.{sideOverhangs, standsNear, testHazard, testHazards, acceptJobBy, acceptJob}
 use Rattle.planning.proofs.OverhangLaws.{greatest-before, greatest-after}
 use Rattle.planning.specs.Required.{jobRuns}
@@ -25,6 +27,9 @@ use Rattle.schedule.specs.Plan.{PlannedSide, fitted, planBy, plan}
 use Rattle.schedule.proofs.PlanLaws.{fitted-fits, fitted-short}
 use Rattle.schedule.proofs.PlanLaws.{plan-bad-side}
 use Rattle.demands.specs.Road.{Overhanging, Plan-overhangs, Plan-six}
+use Rattle.refusal.specs.declared.Refusal.{Refusal}
+use Rattle.refusal.proofs.RowLaws.{some-number, no-six}
+use Rattle.refusal.proofs.TestLaws.{impossible}
 
 -- The job's refusals
 
@@ -37,9 +42,9 @@ both : {A B : Type 0} (m : Answer A) (f : A → Answer B) → OneToSeven m → (
 both (accepted a) f p q = q a
 both (refused k v) f p q = p
 
-test : (t : Bool) (k v : ℕ) → 1 ≤ k → k ≤ 7 → k ≢ 6 → OneToSeven (unless-refuse t k v)
-test true k v l h n = tt
-test false k v l h n = (l, h, n)
+test : (t : Bool) (r : Refusal) → numberOf r ≤ 7 → OneToSeven (unless-refuse t r)
+test true r h = tt
+test false r h = (some-number r, h, no-six r)
 
 number-refusals : (s : List ℕ) (at : ℕ) → OneToSeven (numberAt s at)
 unfolding numberAtBy
@@ -50,34 +55,34 @@ number-refusals s at = go (readNumber s at)
     go Ended = (omega arith, omega arith, omega arith)
     go Malformed = (omega arith, omega arith, omega arith)
 
-fields-refusals : (rangeOf : List ℕ → Range) (number : ℕ) (valueOf : List ℕ → ℕ) (k : ℕ) (got s : List ℕ) (at : ℕ) → 1 ≤ number → number ≤ 7 → number ≢ 6 → OneToSeven (readFields rangeOf number valueOf k got s at)
+fields-refusals : (rangeOf : List ℕ → Range) (outside : List ℕ → Refusal) (k : ℕ) (got s : List ℕ) (at : ℕ) → ((l : List ℕ) → numberOf (outside l) ≤ 7) → OneToSeven (readFields rangeOf outside k got s at)
 unfolding readFieldsBy
-fields-refusals rangeOf number valueOf zero got s at l h n = tt
-fields-refusals rangeOf number valueOf (suc k) got s at l h n =
+fields-refusals rangeOf outside zero got s at h = tt
+fields-refusals rangeOf outside (suc k) got s at h =
     both (numberAt s at) _ (number-refusals s at) (λ x.
-    both (unless-refuse (within (rangeOf got) (x .value)) number (valueOf got)) _ (test (within (rangeOf got) (x .value)) number (valueOf got) l h n) (λ _.
-    fields-refusals rangeOf number valueOf k (got ++ x .value ∷ []) s (x .next) l h n))
+    both (unless-refuse (within (rangeOf got) (x .value)) (outside got)) _ (test (within (rangeOf got) (x .value)) (outside got) (h got)) (λ _.
+    fields-refusals rangeOf outside k (got ++ x .value ∷ []) s (x .next) h))
 
 hazards-refusals : (h : Header) (k : ℕ) (got : List Hazard) (s : List ℕ) (at : ℕ) → OneToSeven (readHazards h k got s at)
 unfolding readHazardsBy
 hazards-refusals h zero got s at = tt
 hazards-refusals h (suc k) got s at =
-    both (readFields (nextInHazard h) 4 (λ _. length got) 6 [] s at) _ (fields-refusals (nextInHazard h) 4 (λ _. length got) 6 [] s at (omega arith) (omega arith) (omega arith)) (λ z.
+    both (readFields (nextInHazard h) (outsideHazard (length got)) 6 [] s at) _ (fields-refusals (nextInHazard h) (outsideHazard (length got)) 6 [] s at (λ _. omega arith)) (λ z.
     hazards-refusals h k (got ++ hazardOf (z .numbers) ∷ []) s (z .next))
 
 read-refusals : (s : List ℕ) → OneToSeven (readJob s)
 unfolding readJobBy readRestBy readHeaderBy
 read-refusals s =
     both (readHeader s) _
-    (both (readFields nextInHeader 3 (λ got. length got + 1) 14 [] s 0) _ (fields-refusals nextInHeader 3 (λ got. length got + 1) 14 [] s 0 (omega arith) (omega arith) (omega arith)) (λ f.
-    fields-refusals nextInHeader 3 (λ got. length got + 1) (moreNumbers (f .numbers)) (f .numbers) s (f .next) (omega arith) (omega arith) (omega arith))) (λ f.
+    (both (readFields nextInHeader outsideHeader 14 [] s 0) _ (fields-refusals nextInHeader outsideHeader 14 [] s 0 (λ _. omega arith)) (λ f.
+    fields-refusals nextInHeader outsideHeader (moreNumbers (f .numbers)) (f .numbers) s (f .next) (λ _. omega arith))) (λ f.
     both (readHazards (headerOf (f .numbers)) (headerOf (f .numbers) .count) [] s (f .next)) _ (hazards-refusals (headerOf (f .numbers)) (headerOf (f .numbers) .count) [] s (f .next)) (λ r.
-    both (unless-refuse (leb (length s) (r .next)) 7 (r .next)) _ (test (leb (length s) (r .next)) 7 (r .next) (omega arith) (omega arith) (omega arith)) (λ _. tt)))
+    both (unless-refuse (leb (length s) (r .next)) (Row.LeftOver (r .next))) _ (test (leb (length s) (r .next)) (Row.LeftOver (r .next)) (omega arith)) (λ _. tt)))
 
 test-refusals : (h : Header) (i : ℕ) (zs : List Hazard) → OneToSeven (testHazards h i zs)
 unfolding testHazards testHazard
 test-refusals h i [] = tt
-test-refusals h i (z ∷ zs) = both (testHazard h i z) _ (test (not (standsNear h z)) 5 i (omega arith) (omega arith) (omega arith)) (λ _. test-refusals h (i + 1) zs)
+test-refusals h i (z ∷ zs) = both (testHazard h i z) _ (test (not (standsNear h z)) (Row.NearBarrier i) (omega arith)) (λ _. test-refusals h (i + 1) zs)
 
 pub accept-refusals : (s : List ℕ) → OneToSeven (acceptJob s)
 unfolding acceptJobBy
@@ -127,7 +132,7 @@ module _ (s : List ℕ) (side room : ℕ) where
       go e (bad-side h p) = h
       go e (bad-job h k v a l u n p) = absurd (let z : k ≡ 8 = cc in omega arith)
       go e (no-room h j a l p) = absurd (let z : _≡_ {A = ℕ} 9 8 = cc in omega arith)
-      go e (written h j a l p) = absurd (let z : _≡_ {A = ℕ} 0 1 = cc in omega arith)
+      go e (written h j a l p) = impossible cc
 
   -- 1 to 7: what the job's bytes and hazards are refused for, on a good side.
   pub plan-job : (k v : ℕ) → k ≤ 7 → (plan s side room ≡ refused k v) ↔ ((side ≤ 1) × (acceptJob s ≡ refused k v))
@@ -137,7 +142,20 @@ module _ (s : List ℕ) (side room : ℕ) where
       go e (bad-side h p) = absurd (let z : 8 ≡ k = cc in omega arith)
       go e (bad-job h i w a l u n p) = let number : i ≡ k = cc in let value : w ≡ v = cc in (h, a ∙ ap₂ refused number value)
       go e (no-room h j a l p) = absurd (let z : 9 ≡ k = cc in omega arith)
-      go e (written h j a l p) = absurd (let z : _≡_ {A = ℕ} 0 1 = cc in omega arith)
+      go e (written h j a l p) = impossible cc
+
+  -- On a good side plan's refusals but 9 are the job's.
+  pub plan-refuses : side ≤ 1 → (k v : ℕ) → (acceptJob s ≡ refused k v) ↔ ((plan s side room ≡ refused k v) × (k ≢ 9))
+  plan-refuses h k v = (λ e. (by-job h ∙ rw e, nine e (accept-refusals s)), λ w. go (w .0) (w .1) plan-verdict)
+    where
+      nine : acceptJob s ≡ refused k v → OneToSeven (acceptJob s) → k ≢ 9
+      nine e o q = let few : k ≤ 7 = (rw e at o) .1 in omega arith
+
+      go : plan s side room ≡ refused k v → k ≢ 9 → PlanVerdict → acceptJob s ≡ refused k v
+      go e n (bad-side b p) = absurd (omega arith)
+      go e n (bad-job b i w a l u x p) = let number : i ≡ k = cc in let value : w ≡ v = cc in a ∙ ap₂ refused number value
+      go e n (no-room b j a l p) = absurd (n (let number : 9 ≡ k = cc in sym number))
+      go e n (written b j a l p) = impossible cc
 
   -- An accepted job on a good side, whose schedule has n bytes, more than there is room for.
   pub record NeedsRoom (n : ℕ) : Type 0 where
@@ -155,7 +173,7 @@ module _ (s : List ℕ) (side room : ℕ) where
       go e (bad-side h p) = absurd (let z : _≡_ {A = ℕ} 8 9 = cc in omega arith)
       go e (bad-job h k v a l u n p) = absurd (let z : k ≡ 9 = cc in omega arith)
       go e (no-room h j a l p) = let same : length (sideSchedule j side) ≡ n = cc in record { good-side = h; job = j; taken = a; needed = same; short = omega arith }
-      go e (written h j a l p) = absurd (let z : _≡_ {A = ℕ} 0 1 = cc in omega arith)
+      go e (written h j a l p) = impossible cc
 
   -- An accepted job on a good side, whose schedule and overhangs are p, and for whose schedule there is room.
   pub record Fits (p : PlannedSide) : Type 0 where
@@ -174,9 +192,9 @@ module _ (s : List ℕ) (side room : ℕ) where
   )
     where
       go : plan s side room ≡ accepted p → PlanVerdict → Fits p
-      go e (bad-side h q) = absurd (let z : _≡_ {A = ℕ} 0 1 = cc in omega arith)
-      go e (bad-job h k v a l u n q) = absurd (let z : _≡_ {A = ℕ} 0 1 = cc in omega arith)
-      go e (no-room h j a l q) = absurd (let z : _≡_ {A = ℕ} 0 1 = cc in omega arith)
+      go e (bad-side h q) = impossible cc
+      go e (bad-job h k v a l u n q) = impossible cc
+      go e (no-room h j a l q) = impossible cc
       go e (written h j a l q) =
           let same : sidePlanned j side ≡ p = cc in
           record { good-side = h; job = j; taken = a; is = same; room-enough = subst (λ (x : PlannedSide). length (x .schedule) ≤ room) same l }
@@ -190,7 +208,7 @@ plan-six s side room k v e = go (plan-verdict s side room)
     go (bad-side h p) six = let z : 8 ≡ k = cc in omega arith
     go (bad-job h i w a l u n p) six = let z : i ≡ k = cc in n (omega arith)
     go (no-room h j a l p) six = let z : 9 ≡ k = cc in omega arith
-    go (written h j a l p) six = let z : _≡_ {A = ℕ} 0 1 = cc in omega arith
+    go (written h j a l p) six = impossible cc
 
 pub plan-overhangs : Plan-overhangs
 plan-overhangs s j side room p a e =

@@ -16,6 +16,7 @@ use Rattle.job.specs.declared.Header.{Header}
 use Rattle.job.specs.declared.Hazard.{Hazard}
 use Rattle.job.specs.Job.{Job, hazardOf}
 use Rattle.job.specs.Writing.{writeJob}
+use Rattle.job.proofs.RangeLaws.{header-bounds}
 use Rattle.runs.specs.declared.Stretch.{Stretch}
 use Rattle.runs.specs.Level.{Has, requiredLevel}
 use Rattle.runs.proofs.ChangeLaws.{Outside, level-without}
@@ -118,7 +119,7 @@ module _ (j k : Job) (to : Alike (j .header) (k .header)) (back : Alike (k .head
     unfolding jobLevel
     outside-levels side s t out =
         let long = side-lies j side fits (cutEnvelope (j .header) z) (to-cut j side s) .long in
-        ap (λ (G : ℕ). requiredLevel (sideEnvelopes k side) G t) (back .continuity)
+        ap (λ (G : ℕ). requiredLevel (sideEnvelopes k side) G t) (ap (λ (x : Header). x .continuity) back)
         ∙ sym (level-without (cutEnvelope (j .header) z) (sideEnvelopes j side) (sideEnvelopes k side) (j .header .continuity) t long out (either side) (more-envelopes k j back side (λ x s. fewer x (s .member))))
 
     pub same-beyond : SameBeyond (j .header) z (jobLevel j) (jobLevel k)
@@ -172,7 +173,7 @@ withdrawal-reach s j a i l = record {
 
     still : Accepted (writeJob k) k
     still =
-        fitting-accepted k (made-fits (j .header) (k .hazards) (fits .fits .header) (omega (arith, one-less, fits .fits .hazards .count, fits .fits .header .count))
+        fitting-accepted k (made-fits (j .header) (k .hazards) (fits .fits .header) (omega (arith, one-less, fits .fits .hazards .count, header-bounds (j .header) (fits .fits .header) .count))
         (λ x m. record { fits = fits .fits .hazards .each x (fewer x m); passed = fits .passed x (fewer x m) }))
 
     same : SameBeyond (j .header) z (jobLevel j) (jobLevel k)

@@ -6,7 +6,9 @@ use mathlib.Core.Path.{_≡_}
 use mathlib.Core.Logic.{_⊎_}
 use mathlib.Core.List.{List}
 use lib.Dec.{leb}
-use Rattle.refusal.specs.Answer.{Answer, accepted, refused, _>>=_, unless-refuse}
+use Rattle.refusal.specs.Answer.{Answer, accepted, refused, _>>=_}
+use Rattle.refusal.specs.Refusal.{unless-refuse}
+use Rattle.refusal.specs.declared.Refusal.the-variants as Row
 use Rattle.refusal.specs.Limits.{earlier}
 use Rattle.job.specs.Job.{Job, readJobBy, readJob}
 use Rattle.planning.specs.Envelope.{lengthening, noOverhang, acceptJobBy, acceptJob}
@@ -53,7 +55,7 @@ Schedules-before-11 = (w : List ℕ) (rs : List Stretch) → readScheduleBy earl
 -- The schedule to be written, or the refusal, of a job as it was read. An envelope never hung over: overhang 0.
 unfoldable pub planBefore : Lengthening → Answer Job → (side room : ℕ) → Answer PlannedSide
 planBefore by read side room =
-    unless-refuse (leb side 1) 8 0 >>= λ _.
+    unless-refuse (leb side 1) Row.Argument >>= λ _.
     acceptBefore by read >>= λ j.
     fitted (writeSchedule (requiredRuns (envelopesBefore by (j .header) side (j .hazards)) (j .header .continuity))) noOverhang room
 

@@ -11,7 +11,7 @@ use Rattle.refusal.specs.Answer.{Answer, accepted, refused, _>>=_}
 use Rattle.number.specs.Number.{writeNumber}
 use Rattle.job.specs.declared.Header.{Header}
 use Rattle.job.specs.declared.Hazard.{Hazard}
-use Rattle.job.specs.Job.{Job}
+use Rattle.job.specs.Job.{Job, counted}
 use Rattle.runs.specs.declared.Stretch.{Stretch}
 use Rattle.planning.specs.Envelope.{Traffic, envelope, reached, reaches, sideEnvelopes, OnRoad, Upstream, BelowApproach}
 use Rattle.runs.specs.Level.{NoShortGap, NoShortGapIn, Has, InSet, Filled, Highest}
@@ -106,21 +106,8 @@ abbrev pub Demand3-off-road : Type 0
 Demand3-off-road = (s : List ℕ) (j : Job) (side : ℕ) → Accepted s j → (t : ℕ) → (OnRoad (j .header) t → ⊥) → jobLevel j side t ≡ 0
 
 -- Alike in every header number but the hazard count.
-pub record Alike (h k : Header) : Type 0 where
-  pub kind : h .kind ≡ k .kind
-  pub begin : h .begin ≡ k .begin
-  pub end : h .end ≡ k .end
-  pub forward : h .forward ≡ k .forward
-  pub opposite : h .opposite ≡ k .opposite
-  pub zone : h .zone ≡ k .zone
-  pub way : h .way ≡ k .way
-  pub offset : h .offset ≡ k .offset
-  pub deflection : h .deflection ≡ k .deflection
-  pub along : h .along ≡ k .along
-  pub across : h .across ≡ k .across
-  pub straight : h .straight ≡ k .straight
-  pub continuity : h .continuity ≡ k .continuity
-  pub panel : h .panel ≡ k .panel
+abbrev pub Alike : (h k : Header) → Type 0
+Alike h k = counted h (k .count) ≡ k
 
 -- Demand 3, growth: the second job has every hazard of the first, at whatever index. Off the road both show 0.
 abbrev pub Demand3-growth : Type 0

@@ -5,5 +5,6 @@ pub mod Before
 pub mod Level
 pub mod Road
 pub mod Corners
+pub mod CornerCases
 pub mod Offset
 pub mod Withdrawal

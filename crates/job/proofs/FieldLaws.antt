@@ -2,14 +2,13 @@
 -- Assumes nothing.
 use Prim.Native.Nat.{ℕ, suc, _+_, _<_}
 use native.Mathlib.Numerals.{add-one}
-use native.Mathlib.Omega.{arith}
 use mathlib.Core.Path.{_≡_, refl, sym, subst, _∙_}
 use mathlib.Core.Bool.{true}
 use mathlib.Core.List.{List, [], _∷_, _++_}
 use lib.ListN.{length, take, set}
 use lib.Seq.{take-suc-set}
-use Rattle.refusal.specs.Answer.{Answer, accepted, refused, _>>=_, unless-refuse}
-use Rattle.refusal.specs.Refusal.{numberOf, valueOf, refusal}
+use Rattle.refusal.specs.Answer.{Answer, accepted, refused, _>>=_}
+use Rattle.refusal.specs.Refusal.{unless-refuse, refusal}
 use Rattle.refusal.specs.declared.Refusal.{Refusal}
 use Rattle.refusal.proofs.AnswerLaws.{bound, tested}
 use Rattle.number.specs.Number.{Reading, numberAt}
@@ -18,6 +17,7 @@ use Rattle.job.specs.declared.field.Field.{Field}
 use Rattle.job.specs.declared.field.Field.the-variants as Field
 use Rattle.job.specs.Job.{Range, within, readFieldsBy, readFields}
 use Rattle.job.specs.Reply.{fieldAt, fieldAnswer}
+use Rattle.refusal.proofs.TestLaws.{impossible}
 
 -- An array's part in use, after a store behind it.
 pub take-stored : {A : Type 0} (l : List A) (i : ℕ) (a : A) → i < length l → take (i + 1) (set l i a) ≡ take i l ++ a ∷ []
@@ -35,34 +35,30 @@ bind-tested (accepted a) test rest = sym (bind-assoc (test a) (λ _. accepted a)
 bind-tested (refused k v) test rest = refl
 
 -- A number that was read is in its range.
-within-tested : (range : Range) (k v : ℕ) (m : Answer Reading) (x : Reading)
-    → m >>= (λ y. unless-refuse (within range (y .value)) k v >>= λ _. accepted y) ≡ accepted x → within range (x .value) ≡ true
-within-tested range k v (accepted y) x e =
-    let b = bound (unless-refuse (within range (y .value)) k v) (λ _. accepted y) x e in
+within-tested : (range : Range) (outside : Refusal) (m : Answer Reading) (x : Reading)
+    → m >>= (λ y. unless-refuse (within range (y .value)) outside >>= λ _. accepted y) ≡ accepted x → within range (x .value) ≡ true
+within-tested range outside (accepted y) x e =
+    let b = bound (unless-refuse (within range (y .value)) outside) (λ _. accepted y) x e in
     let same : y ≡ x = cc in
-    subst (λ (z : Reading). within range (z .value) ≡ true) same (tested _ k v (b .first) (b .taken))
-within-tested range k v (refused a b) x e = let z : _≡_ {A = ℕ} 0 1 = cc in absurd (omega arith)
+    subst (λ (z : Reading). within range (z .value) ≡ true) same (tested _ outside (b .first) (b .taken))
+within-tested range outside (refused a b) x e = impossible cc
 
 pub field-within : (range : Range) (outside : Refusal) (s : List ℕ) (at : ℕ) (f : Field) (n : Numbered)
     → fieldAnswer f ≡ fieldAt range outside s at → f ≡ Field.Number n → within range (n .value) ≡ true
 unfolding fieldAt
-field-within range outside s at f n read e =
-    within-tested range (numberOf outside) (valueOf outside) (numberAt s at) (record { value = n .value; next = n .next }) (sym read ∙ rw e)
+field-within range outside s at f n read e = within-tested range outside (numberAt s at) (record { value = n .value; next = n .next }) (sym read ∙ rw e)
 
 -- k numbers more behind the next one, which is `f`.
-module _ (rangeOf : List ℕ → Range) (valueAt : List ℕ → ℕ) (outside : Refusal) (k : ℕ) (got s : List ℕ) (at : ℕ) (f : Field)
-    (value : valueAt got ≡ valueOf outside) (read : fieldAnswer f ≡ fieldAt (rangeOf got) outside s at) where
-  fields-step : readFields rangeOf (numberOf outside) valueAt (suc k) got s at
-      ≡ fieldAnswer f >>= λ x. readFields rangeOf (numberOf outside) valueAt k (got ++ x .value ∷ []) s (x .next)
+module _ (rangeOf : List ℕ → Range) (outsideAt : List ℕ → Refusal) (outside : Refusal) (k : ℕ) (got s : List ℕ) (at : ℕ) (f : Field)
+    (its : outsideAt got ≡ outside) (read : fieldAnswer f ≡ fieldAt (rangeOf got) outside s at) where
+  fields-step : readFields rangeOf outsideAt (suc k) got s at ≡ fieldAnswer f >>= λ x. readFields rangeOf outsideAt k (got ++ x .value ∷ []) s (x .next)
   unfolding readFieldsBy fieldAt
   fields-step =
-      rw (read, value)
-      (bind-tested (numberAt s at) (λ x. unless-refuse (within (rangeOf got) (x .value)) (numberOf outside) (valueOf outside))
-      (λ x. readFields rangeOf (numberOf outside) valueAt k (got ++ x .value ∷ []) s (x .next)))
+      rw (read, its)
+      (bind-tested (numberAt s at) (λ x. unless-refuse (within (rangeOf got) (x .value)) outside) (λ x. readFields rangeOf outsideAt k (got ++ x .value ∷ []) s (x .next)))
 
-  pub fields-more : (n : Numbered) → f ≡ Field.Number n
-      → readFields rangeOf (numberOf outside) valueAt (suc k) got s at ≡ readFields rangeOf (numberOf outside) valueAt k (got ++ n .value ∷ []) s (n .next)
+  pub fields-more : (n : Numbered) → f ≡ Field.Number n → readFields rangeOf outsideAt (suc k) got s at ≡ readFields rangeOf outsideAt k (got ++ n .value ∷ []) s (n .next)
   fields-more n e = fields-step ∙ rw e
 
-  pub fields-refused : (r : Refusal) → f ≡ Field.Refused r → readFields rangeOf (numberOf outside) valueAt (suc k) got s at ≡ refusal r
+  pub fields-refused : (r : Refusal) → f ≡ Field.Refused r → readFields rangeOf outsideAt (suc k) got s at ≡ refusal r
   fields-refused r e = fields-step ∙ rw e

@@ -1,9 +1,13 @@
--- A hazard's numbers read one by one.
+-- A hazard's numbers read one by one into an array of six.
 -- Assumes nothing.
-use Prim.Native.Nat.{ℕ, suc}
-use mathlib.Core.Path.{_≡_, refl, _∙_}
-use mathlib.Core.List.{List, [], _∷_, _++_}
+use Prim.Native.Nat.{ℕ, zero, suc, _+_, _-_, _≤_, _<_}
+use native.Mathlib.Omega.{arith}
+use mathlib.Core.Path.{_≡_, refl, sym, ap, ap₂, _∙_}
+use mathlib.Core.List.{List, [], map}
+use lib.ListN.{length, getD, set, take, List·getD-map}
+use lib.Seq.{length-take-le, getD-take}
 use Rattle.refusal.specs.Answer.{accepted}
+use Rattle.refusal.specs.Limits.{limits}
 use Rattle.refusal.specs.Refusal.{refusal}
 use Rattle.refusal.specs.declared.Refusal.{Refusal}
 use Rattle.refusal.specs.declared.Refusal.the-variants.{HazardRange}
@@ -11,27 +15,58 @@ use Rattle.job.specs.declared.Header.{Header}
 use Rattle.job.specs.declared.field.Reading.{Reading}
 use Rattle.job.specs.declared.field.Field.{Field}
 use Rattle.job.specs.declared.field.Field.the-variants as Field
-use Rattle.job.specs.Job.{hazardOf, nextInHazard, readFieldsBy, readFields}
+use Rattle.job.specs.Job.{Range, _to_, hazardRanges, hazardOf, nextInHazard, outsideHazard}
 use Rattle.job.specs.Reply.{fieldAt, fieldAnswer, hazardAt}
-use Rattle.job.proofs.FieldLaws.{fields-more, fields-refused}
+use Rattle.job.proofs.ArrayLaws.{NumbersLeft, one-less, next-refused, all-read}
+use Rattle.job.proofs.RangeLaws.{HazardBounds, hazard-bounds}
+use Rattle.job.proofs.JobLaws.{fields-in, hazard-fits}
 
--- Of the hazard's six numbers `got` were read, and k are left from index `at` on.
-pub record FieldsLeft (h : Header) (index : ℕ) (s : List ℕ) (first k : ℕ) (got : List ℕ) (at : ℕ) : Type 0 where
-  pub same : readFields (nextInHazard h) 4 (λ _. index) 6 [] s first ≡ readFields (nextInHazard h) 4 (λ _. index) k got s at
+-- A table as its low ends and its high ends.
+pub range-at : (rs : List Range) (k : ℕ) → getD (map (λ (r : Range). r .low) rs) k 0 to getD (map (λ (r : Range). r .high) rs) k 0 ≡ getD rs k (0 to 0)
+range-at rs k = ap₂ _to_ (List·getD-map (λ (r : Range). r .low) rs k (0 to 0)) (List·getD-map (λ (r : Range). r .high) rs k (0 to 0))
 
-module _ {h : Header} {index : ℕ} {s : List ℕ} {first : ℕ} where
-  pub all-left : FieldsLeft h index s first 6 [] first
-  all-left = record { same = refl }
+-- The next range goes by the array's second and fourth number as soon as they count.
+next-in-hazard : (h : Header) (numbers : List ℕ) (k : ℕ) → k ≤ length numbers
+    → nextInHazard h (take k numbers) ≡ getD (hazardRanges (h .begin) (h .end) (getD numbers 1 0) (getD numbers 3 0)) k (0 to 0)
+unfolding hazardRanges
+next-in-hazard h numbers k room = rw (length-take-le k numbers room) (go k)
+  where
+    go : (k : ℕ) → getD (hazardRanges (h .begin) (h .end) (getD (take k numbers) 1 0) (getD (take k numbers) 3 0)) k (0 to 0)
+        ≡ getD (hazardRanges (h .begin) (h .end) (getD numbers 1 0) (getD numbers 3 0)) k (0 to 0)
+    go zero = refl
+    go (suc zero) = refl
+    go (suc (suc zero)) = ap (λ (s : ℕ). (s + 1) to (h .end)) (getD-take 2 numbers 1 0 (omega arith))
+    go (suc (suc (suc zero))) = refl
+    go (suc (suc (suc (suc zero)))) = ap (λ (n : ℕ). n to 60000) (getD-take 4 numbers 3 0 (omega arith))
+    go (suc (suc (suc (suc (suc k))))) = refl
 
-  module _ {k : ℕ} {got : List ℕ} {at : ℕ} {f : Field} (left : FieldsLeft h index s first (suc k) got at) (read : fieldAnswer f ≡ fieldAt (nextInHazard h got) (HazardRange index) s at) where
-    pub one-less : {n : Reading} → f ≡ Field.Number n → FieldsLeft h index s first k (got ++ n .value ∷ []) (n .next)
-    one-less {n} e = record { same = left .same ∙ fields-more (nextInHazard h) (λ _. index) (HazardRange index) k got s at f refl read n e }
+-- k of the hazard's six numbers stand in the array, and the others are left from index `at` on.
+abbrev pub HazardLeft : Header → (index : ℕ) (s : List ℕ) (first : ℕ) (numbers : List ℕ) (at k : ℕ) → Type 0
+HazardLeft h index s first = NumbersLeft (nextInHazard h) (outsideHazard index) 6 (h .end - 1) s first
+
+module _ (h : Header) {index : ℕ} {s : List ℕ} {first : ℕ} {numbers : List ℕ} {at k : ℕ} (left : HazardLeft h index s first numbers at k) where
+  -- The next number, which is `f`, was read for its range.
+  module _ (more : k < 6) {range : Range} (f : Field) (its : range ≡ getD (hazardRanges (h .begin) (h .end) (getD numbers 1 0) (getD numbers 3 0)) k (0 to 0))
+      (read : fieldAnswer f ≡ fieldAt range (HazardRange index) s at) where
+    its-next : range ≡ nextInHazard h (take k numbers)
+    its-next = its ∙ sym (next-in-hazard h numbers k (omega (arith, left .room)))
+
+    start-top : k ≡ 1 → range .high ≤ h .end - 1
+    unfolding hazardRanges
+    start-top e = rw (its, e) (omega arith)
+
+    pub hazard-number : {n : Reading} → f ≡ Field.Number n → HazardLeft h index s first (set numbers k (n .value)) (n .next) (k + 1)
+    hazard-number e = one-less left more f its-next refl read start-top e
 
     pub hazard-refused : {r : Refusal} → f ≡ Field.Refused r → refusal r ≡ hazardAt h index s first
     unfolding hazardAt
-    hazard-refused {r} e =
-        rw (left .same ∙ fields-refused (nextInHazard h) (λ _. index) (HazardRange index) k got s at f refl read r e)
+    hazard-refused e = rw (next-refused left more f its-next refl read e)
 
-  pub hazard-read : {got : List ℕ} {at : ℕ} → FieldsLeft h index s first 0 got at → accepted (record { hazard = hazardOf got; next = at }) ≡ hazardAt h index s first
-  unfolding hazardAt readFieldsBy
-  hazard-read left = rw (left .same)
+  -- All six were read.
+  module _ (done : 6 ≤ k) where
+    pub hazard-read : accepted (record { hazard = hazardOf numbers; next = at }) ≡ hazardAt h index s first
+    unfolding hazardAt
+    hazard-read = rw (all-read left done)
+
+    pub numbers-bounds : HazardBounds h (hazardOf numbers)
+    numbers-bounds = hazard-bounds h (hazardOf numbers) (hazard-fits h numbers (fields-in limits (nextInHazard h) (outsideHazard index) 6 [] s first (record { numbers = numbers; next = at }) (all-read left done)))

@@ -1,17 +1,16 @@
 -- The header's numbers read one by one into an array of fourteen.
 -- Assumes nothing.
-use Prim.Native.Nat.{ℕ, suc, _+_, _-_, _≤_, _<_}
+use Prim.Native.Nat.{ℕ, zero, suc, _+_, _≤_, _<_}
 use native.Mathlib.Omega.{arith}
-use native.Mathlib.Decide.{ℕ-discrete}
-use mathlib.Core.Path.{_≡_, refl, sym, ap, _∙_}
+use mathlib.Core.Path.{_≡_, refl, sym, subst, ap, _∙_}
 use mathlib.Core.Bool.{Bool, true, false}
 use mathlib.Core.List.{List, [], _∷_, _++_, map}
-use lib.ListN.{length, getD, set, take, length-set, List·getD-map, List·getD-append}
-use lib.Seq.{length-take-le, getD-take, getD-set-same, getD-set-other, take-all}
+use lib.ListN.{length, getD, set, take, List·getD-map, List·getD-append}
+use lib.Seq.{length-take-le, getD-take, getD-set-other}
 use lib.Dec.{eqb}
 use borrow.Author.Tests.{eq-eqb, ne-eqb}
 use Rattle.refusal.specs.Choice.{if_then_else_}
-use Rattle.refusal.specs.Answer.{Answer, accepted}
+use Rattle.refusal.specs.Answer.{accepted}
 use Rattle.refusal.specs.Limits.{limits}
 use Rattle.refusal.specs.Refusal.{refusal}
 use Rattle.refusal.specs.declared.Refusal.{Refusal}
@@ -19,11 +18,13 @@ use Rattle.refusal.specs.declared.Refusal.the-variants.{HeaderRange}
 use Rattle.job.specs.declared.field.Reading.{Reading}
 use Rattle.job.specs.declared.field.Field.{Field}
 use Rattle.job.specs.declared.field.Field.the-variants as Field
-use Rattle.job.specs.declared.header_fields.Bounds.{Bounds}
-use Rattle.job.specs.Job.{Range, _to_, sharedRangesBy, sharedRanges, lastRanges, headerRangesBy, headerRanges, headerSize, nextInHeader, Fields, readFieldsBy, readFields, readHeaderBy, headerWith}
+use Rattle.job.specs.declared.field.Bounds.{Bounds}
+use Rattle.job.specs.Job.{Range, _to_, sharedRangesBy, sharedRanges, lastRanges, headerRangesBy, headerRanges, headerSize, nextInHeader, readFieldsBy, readHeaderBy, headerWith, headerOf, outsideHeader}
 use Rattle.job.specs.Reply.{fieldAt, fieldAnswer, headerAt, headerFrom}
-use Rattle.job.proofs.FieldLaws.{take-stored, field-within, fields-more, fields-refused}
-use Rattle.job.proofs.JobLaws.{within-high, roadTop, fifteenth, header-more}
+use Rattle.job.proofs.FieldLaws.{fields-more, fields-refused}
+use Rattle.job.proofs.ArrayLaws.{NumbersLeft, one-less, next-refused, all-read}
+use Rattle.job.proofs.RangeLaws.{roadTop}
+use Rattle.job.proofs.JobLaws.{listed}
 
 -- Only the third range goes by where the road begins.
 range-elsewhere : (kind A k : ℕ) → (k ≡ 2 → ⊥) → getD (headerRanges kind A) k (0 to 0) ≡ getD (headerRanges kind 0) k (0 to 0)
@@ -55,93 +56,61 @@ table-range kind A k l other =
     ∙ range-shared 2 k l ∙ sym (range-shared kind k l) ∙ sym (range-elsewhere kind A k other)
 
 -- The next range goes by the array's first and second number as soon as they count.
-range-first : (j k A B : ℕ) → getD (headerRanges j A) 0 (0 to 0) ≡ getD (headerRanges k B) 0 (0 to 0)
+next-in-header : (numbers : List ℕ) (k : ℕ) → k ≤ length numbers → nextInHeader (take k numbers) ≡ getD (headerRanges (getD numbers 0 0) (getD numbers 1 0)) k (0 to 0)
 unfolding headerRangesBy sharedRangesBy
-range-first j k A B = refl
-
-next-range : (numbers : List ℕ) (k : ℕ) → k ≤ length numbers → nextInHeader (take k numbers) ≡ getD (headerRanges (getD numbers 0 0) (getD numbers 1 0)) k (0 to 0)
-next-range numbers k room = rw (length-take-le k numbers room) (go (ℕ-discrete k 0) (ℕ-discrete k 2))
+next-in-header numbers k room = rw (length-take-le k numbers room) (go k)
   where
-    go : Dec (k ≡ 0) → Dec (k ≡ 2)
-        → getD (headerRanges (getD (take k numbers) 0 0) (getD (take k numbers) 1 0)) k (0 to 0) ≡ getD (headerRanges (getD numbers 0 0) (getD numbers 1 0)) k (0 to 0)
-    go (yes e) d = rw e (range-first 0 (getD numbers 0 0) 0 (getD numbers 1 0))
-    go (no some) (yes e) = rw (e, getD-take 2 numbers 1 0 (omega arith), getD-take 2 numbers 0 0 (omega arith))
-    go (no some) (no other) =
-        rw (getD-take k numbers 0 0 (omega arith))
-        (range-elsewhere (getD numbers 0 0) (getD (take k numbers) 1 0) k other ∙ sym (range-elsewhere (getD numbers 0 0) (getD numbers 1 0) k other))
-
--- The first fourteen numbers.
-abbrev pub readFourteen : (s : List ℕ) → Answer Fields
-readFourteen s = readFields nextInHeader 3 (λ got. length got + 1) 14 [] s 0
+    go : (k : ℕ) → getD (headerRanges (getD (take k numbers) 0 0) (getD (take k numbers) 1 0)) k (0 to 0) ≡ getD (headerRanges (getD numbers 0 0) (getD numbers 1 0)) k (0 to 0)
+    go zero = refl
+    go (suc zero) = refl
+    go (suc (suc zero)) = ap (λ (A : ℕ). (A + 1) to roadTop limits A) (getD-take 2 numbers 1 0 (omega arith))
+    go (suc (suc (suc k))) = ap (λ (kind : ℕ). getD (headerRanges kind 0) (suc (suc (suc k))) (0 to 0)) (getD-take (suc (suc (suc k))) numbers 0 0 (omega arith))
 
 -- k of the header's first fourteen numbers stand in the array, and the others are left from index `at` on.
-pub record HeaderLeft (s numbers : List ℕ) (at k : ℕ) : Type 0 where
-  pub most : k ≤ 14
-  pub room : length numbers ≡ 14
-  pub begin : getD numbers 1 0 ≤ 999999999999
-  pub same : readFourteen s ≡ readFields nextInHeader 3 (λ got. length got + 1) (14 - k) (take k numbers) s at
+abbrev pub HeaderLeft : (s numbers : List ℕ) (at k : ℕ) → Type 0
+HeaderLeft s = NumbersLeft nextInHeader outsideHeader 14 999999999999 s 0
 
-module _ {s : List ℕ} where
-  pub all-left : HeaderLeft s (0 ∷ 0 ∷ 0 ∷ 0 ∷ 0 ∷ 0 ∷ 0 ∷ 0 ∷ 0 ∷ 0 ∷ 0 ∷ 0 ∷ 0 ∷ 0 ∷ []) 0 0
-  all-left = record { most = omega arith; room = refl; begin = omega arith; same = refl }
-
+module _ {s numbers : List ℕ} {at k : ℕ} (left : HeaderLeft s numbers at k) where
   -- The next number, which is `f`, was read for its range.
-  module _ {numbers : List ℕ} {at k : ℕ} {range : Range} (f : Field) (left : HeaderLeft s numbers at k) (more : k < 14)
-      (its : range ≡ getD (headerRanges (getD numbers 0 0) (getD numbers 1 0)) k (0 to 0)) (read : fieldAnswer f ≡ fieldAt range (HeaderRange (k + 1)) s at) where
-    number-value : length (take k numbers) + 1 ≡ k + 1
-    number-value = ap (λ (n : ℕ). n + 1) (length-take-le k numbers (omega (arith, left .room)))
+  module _ (more : k < 14) {range : Range} (f : Field) (its : range ≡ getD (headerRanges (getD numbers 0 0) (getD numbers 1 0)) k (0 to 0))
+      (read : fieldAnswer f ≡ fieldAt range (HeaderRange (k + 1)) s at) where
+    its-next : range ≡ nextInHeader (take k numbers)
+    its-next = its ∙ sym (next-in-header numbers k (omega (arith, left .room)))
 
-    read-next : fieldAnswer f ≡ fieldAt (nextInHeader (take k numbers)) (HeaderRange (k + 1)) s at
-    read-next = rw (next-range numbers k (omega (arith, left .room)) ∙ sym its) read
+    own : outsideHeader (take k numbers) ≡ HeaderRange (k + 1)
+    own = ap (λ (n : ℕ). HeaderRange (n + 1)) (length-take-le k numbers (omega (arith, left .room)))
 
-    begin-kept : (n : Reading) → f ≡ Field.Number n → getD (set numbers k (n .value)) 1 0 ≤ 999999999999
+    begin-top : k ≡ 1 → range .high ≤ 999999999999
     unfolding headerRangesBy sharedRangesBy
-    begin-kept n e = go (ℕ-discrete 1 k)
-      where
-        go : Dec (1 ≡ k) → getD (set numbers k (n .value)) 1 0 ≤ 999999999999
-        go (yes same) =
-            let here : range ≡ 0 to 999999999999 = its ∙ rw (sym same) in
-            let fits = within-high (0 to 999999999999) (n .value) (rw here at (field-within range (HeaderRange (k + 1)) s at f n read e)) in
-            rw (sym same, getD-set-same numbers 1 (n .value) 0 (omega (arith, left .room))) fits
-        go (no other) = rw (getD-set-other numbers k 1 (n .value) 0 other) (left .begin)
+    begin-top e = rw (its, e) (omega arith)
 
-    left-next : readFourteen s ≡ readFields nextInHeader 3 (λ got. length got + 1) (suc (14 - (k + 1))) (take k numbers) s at
-    left-next =
-        let count : 14 - k ≡ suc (14 - (k + 1)) = omega arith in
-        left .same ∙ ap (λ (m : ℕ). readFields nextInHeader 3 (λ got. length got + 1) m (take k numbers) s at) count
-
-    pub one-less : {n : Reading} → f ≡ Field.Number n → HeaderLeft s (set numbers k (n .value)) (n .next) (k + 1)
-    one-less {n} e =
-        record {
-          most = omega arith;
-          room = length-set numbers k (n .value) ∙ left .room;
-          begin = begin-kept n e;
-          same =
-              rw (take-stored numbers k (n .value) (omega (arith, left .room)))
-              (left-next ∙ fields-more nextInHeader (λ got. length got + 1) (HeaderRange (k + 1)) (14 - (k + 1)) (take k numbers) s at f number-value read-next n e);
-        }
+    pub header-number : {n : Reading} → f ≡ Field.Number n → HeaderLeft s (set numbers k (n .value)) (n .next) (k + 1)
+    header-number e = one-less left more f its-next own read begin-top e
 
     pub header-refused : {r : Refusal} → f ≡ Field.Refused r → refusal r ≡ headerAt s
     unfolding headerAt readHeaderBy
-    header-refused {r} e =
-        rw (left-next ∙ fields-refused nextInHeader (λ got. length got + 1) (HeaderRange (k + 1)) (14 - (k + 1)) (take k numbers) s at f number-value read-next r e)
+    header-refused {r} e = rw (next-refused left more f its-next own read e)
 
   -- All fourteen were read. Kind 1 has no more.
-  module _ {numbers : List ℕ} {at k : ℕ} (left : HeaderLeft s numbers at k) (done : 14 ≤ k) where
-    all-read : readFourteen s ≡ accepted (record { numbers = numbers; next = at })
-    unfolding readFieldsBy
-    all-read =
-        let all : k ≡ 14 = omega (arith, left .most) in
-        left .same ∙ rw (all, take-all 14 numbers (omega (arith, left .room)))
-
+  module _ (done : 14 ≤ k) where
     pub header-plain : (getD numbers 0 0 ≡ 2 → ⊥) → accepted (record { header = headerWith numbers 1 (getD numbers 13 0); next = at }) ≡ headerAt s
     unfolding headerAt readHeaderBy readFieldsBy
-    header-plain other = simp (all-read, ne-eqb (getD numbers 0 0) 2 other)
+    header-plain other = simp (all-read left done, ne-eqb (getD numbers 0 0) 2 other)
 
     -- Kind 2 has one more.
     pub header-counted : getD numbers 0 0 ≡ 2 → headerFrom numbers s at ≡ headerAt s
     unfolding headerAt readHeaderBy headerFrom
-    header-counted two = rw (all-read, eq-eqb (getD numbers 0 0) 2 two)
+    header-counted two = rw (all-read left done, eq-eqb (getD numbers 0 0) 2 two)
+
+-- A kind 2 header has the numbers of its first fourteen.
+header-more : (first : List ℕ) (x : ℕ) → length first ≡ 14 → getD first 0 0 ≡ 2 → headerOf (first ++ x ∷ []) ≡ headerWith first (getD first 13 0) x
+header-more first x long kind =
+    subst (λ (l : List ℕ). headerOf (l ++ x ∷ []) ≡ headerWith l (getD l 13 0) x) (listed 0 14 first long) (rw (eq-eqb (getD first 0 0) 2 kind))
+
+-- The range of the fifteenth number.
+fifteenth : (first : List ℕ) → length first ≡ 14 → eqb (getD first 0 0) 2 ≡ true → nextInHeader first ≡ 0 to 256
+unfolding headerRangesBy sharedRangesBy
+fifteenth first long e = rw (long, e)
 
 -- The fifteenth number of a kind 2 header, which is `f`.
 module _ (s numbers : List ℕ) (at : ℕ) (f : Field) (long : length numbers ≡ 14) (two : getD numbers 0 0 ≡ 2)
@@ -156,9 +125,9 @@ module _ (s numbers : List ℕ) (at : ℕ) (f : Field) (long : length numbers �
       → accepted (record { header = headerWith numbers (getD numbers 13 0) (n .value); next = n .next }) ≡ headerFrom numbers s at
   unfolding headerFrom readFieldsBy
   count-read {n} e =
-      rw (fields-more nextInHeader (λ got. length got + 1) (HeaderRange 15) 0 numbers s at f number-fifteen read-fifteenth n e, header-more numbers (n .value) long two)
+      rw (fields-more nextInHeader outsideHeader (HeaderRange 15) 0 numbers s at f (ap HeaderRange number-fifteen) read-fifteenth n e, header-more numbers (n .value) long two)
 
   pub count-refused : {r : Refusal} → f ≡ Field.Refused r → refusal r ≡ headerFrom numbers s at
   unfolding headerFrom
   count-refused {r} e =
-      rw (fields-refused nextInHeader (λ got. length got + 1) (HeaderRange 15) 0 numbers s at f number-fifteen read-fifteenth r e)
+      rw (fields-refused nextInHeader outsideHeader (HeaderRange 15) 0 numbers s at f (ap HeaderRange number-fifteen) read-fifteenth r e)

@@ -1,5 +1,7 @@
+pub mod RangeLaws
 pub mod JobLaws
 pub mod FieldLaws
+pub mod ArrayLaws
 pub mod HeaderLaws
 pub mod HazardLaws
 pub mod RestLaws

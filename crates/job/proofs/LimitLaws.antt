@@ -2,14 +2,15 @@
 -- Assumes nothing.
 use Prim.Native.Nat.{ℕ, zero, suc, _+_, _≤_}
 use native.Mathlib.Omega.{arith}
-use mathlib.Core.Path.{_≡_, refl, sym, ap, _∙_}
-use mathlib.Core.Bool.{Bool, true, false}
+use mathlib.Core.Path.{_≡_, sym, ap, _∙_}
+use mathlib.Core.Bool.{true}
 use mathlib.Core.List.{List, [], _∷_, _++_}
 use lib.ListN.{length, getD}
-use lib.Dec.{leb, eqb}
+use lib.Dec.{leb}
 use borrow.Author.Tests.{le-leb}
-use Rattle.refusal.specs.Choice.{if_then_else_}
-use Rattle.refusal.specs.Answer.{accepted, unless-refuse}
+use Rattle.refusal.specs.Answer.{accepted}
+use Rattle.refusal.specs.Refusal.{unless-refuse}
+use Rattle.refusal.specs.declared.Refusal.the-variants as Row
 use Rattle.refusal.specs.Limits.{Limits}
 use Rattle.refusal.proofs.LimitLaws.{Wider}
 use Rattle.refusal.proofs.TestLaws.{and-intro}
@@ -18,8 +19,12 @@ use Rattle.number.specs.Number.{numberAtBy}
 use Rattle.number.proofs.LimitLaws.{numbers-alike}
 use Rattle.job.specs.declared.Header.{Header}
 use Rattle.job.specs.declared.Hazard.{Hazard}
-use Rattle.job.specs.Job.{Job, Range, _to_, within, sharedRangesBy, headerRangesBy, nextInHeaderBy, nextInHazard, Fields, readFieldsBy, moreNumbers, readHeaderBy, headerWith, headerOf, hazardOf, Hazards, readHazardsBy, readRestBy, readJobBy}
-use Rattle.job.proofs.JobLaws.{fields-in, fields-length, fields-kept, within-low, within-high, roadTop}
+use Rattle.job.specs.Job.{Job, Range, _to_, within, sharedRangesBy, headerRangesBy, nextInHeaderBy, nextInHazard, Fields, readFieldsBy, moreNumbers, readHeaderBy, headerOf, hazardOf, Hazards, readHazardsBy, readRestBy, readJobBy, outsideHeader, outsideHazard}
+use Rattle.job.specs.Writing.{headerNumbers}
+use Rattle.job.specs.Fits.{inRanges}
+use Rattle.job.proofs.RangeLaws.{within-low, within-high, ranges-high}
+use Rattle.job.proofs.JobLaws.{header-in, header-own}
+use Rattle.refusal.specs.declared.Refusal.{Refusal}
 
 -- A range that has whatever another has.
 abbrev Contains : Range → Range → Type 0
@@ -40,33 +45,33 @@ module _ {L M : Limits} (wider : Wider L M) where
   header-contains kind A (suc (suc zero)) = (omega arith, omega (arith, wider .station, wider .road))
   header-contains kind A (suc (suc (suc k))) = (omega arith, omega arith)
 
-  fields-alike : (rangeOf rangeOf′ : List ℕ → Range) → ((got : List ℕ) → Contains (rangeOf got) (rangeOf′ got)) → (number : ℕ) (valueOf : List ℕ → ℕ) (k : ℕ) (got s : List ℕ) (at : ℕ) (f : Fields)
-      → readFieldsBy L rangeOf number valueOf k got s at ≡ accepted f → readFieldsBy M rangeOf′ number valueOf k got s at ≡ accepted f
+  fields-alike : (rangeOf rangeOf′ : List ℕ → Range) → ((got : List ℕ) → Contains (rangeOf got) (rangeOf′ got)) → (outside : List ℕ → Refusal) (k : ℕ) (got s : List ℕ) (at : ℕ) (f : Fields)
+      → readFieldsBy L rangeOf outside k got s at ≡ accepted f → readFieldsBy M rangeOf′ outside k got s at ≡ accepted f
   unfolding readFieldsBy
-  fields-alike rangeOf rangeOf′ inner number valueOf zero got s at f e = e
-  fields-alike rangeOf rangeOf′ inner number valueOf (suc k) got s at f e =
+  fields-alike rangeOf rangeOf′ inner outside zero got s at f e = e
+  fields-alike rangeOf rangeOf′ inner outside (suc k) got s at f e =
       let b1 = bound (numberAtBy L s at) _ f e in
-      let b2 = bound (unless-refuse (within (rangeOf got) (b1 .first .value)) number (valueOf got)) _ f (b1 .rest) in
-      let t = tested _ number (valueOf got) _ (b2 .taken) in
+      let b2 = bound (unless-refuse (within (rangeOf got) (b1 .first .value)) (outside got)) _ f (b1 .rest) in
+      let t = tested _ (outside got) _ (b2 .taken) in
       rw (numbers-alike wider s at (b1 .first) (b1 .taken), contained (rangeOf got) (rangeOf′ got) (b1 .first .value) (inner got) t)
-      (fields-alike rangeOf rangeOf′ inner number valueOf k (got ++ b1 .first .value ∷ []) s (b1 .first .next) f (b2 .rest))
+      (fields-alike rangeOf rangeOf′ inner outside k (got ++ b1 .first .value ∷ []) s (b1 .first .next) f (b2 .rest))
 
   header-numbers-alike : (k : ℕ) (got s : List ℕ) (at : ℕ) (f : Fields)
-      → readFieldsBy L (nextInHeaderBy L) 3 (λ l. length l + 1) k got s at ≡ accepted f → readFieldsBy M (nextInHeaderBy M) 3 (λ l. length l + 1) k got s at ≡ accepted f
-  header-numbers-alike = fields-alike (nextInHeaderBy L) (nextInHeaderBy M) (λ got. header-contains (getD got 0 0) (getD got 1 0) (length got)) 3 (λ l. length l + 1)
+      → readFieldsBy L (nextInHeaderBy L) outsideHeader k got s at ≡ accepted f → readFieldsBy M (nextInHeaderBy M) outsideHeader k got s at ≡ accepted f
+  header-numbers-alike = fields-alike (nextInHeaderBy L) (nextInHeaderBy M) (λ got. header-contains (getD got 0 0) (getD got 1 0) (length got)) outsideHeader
 
   headers-alike : (s : List ℕ) (f : Fields) → readHeaderBy L s ≡ accepted f → readHeaderBy M s ≡ accepted f
   unfolding readHeaderBy
   headers-alike s f e =
-      let b = bound (readFieldsBy L (nextInHeaderBy L) 3 (λ l. length l + 1) 14 [] s 0) _ f e in
+      let b = bound (readFieldsBy L (nextInHeaderBy L) outsideHeader 14 [] s 0) _ f e in
       rw (header-numbers-alike 14 [] s 0 (b .first) (b .taken)) (header-numbers-alike (moreNumbers (b .first .numbers)) (b .first .numbers) s (b .first .next) f (b .rest))
 
   hazards-alike : (h : Header) (k : ℕ) (got : List Hazard) (s : List ℕ) (at : ℕ) (r : Hazards) → readHazardsBy L h k got s at ≡ accepted r → readHazardsBy M h k got s at ≡ accepted r
   unfolding readHazardsBy
   hazards-alike h zero got s at r e = e
   hazards-alike h (suc k) got s at r e =
-      let b1 = bound (readFieldsBy L (nextInHazard h) 4 (λ _. length got) 6 [] s at) _ r e in
-      rw (fields-alike (nextInHazard h) (nextInHazard h) (λ g. same-range (nextInHazard h g)) 4 (λ _. length got) 6 [] s at (b1 .first) (b1 .taken))
+      let b1 = bound (readFieldsBy L (nextInHazard h) (outsideHazard (length got)) 6 [] s at) _ r e in
+      rw (fields-alike (nextInHazard h) (nextInHazard h) (λ g. same-range (nextInHazard h g)) (outsideHazard (length got)) 6 [] s at (b1 .first) (b1 .taken))
       (hazards-alike h k (got ++ hazardOf (b1 .first .numbers) ∷ []) s (b1 .first .next) r (b1 .rest))
 
   rest-alike : (h : Header) (k : ℕ) (got : List Hazard) (s : List ℕ) (at : ℕ) (j : Job) → readRestBy L h k got s at ≡ accepted j → readRestBy M h k got s at ≡ accepted j
@@ -88,26 +93,13 @@ module _ {L M : Limits} (wider : Wider L M) where
   header-of-job s j e = let b = bound (readHeaderBy L s) _ j e in headers-alike s (b .first) (b .taken) ∙ sym (b .taken)
 
 -- Where the road of a job ends under limits.
-end-number : (l : List ℕ) → headerOf l .end ≡ getD l 2 0
-end-number l = go (eqb (getD l 0 0) 2)
-  where
-    go : (t : Bool) → (if t then headerWith l (getD l 13 0) (getD l 14 0) else headerWith l 1 (getD l 13 0)) .end ≡ getD l 2 0
-    go true = refl
-    go false = refl
-
 header-road : (L : Limits) (s : List ℕ) (f : Fields) → readHeaderBy L s ≡ accepted f → headerOf (f .numbers) .end ≤ L .lastStation
-unfolding readHeaderBy headerRangesBy sharedRangesBy
+unfolding headerRangesBy sharedRangesBy
 header-road L s f e =
-    let next = nextInHeaderBy L in
-    let b = bound (readFieldsBy L next 3 (λ l. length l + 1) 14 [] s 0) _ f e in
-    let first = b .first .numbers in
-    let f1 = fields-in L next 3 (λ l. length l + 1) 14 [] s 0 (b .first) (b .taken) in
-    let more = fields-in L next 3 (λ l. length l + 1) (moreNumbers first) first s (b .first .next) f (b .rest) in
-    let f3 = f1 .2 .2 in
-    let top = within-high ((f1 .2 .0 + 1) to roadTop L (f1 .2 .0)) (f3 .0) (f3 .1) in
-    let third : getD first 2 0 ≡ f3 .0 = fields-kept next 11 (f1 .0 ∷ f1 .2 .0 ∷ f3 .0 ∷ []) first (f3 .2) 2 (omega arith) in
-    let kept = fields-kept next (moreNumbers first) first (f .numbers) more 2 (omega (arith, fields-length next 14 [] first f1)) in
-    rw (end-number (f .numbers), kept, third) (omega (arith, top))
+    let h = headerOf (f .numbers) in
+    let i = header-in L s f e in
+    let fit : inRanges (nextInHeaderBy L) [] (headerNumbers h) ≡ true = rw (header-own (f .numbers) (i .size)) (i .fit) in
+    omega (arith, ranges-high (nextInHeaderBy L) (headerNumbers h) fit 2 (omega arith))
 
 pub road-by : (L : Limits) (s : List ℕ) (j : Job) → readJobBy L s ≡ accepted j → j .header .end ≤ L .lastStation
 unfolding readJobBy readRestBy
@@ -115,6 +107,6 @@ road-by L s j e =
     let b1 = bound (readHeaderBy L s) _ j e in
     let h = headerOf (b1 .first .numbers) in
     let b2 = bound (readHazardsBy L h (h .count) [] s (b1 .first .next)) _ j (b1 .rest) in
-    let b3 = bound (unless-refuse (leb (length s) (b2 .first .next)) 7 (b2 .first .next)) _ j (b2 .rest) in
+    let b3 = bound (unless-refuse (leb (length s) (b2 .first .next)) (Row.LeftOver (b2 .first .next))) _ j (b2 .rest) in
     let same : record { header = h; hazards = b2 .first .list } ≡ j = let z = b3 .rest in cc in
     omega (arith, header-road L s (b1 .first) (b1 .taken), ap (λ (k : Job). k .header .end) same)

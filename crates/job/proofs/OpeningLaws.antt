@@ -5,10 +5,11 @@ use native.Mathlib.Omega.{arith}
 use mathlib.Core.Path.{_≡_, sym, ap, _∙_}
 use mathlib.Core.List.{List, []}
 use lib.ListN.{length}
-use lib.Dec.{leb, eqb}
+use lib.Dec.{leb}
 use borrow.Author.Tests.{eq-eqb, ne-eqb}
-use Rattle.refusal.specs.Answer.{Answer, accepted, refused, _>>=_, unless-refuse}
-use Rattle.refusal.specs.Refusal.{refusal}
+use Rattle.refusal.specs.Answer.{Answer, accepted, refused, _>>=_}
+use Rattle.refusal.specs.Refusal.{unless-refuse, refusal}
+use Rattle.refusal.specs.declared.Refusal.the-variants as Row
 use Rattle.refusal.specs.declared.Refusal.{Refusal}
 use Rattle.refusal.proofs.AnswerLaws.{bound}
 use Rattle.job.specs.declared.Header.{Header}
@@ -22,7 +23,7 @@ rest-header : (h : Header) (k : ℕ) (got : List Hazard) (s : List ℕ) (at : �
 unfolding readRestBy
 rest-header h k got s at j e =
     let b1 = bound (readHazards h k got s at) _ j e in
-    let b2 = bound (unless-refuse (leb (length s) (b1 .first .next)) 7 (b1 .first .next)) _ j (b1 .rest) in
+    let b2 = bound (unless-refuse (leb (length s) (b1 .first .next)) (Row.LeftOver (b1 .first .next))) _ j (b1 .rest) in
     let same : record { header = h; hazards = b1 .first .list } ≡ j = let z = b2 .rest in cc in
     sym (ap (λ (i : Job). i .header) same)
 
@@ -36,9 +37,9 @@ module _ (s : List ℕ) where
   unfolding jobHeader
   header-done e = rw e
 
-  pub header-refused : (x : Refusal) → readJob s ≡ refusal x → jobHeader s ≡ refusal x
+  pub job-header-refused : (x : Refusal) → readJob s ≡ refusal x → jobHeader s ≡ refusal x
   unfolding jobHeader
-  header-refused x e = rw e
+  job-header-refused x e = rw e
 
   pub opening-unread : (x : Refusal) → headerAt s ≡ refusal x → readOpening s ≡ refusal x
   unfolding readOpening

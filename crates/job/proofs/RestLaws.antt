@@ -21,7 +21,7 @@ use Rattle.job.specs.declared.StoredJob.{StoredJob}
 use Rattle.job.specs.declared.read.JobRead.{JobRead}
 use Rattle.job.specs.declared.hazard_fields.HazardRead.{HazardRead}
 use Rattle.job.specs.declared.hazard_fields.HazardRead.the-variants as HazardRead
-use Rattle.job.specs.Job.{Job, named, unnamed, jobOf, hazardOf, nextInHazard, readFields, readHeader, readHazardsBy, readHazards, readRestBy, readRest, readJobBy, readJob}
+use Rattle.job.specs.Job.{Job, named, unnamed, hazardOf, nextInHazard, readFields, readHeader, readHazardsBy, readHazards, readRestBy, readRest, readJobBy, readJob, outsideHazard}
 use Rattle.job.specs.Reply.{headerReading, headerAt, hazardReading, hazardAt, hazardAnswer, unused, noJob, storedJob, jobAnswer}
 use Rattle.job.proofs.FieldLaws.{bind-assoc}
 
@@ -35,7 +35,7 @@ hazards-step : (h : Header) (k : ℕ) (got : List Hazard) (s : List ℕ) (at : �
     → readRest h (suc k) got s at ≡ hazardAt h (length got) s at >>= λ z. readRest h k (got ++ z .hazard ∷ []) s (z .next)
 unfolding readRestBy readHazardsBy hazardAt
 hazards-step h k got s at =
-    let m = readFields (nextInHazard h) 4 (λ _. length got) 6 [] s at in
+    let m = readFields (nextInHazard h) (outsideHazard (length got)) 6 [] s at in
     bind-assoc m (λ f. readHazards h k (got ++ hazardOf (f .numbers) ∷ []) s (f .next)) _ ∙ sym (bind-assoc m (λ f. accepted (hazardReading f)) (λ z. readRest h k (got ++ z .hazard ∷ []) s (z .next)))
 
 -- A hazard stored behind others.

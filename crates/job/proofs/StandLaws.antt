@@ -1,31 +1,33 @@
 -- Numbers that stand in the bytes, each in its range, are read, and the reading goes on behind them: where a row of the table holds, its refusal is returned.
 -- Assumes nothing.
-use Prim.Native.Nat.{ℕ, zero, suc, _+_, _-_, _<_}
+use Prim.Native.Nat.{ℕ, zero, suc, _+_, _-_, _≤_, _<_}
 use native.Mathlib.Omega.{arith}
 use native.Mathlib.Nat.{zero-add}
 use native.Mathlib.Decide.{decLt}
 use mathlib.Core.Path.{_≡_, refl, sym, ap, _∙_}
-use mathlib.Core.Bool.{Bool, true, false}
+use mathlib.Core.Bool.{Bool, true, false, _||_}
 use mathlib.Core.List.{List, [], _∷_, _++_, append-assoc, append-nil, List·Memᴰ, List·Memᴰ·head, List·Memᴰ·tail}
 use lib.ListN.{length, getD, drop, length-append}
 use lib.Seq.{drop-drop, drop-append-seam}
 use lib.Dec.{eqb}
-use borrow.Author.Tests.{lt-leb}
+use borrow.Author.Tests.{lt-leb, eqb-true}
 use Rattle.refusal.specs.Choice.{if_then_else_}
 use Rattle.refusal.specs.Answer.{accepted, refused}
-use Rattle.refusal.specs.Refusal.{refusal}
+use Rattle.refusal.specs.Refusal.{refusal, numberOf, valueOf}
 use Rattle.refusal.specs.declared.Refusal.{Refusal}
-use Rattle.refusal.specs.declared.Refusal.the-variants as row
+use Rattle.refusal.specs.declared.Refusal.the-variants as Row
 use Rattle.number.specs.declared.Read.{Read}
 use Rattle.number.specs.declared.Read.the-variants.{Ended, Malformed}
-use Rattle.number.specs.Number.{writeNumber, readNumber, readingOf, numberAtBy}
-use Rattle.number.proofs.NumberLaws.{read-number, after-number}
+use Rattle.number.specs.Number.{writeNumber, greatest, readNumber, readingOf, numberAtBy}
+use Rattle.number.proofs.ReadLaws.{read-number, after-number}
 use Rattle.number.proofs.FormLaws.{read-ended, ill-formed}
 use Rattle.job.specs.declared.Header.{Header}
 use Rattle.job.specs.declared.Hazard.{Hazard}
-use Rattle.job.specs.Job.{Range, nextInHeader, nextInHazard, readFieldsBy, readFields, moreNumbers, readHeaderBy, readHeader, readHazardsBy, readHazards, readRestBy, readRest, readJobBy, readJob}
-use Rattle.job.specs.Writing.{sharedNumbers, headerNumbers, hazardNumbers, hazardsNumbers, numbersOf, writeNumbers}
-use Rattle.job.specs.Rows.{Group, ofHeader, ofHazard, nextIn, numbersBefore, InRanges, Stands, behind, Next, Unread, OutOfRange, BytesAfter, ReadRow}
+use Rattle.job.specs.Job.{Range, headerWith, headerOf, nextInHeader, nextInHazard, readFieldsBy, readFields, moreNumbers, readHeaderBy, readHeader, readHazardsBy, readHazards, readRestBy, readRest, readJobBy, readJob, outsideHeader, outsideHazard, sharedNumbers}
+use Rattle.job.specs.Writing.{headerNumbers, hazardNumbers, hazardsNumbers, numbersOf, writeNumbers}
+use Rattle.job.specs.Fits.{inRanges, hazardInRange, HeaderFits, HazardFits}
+use Rattle.job.specs.Rows.{Group, ofHeader, ofHazard, nextIn, numbersBefore, BeforeFits, Stands, behind, Next, Unread, OutOfRange, BytesAfter, ReadRow}
+use Rattle.job.proofs.RangeLaws.{within-high, ranges-cons, ranges-split, header-split, header-bounds, header-most, hazard-most}
 
 pub numbers-append : (xs ys : List ℕ) → writeNumbers (xs ++ ys) ≡ writeNumbers xs ++ writeNumbers ys
 unfolding writeNumbers
@@ -36,72 +38,83 @@ numbers-append (x ∷ xs) ys = rw (numbers-append xs ys) (sym (append-assoc (wri
 after-part : (s : List ℕ) (at : ℕ) (w rest : List ℕ) → drop at s ≡ w ++ rest → drop (at + length w) s ≡ rest
 after-part s at w rest e = sym (drop-drop (length w) at s) ∙ rw e (drop-append-seam w rest)
 
--- Numbers of one group.
-fields-behind : (rangeOf : List ℕ → Range) (number : ℕ) (valueOf : List ℕ → ℕ) (m k : ℕ) (xs got s : List ℕ) (at : ℕ) (rest : List ℕ)
-    → m ≡ length xs + k → InRanges rangeOf got xs → drop at s ≡ writeNumbers xs ++ rest
-    → readFields rangeOf number valueOf m got s at ≡ readFields rangeOf number valueOf k (got ++ xs) s (at + length (writeNumbers xs))
-unfolding readFieldsBy writeNumbers
-fields-behind rangeOf number valueOf m k [] got s at rest size fit e =
+-- Numbers of one group, whose ranges do not reach beyond the greatest value.
+abbrev Within : (List ℕ → Range) → Type 0
+Within rangeOf = (got : List ℕ) → rangeOf got .high ≤ greatest
+
+fields-behind : (rangeOf : List ℕ → Range) → Within rangeOf → (outside : List ℕ → Refusal) (m k : ℕ) (xs got s : List ℕ) (at : ℕ) (rest : List ℕ)
+    → m ≡ length xs + k → inRanges rangeOf got xs ≡ true → drop at s ≡ writeNumbers xs ++ rest
+    → readFields rangeOf outside m got s at ≡ readFields rangeOf outside k (got ++ xs) s (at + length (writeNumbers xs))
+unfolding readFieldsBy writeNumbers inRanges
+fields-behind rangeOf most outside m k [] got s at rest size fit e =
     rw (append-nil got, (let z : at + 0 ≡ at = omega arith in z), (let z : m ≡ k = omega arith in z))
-fields-behind rangeOf number valueOf zero k (x ∷ xs) got s at rest size fit e = absurd (omega arith)
-fields-behind rangeOf number valueOf (suc m) k (x ∷ xs) got s at rest size fit e =
+fields-behind rangeOf most outside zero k (x ∷ xs) got s at rest size fit e = absurd (omega arith)
+fields-behind rangeOf most outside (suc m) k (x ∷ xs) got s at rest size fit e =
+    let fits = ranges-cons rangeOf got x xs fit in
     let here : drop at s ≡ writeNumber x ++ (writeNumbers xs ++ rest) = e ∙ append-assoc (writeNumber x) (writeNumbers xs) rest in
-    let later = fields-behind rangeOf number valueOf m k xs (got ++ x ∷ []) s (at + length (writeNumber x)) rest (omega arith) (fit .1) (after-number s at x (writeNumbers xs ++ rest) here) in
-    rw (read-number s at x (writeNumbers xs ++ rest) (fit .0 .1) here, fit .0 .0)
+    let later = fields-behind rangeOf most outside m k xs (got ++ x ∷ []) s (at + length (writeNumber x)) rest (omega arith) (fits .1) (after-number s at x (writeNumbers xs ++ rest) here) in
+    rw (read-number s at x (writeNumbers xs ++ rest) (omega (arith, within-high (rangeOf got) x (fits .0), most got)) here, fits .0)
     (later ∙ rw (append-assoc got (x ∷ []) xs, length-append (writeNumber x) (writeNumbers xs), (let z : at + (length (writeNumber x) + length (writeNumbers xs)) ≡ at + length (writeNumber x) + length (writeNumbers xs) = omega arith in z)))
 
-fields-written : (rangeOf : List ℕ → Range) (number : ℕ) (valueOf : List ℕ → ℕ) (xs s : List ℕ) (at : ℕ) (rest : List ℕ)
-    → InRanges rangeOf [] xs → drop at s ≡ writeNumbers xs ++ rest
-    → readFields rangeOf number valueOf (length xs) [] s at ≡ accepted (record { numbers = xs; next = at + length (writeNumbers xs) })
+fields-written : (rangeOf : List ℕ → Range) → Within rangeOf → (outside : List ℕ → Refusal) (xs s : List ℕ) (at : ℕ) (rest : List ℕ)
+    → inRanges rangeOf [] xs ≡ true → drop at s ≡ writeNumbers xs ++ rest
+    → readFields rangeOf outside (length xs) [] s at ≡ accepted (record { numbers = xs; next = at + length (writeNumbers xs) })
 unfolding readFieldsBy
-fields-written rangeOf number valueOf xs s at rest fit e = fields-behind rangeOf number valueOf (length xs) 0 xs [] s at rest (omega arith) fit e
+fields-written rangeOf most outside xs s at rest fit e = fields-behind rangeOf most outside (length xs) 0 xs [] s at rest (omega arith) fit e
 
 -- A header: fourteen numbers, and as many more as its kind has.
-header-behind : (first more s rest : List ℕ) → InRanges nextInHeader [] first → InRanges nextInHeader first more → length first ≡ 14 → moreNumbers first ≡ length more
+header-behind : (first more s rest : List ℕ) → inRanges nextInHeader [] first ≡ true → inRanges nextInHeader first more ≡ true → length first ≡ 14 → moreNumbers first ≡ length more
     → s ≡ writeNumbers (first ++ more) ++ rest → readHeader s ≡ accepted (record { numbers = first ++ more; next = length (writeNumbers (first ++ more)) })
 unfolding readHeaderBy readFieldsBy
 header-behind first more s rest fit later long count e =
     let one = writeNumbers first in
     let two = writeNumbers more in
     let here : s ≡ one ++ (two ++ rest) = e ∙ ap (λ (l : List ℕ). l ++ rest) (numbers-append first more) ∙ append-assoc one two rest in
-    let fourteen = fields-behind nextInHeader 3 (λ l. length l + 1) 14 0 first [] s 0 (two ++ rest) (omega (arith, long)) fit here in
-    let others = fields-behind nextInHeader 3 (λ l. length l + 1) (moreNumbers first) 0 more first s (0 + length one) rest (omega (arith, count)) later (after-part s 0 one (two ++ rest) here) in
+    let fourteen = fields-behind nextInHeader header-most outsideHeader 14 0 first [] s 0 (two ++ rest) (omega (arith, long)) fit here in
+    let others = fields-behind nextInHeader header-most outsideHeader (moreNumbers first) 0 more first s (0 + length one) rest (omega (arith, count)) later (after-part s 0 one (two ++ rest) here) in
     rw (fourteen, others, numbers-append first more, length-append one two, zero-add (length one))
 
--- Numbers in two parts.
-in-parts : (rangeOf : List ℕ → Range) (got xs ys : List ℕ) → InRanges rangeOf got (xs ++ ys) → InRanges rangeOf got xs × InRanges rangeOf (got ++ xs) ys
-in-parts rangeOf got [] ys f = (tt, rw (append-nil got) f)
-in-parts rangeOf got (x ∷ xs) ys f = let r = in-parts rangeOf (got ++ x ∷ []) xs ys (f .1) in ((f .0, r .0), rw (append-assoc got (x ∷ []) xs) at (r .1))
-
-pub header-written : (h : Header) (s rest : List ℕ) → InRanges nextInHeader [] (headerNumbers h) → s ≡ writeNumbers (headerNumbers h) ++ rest
+header-written : (h : Header) (s rest : List ℕ) → inRanges nextInHeader [] (headerNumbers h) ≡ true → s ≡ writeNumbers (headerNumbers h) ++ rest
     → readHeader s ≡ accepted (record { numbers = headerNumbers h; next = length (writeNumbers (headerNumbers h)) })
+unfolding inRanges
 header-written h s rest fit e = go (eqb (h .kind) 2) refl fit e
   where
     -- Its numbers after the thirteenth, where the kind was looked at.
     last : Bool → List ℕ
     last t = if t then h .panel ∷ h .count ∷ [] else h .count ∷ []
 
-    go : (t : Bool) → eqb (h .kind) 2 ≡ t → InRanges nextInHeader [] (sharedNumbers h ++ last t) → s ≡ writeNumbers (sharedNumbers h ++ last t) ++ rest
+    go : (t : Bool) → eqb (h .kind) 2 ≡ t → inRanges nextInHeader [] (sharedNumbers h ++ last t) ≡ true → s ≡ writeNumbers (sharedNumbers h ++ last t) ++ rest
         → readHeader s ≡ accepted (record { numbers = sharedNumbers h ++ last t; next = length (writeNumbers (sharedNumbers h ++ last t)) })
-    go true k f d = let parts = in-parts nextInHeader [] (sharedNumbers h ++ h .panel ∷ []) (h .count ∷ []) f in
-        header-behind (sharedNumbers h ++ h .panel ∷ []) (h .count ∷ []) s rest (parts .0) (parts .1) refl (rw k) d
-    go false k f d = header-behind (sharedNumbers h ++ h .count ∷ []) [] s rest f tt refl (rw k) d
+    go true k f d =
+        let first = sharedNumbers h ++ h .panel ∷ [] in
+        let more = h .count ∷ [] in
+        let parts = ranges-split nextInHeader [] first more f in
+        header-behind first more s rest (parts .0) (parts .1) refl (rw k) d
+    go false k f d = header-behind (sharedNumbers h ++ h .count ∷ []) [] s rest f refl refl (rw k) d
+
+-- Its numbers make it again.
+header-again : (h : Header) → HeaderFits h → headerOf (headerNumbers h) ≡ h
+header-again h fits = go (eqb (h .kind) 2) refl (header-split h fits .1)
+  where
+    go : (t : Bool) → eqb (h .kind) 2 ≡ t → t || eqb (h .panel) 1 ≡ true → headerOf (sharedNumbers h ++ (if eqb (h .kind) 2 then h .panel ∷ h .count ∷ [] else h .count ∷ [])) ≡ h
+    go true e plain = rw e
+    go false e plain = rw e (ap (λ (p : ℕ). headerWith (sharedNumbers h ++ h .count ∷ []) p (h .count)) (sym (eqb-true (h .panel) 1 plain)))
 
 -- Hazards.
-hazards-behind : (h : Header) (m k : ℕ) (zs got : List Hazard) (s : List ℕ) (at : ℕ) (rest : List ℕ)
-    → m ≡ length zs + k → ((z : Hazard) → List·Memᴰ z zs → InRanges (nextInHazard h) [] (hazardNumbers z)) → drop at s ≡ writeNumbers (hazardsNumbers zs) ++ rest
+hazards-behind : (h : Header) → Within (nextInHazard h) → (m k : ℕ) (zs got : List Hazard) (s : List ℕ) (at : ℕ) (rest : List ℕ)
+    → m ≡ length zs + k → ((z : Hazard) → List·Memᴰ z zs → HazardFits h z) → drop at s ≡ writeNumbers (hazardsNumbers zs) ++ rest
     → readHazards h m got s at ≡ readHazards h k (got ++ zs) s (at + length (writeNumbers (hazardsNumbers zs)))
-unfolding readHazardsBy hazardsNumbers writeNumbers
-hazards-behind h m k [] got s at rest size fit e =
+unfolding readHazardsBy hazardsNumbers writeNumbers hazardInRange
+hazards-behind h most m k [] got s at rest size fit e =
     rw (append-nil got, (let z : at + 0 ≡ at = omega arith in z), (let z : m ≡ k = omega arith in z))
-hazards-behind h zero k (z ∷ zs) got s at rest size fit e = absurd (omega arith)
-hazards-behind h (suc m) k (z ∷ zs) got s at rest size fit e =
+hazards-behind h most zero k (z ∷ zs) got s at rest size fit e = absurd (omega arith)
+hazards-behind h most (suc m) k (z ∷ zs) got s at rest size fit e =
     let one = writeNumbers (hazardNumbers z) in
     let others = writeNumbers (hazardsNumbers zs) in
     let both : writeNumbers (hazardNumbers z ++ hazardsNumbers zs) ≡ one ++ others = numbers-append (hazardNumbers z) (hazardsNumbers zs) in
     let here : drop at s ≡ one ++ (others ++ rest) = e ∙ ap (λ (l : List ℕ). l ++ rest) both ∙ append-assoc one others rest in
-    let first = fields-written (nextInHazard h) 4 (λ _. length got) (hazardNumbers z) s at (others ++ rest) (fit z (List·Memᴰ·head refl)) here in
-    let later = hazards-behind h m k zs (got ++ z ∷ []) s (at + length one) rest (omega arith) (λ y i. fit y (List·Memᴰ·tail i)) (after-part s at one (others ++ rest) here) in
+    let first = fields-written (nextInHazard h) most (outsideHazard (length got)) (hazardNumbers z) s at (others ++ rest) (fit z (List·Memᴰ·head refl)) here in
+    let later = hazards-behind h most m k zs (got ++ z ∷ []) s (at + length one) rest (omega arith) (λ y i. fit y (List·Memᴰ·tail i)) (after-part s at one (others ++ rest) here) in
     rw first
     (later ∙ rw (append-assoc got (z ∷ []) zs, both, length-append one others, (let w : at + (length one + length others) ≡ at + length one + length others = omega arith in w)))
 
@@ -115,6 +128,10 @@ bytes-behind {s} {g} {got} {rest} stands =
     let split : s ≡ writeNumbers (numbersBefore g ++ []) ++ (writeNumbers got ++ rest) = stands .bytes ∙ simp (append-nil, numbers-append, append-assoc) in
     rw split (drop-append-seam (writeNumbers (numbersBefore g ++ [])) (writeNumbers got ++ rest))
 
+group-most : (g : Group) → BeforeFits g → Within (nextIn g)
+group-most ofHeader b = header-most
+group-most (ofHazard h before) b = hazard-most h (header-bounds h (b .0) .road-end)
+
 pub job-behind : {s : List ℕ} {h : Header} {zs : List Hazard} {got rest : List ℕ} (k : ℕ) → Stands s (ofHazard h zs) got rest → h .count ≡ length zs + k
     → readJob s ≡ readRest h k zs s (behind (ofHazard h zs) [])
 unfolding readJobBy readRestBy numbersOf
@@ -122,53 +139,50 @@ job-behind {s} {h} {zs} {got} {rest} k stands count =
     let one = writeNumbers (headerNumbers h) in
     let others = writeNumbers (hazardsNumbers zs) in
     let split : s ≡ one ++ (others ++ (writeNumbers got ++ rest)) = stands .bytes ∙ simp (numbers-append, append-assoc) in
-    let header = header-written h s (others ++ (writeNumbers got ++ rest)) (stands .before .0) split in
-    let hazards = hazards-behind h (h .count) k zs [] s (length one) (writeNumbers got ++ rest) count (stands .before .2) (rw (zero-add (length one)) at (after-part s 0 one (others ++ (writeNumbers got ++ rest)) split)) in
+    let fits : HeaderFits h = stands .before .0 in
+    let header = header-written h s (others ++ (writeNumbers got ++ rest)) (header-split h fits .0) split in
+    let hazards = hazards-behind h (group-most (ofHazard h zs) (stands .before)) (h .count) k zs [] s (length one) (writeNumbers got ++ rest) count (stands .before .1) (rw (zero-add (length one)) at (after-part s 0 one (others ++ (writeNumbers got ++ rest)) split)) in
     let index : length one + length others ≡ behind (ofHazard h zs) [] = simp (append-nil, numbers-append, length-append) (omega arith) in
-    rw (header, stands .before .1, hazards, index)
+    rw (header, header-again h fits, hazards, index)
 
 -- Refusals
 
 -- What a number outside its range is refused with, by its group.
-abbrev pub outNumber : Group → ℕ
-outNumber ofHeader = 3
-outNumber (ofHazard h before) = 4
-
-abbrev pub outValue : Group → List ℕ → ℕ
-outValue ofHeader = λ got. length got + 1
-outValue (ofHazard h before) = λ got. length before
+abbrev pub outsideOf : Group → List ℕ → Refusal
+outsideOf ofHeader = outsideHeader
+outsideOf (ofHazard h before) = outsideHazard (length before)
 
 module _ {s : List ℕ} where
   -- Where a group's next number is refused, the job is.
   own-refused : {g : Group} {got rest : List ℕ} (n v size : ℕ) → length got < size → Stands s g got rest
-      → ((k : ℕ) → readFields (nextIn g) (outNumber g) (outValue g) (suc k) got s (behind g got) ≡ refused n v)
-      → readFields (nextIn g) (outNumber g) (outValue g) size [] s (behind g []) ≡ refused n v
+      → ((k : ℕ) → readFields (nextIn g) (outsideOf g) (suc k) got s (behind g got) ≡ refused n v)
+      → readFields (nextIn g) (outsideOf g) size [] s (behind g []) ≡ refused n v
   own-refused {g} {got} {rest} n v size more stands e =
       let left = size - suc (length got) in
-      fields-behind (nextIn g) (outNumber g) (outValue g) size (suc left) got [] s (behind g []) rest (omega arith) (stands .own) (bytes-behind stands)
+      fields-behind (nextIn g) (group-most g (stands .before)) (outsideOf g) size (suc left) got [] s (behind g []) rest (omega arith) (stands .own) (bytes-behind stands)
       ∙ rw (sym (behind-own g got)) (e left)
 
   -- Of the header, among its first fourteen numbers or behind them.
-  header-refused : {got rest : List ℕ} (n v : ℕ) → Next s ofHeader got rest
-      → ((k : ℕ) → readFields nextInHeader 3 (λ l. length l + 1) (suc k) got s (behind ofHeader got) ≡ refused n v) → readHeader s ≡ refused n v
+  own-header-refused : {got rest : List ℕ} (n v : ℕ) → Next s ofHeader got rest
+      → ((k : ℕ) → readFields nextInHeader outsideHeader (suc k) got s (behind ofHeader got) ≡ refused n v) → readHeader s ≡ refused n v
   unfolding readHeaderBy readFieldsBy writeNumbers
-  header-refused {got} {rest} n v next e = go (decLt (length got) 14)
+  own-header-refused {got} {rest} n v next e = go (decLt (length got) 14)
     where
-      fifteenth : (t : Bool) → eqb (getD got 0 0) 2 ≡ t → length got < (if t then 15 else 14) → (length got < 14 → ⊥) → readHeader s ≡ refused n v
-      fifteenth true two l many =
-          let all = fields-behind nextInHeader 3 (λ i. length i + 1) 14 0 got [] s 0 rest (omega arith) (next .stands .own) (bytes-behind (next .stands)) in
+      behind-fourteen : (t : Bool) → eqb (getD got 0 0) 2 ≡ t → length got < (if t then 15 else 14) → (length got < 14 → ⊥) → readHeader s ≡ refused n v
+      behind-fourteen true two l many =
+          let all = fields-behind nextInHeader header-most outsideHeader 14 0 got [] s 0 rest (omega arith) (next .stands .own) (bytes-behind (next .stands)) in
           rw (all, two, zero-add (length (writeNumbers got))) (e 0)
-      fifteenth false two l many = absurd (many l)
+      behind-fourteen false two l many = absurd (many l)
 
       go : Dec (length got < 14) → readHeader s ≡ refused n v
       go (yes few) = rw (own-refused n v 14 few (next .stands) e)
-      go (no many) = fifteenth (eqb (getD got 0 0) 2) refl (next .more) many
+      go (no many) = behind-fourteen (eqb (getD got 0 0) 2) refl (next .more) many
 
-  next-refused : (g : Group) {got rest : List ℕ} (n v : ℕ) → Next s g got rest
-      → ((k : ℕ) → readFields (nextIn g) (outNumber g) (outValue g) (suc k) got s (behind g got) ≡ refused n v) → readJob s ≡ refused n v
+  number-refused : (g : Group) {got rest : List ℕ} (n v : ℕ) → Next s g got rest
+      → ((k : ℕ) → readFields (nextIn g) (outsideOf g) (suc k) got s (behind g got) ≡ refused n v) → readJob s ≡ refused n v
   unfolding readJobBy readRestBy readHazardsBy
-  next-refused ofHeader n v next e = rw (header-refused n v next e)
-  next-refused (ofHazard h zs) n v next e =
+  number-refused ofHeader n v next e = rw (own-header-refused n v next e)
+  number-refused (ofHazard h zs) n v next e =
       job-behind (suc (h .count - suc (length zs))) (next .stands) (omega (arith, next .has)) ∙ rw (own-refused n v 6 (next .more) (next .stands) e)
 
   rest-behind : {g : Group} {got rest : List ℕ} → Stands s g got rest → drop (behind g got) s ≡ rest
@@ -178,12 +192,12 @@ module _ {s : List ℕ} where
       → Unread Fault s at → readJob s ≡ refused n at
   unfolding readFieldsBy numberAtBy
   unread-refused n c number fault w =
-      next-refused (w .group) n _ (w .next) (λ k. rw (fault (behind (w .group) (w .got)) (rw (rest-behind (w .next .stands)) (w .fault)), number (behind (w .group) (w .got))) (ap (refused n) (sym (w .begins))))
+      number-refused (w .group) n _ (w .next) (λ k. rw (fault (behind (w .group) (w .got)) (rw (rest-behind (w .next .stands)) (w .fault)), number (behind (w .group) (w .got))) (ap (refused n) (sym (w .begins))))
 
-  outside-refused : {g : Group} {got : List ℕ} → OutOfRange s g got → readJob s ≡ refused (outNumber g) (outValue g got)
+  outside-refused : {g : Group} {got : List ℕ} → OutOfRange s g got → readJob s ≡ refusal (outsideOf g got)
   unfolding readFieldsBy
   outside-refused {g} {got} w =
-      next-refused g (outNumber g) (outValue g got) (w .next) (λ k. rw (read-number s (behind g got) (w .number) (w .rest) (w .fits) (rest-behind (w .next .stands)), w .outside))
+      number-refused g (numberOf (outsideOf g got)) (valueOf (outsideOf g got)) (w .next) (λ k. rw (read-number s (behind g got) (w .number) (w .rest) (w .fits) (rest-behind (w .next .stands)), w .outside))
 
   after-refused : {at : ℕ} → BytesAfter s at → readJob s ≡ refused 7 at
   unfolding readRestBy readHazardsBy
@@ -193,12 +207,12 @@ module _ {s : List ℕ} where
       job-behind 0 (w .stands) (omega (arith, w .all)) ∙ rw (lt-leb (length s) (behind g []) longer, w .first)
 
 pub row-refused : (s : List ℕ) (r : Refusal) → ReadRow r s → readJob s ≡ refusal r
-row-refused s (row.Ended at) w = unread-refused 1 Ended (λ i. refl) (λ i. read-ended s i .1) w
-row-refused s (row.Malformed at) w = unread-refused 2 Malformed (λ i. refl) (λ i. ill-formed s i) w
-row-refused s (row.HeaderRange number) w = outside-refused (w .1) ∙ ap (refused 3) (sym (w .2))
-row-refused s (row.HazardRange index) w = outside-refused (w .3) ∙ ap (refused 4) (sym (w .4))
-row-refused s (row.NearBarrier index) w = absurd w
-row-refused s (row.LeftOver at) w = after-refused w
-row-refused s row.Argument w = absurd w
-row-refused s (row.Room needed) w = absurd w
-row-refused s row.Schedule w = absurd w
+row-refused s (Row.Ended at) w = unread-refused 1 Ended (λ i. refl) (λ i. read-ended s i .1) w
+row-refused s (Row.Malformed at) w = unread-refused 2 Malformed (λ i. refl) (λ i. ill-formed s i) w
+row-refused s (Row.HeaderRange number) w = outside-refused (w .1) ∙ ap (refused 3) (sym (w .2))
+row-refused s (Row.HazardRange index) w = outside-refused (w .3) ∙ ap (refused 4) (sym (w .4))
+row-refused s (Row.NearBarrier index) w = absurd w
+row-refused s (Row.LeftOver at) w = after-refused w
+row-refused s Row.Argument w = absurd w
+row-refused s (Row.Room needed) w = absurd w
+row-refused s Row.Schedule w = absurd w

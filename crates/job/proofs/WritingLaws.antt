@@ -2,118 +2,35 @@
 -- Assumes nothing.
 use Prim.Native.Nat.{ℕ, suc, _+_, _-_, _*_, _^_, _≤_, _<_}
 use native.Mathlib.Omega.{arith}
-use mathlib.Core.Path.{_≡_, refl, sym, ap, _∙_}
+use mathlib.Core.Path.{_≡_, refl, ap, _∙_}
 use mathlib.Core.Bool.{Bool, true, false}
 use mathlib.Core.List.{List, [], _∷_, _++_, append-nil, List·Memᴰ, List·Memᴰ·head, List·Memᴰ·tail}
 use lib.ListN.{length, length-append}
 use lib.Dec.{eqb}
-use borrow.Author.Tests.{le-leb, eqb-false}
+use borrow.Author.Tests.{le-leb}
 use Rattle.refusal.specs.Choice.{if_then_else_}
 use Rattle.refusal.specs.Answer.{accepted}
-use Rattle.refusal.proofs.TestLaws.{and-intro}
 use Rattle.refusal.specs.Limits.{limits}
-use Rattle.number.specs.Number.{writeNumberBy, writeNumber, greatest}
-use Rattle.number.proofs.NumberLaws.{length-below}
-pub use Rattle.number.proofs.NumberLaws.{Bytes}
+use Rattle.number.specs.Number.{writeNumberBy, writeNumber}
+use Rattle.number.proofs.WriteLaws.{length-below}
+pub use Rattle.number.proofs.ByteLaws.{Bytes}
 use Rattle.job.specs.declared.Header.{Header}
 use Rattle.job.specs.declared.Hazard.{Hazard}
-use Rattle.job.specs.Job.{Job, within, _to_, sharedRangesBy, headerRangesBy, hazardRanges, headerWith, headerOf, nextInHeader, nextInHazard, readHazardsBy, readJob, readRestBy}
-use Rattle.job.specs.Writing.{sharedNumbers, lastNumbers, headerNumbers, hazardNumbers, hazardsNumbers, numbersOf, writeNumbers, writeJob}
-use Rattle.job.specs.Rows.{ofHazard, InRanges, Stands, behind}
+use Rattle.job.specs.Job.{Job, readHazardsBy, readJob, readRestBy}
+use Rattle.job.specs.Writing.{lastNumbers, headerNumbers, hazardNumbers, hazardsNumbers, numbersOf, writeNumbers, writeJob}
+use Rattle.job.specs.Fits.{inRanges, HazardFits, JobFits}
+use Rattle.job.specs.Rows.{ofHazard, Stands, behind}
 use Rattle.job.proofs.StandLaws.{numbers-append, job-behind}
 pub use Rattle.job.proofs.RowLaws.{job-is-written}
-use Rattle.job.proofs.JobLaws.{roadTop, HeaderFits, HazardFits, JobFits, job-fits}
-
--- The tables
-
-in-range : (low high x : ℕ) → low ≤ x → x ≤ high → high ≤ greatest → (within (low to high) x ≡ true) × (x ≤ greatest)
-in-range low high x l h top = (and-intro (le-leb low x l) (le-leb x high h), omega arith)
-
-last-in : (h : Header) → HeaderFits h → InRanges nextInHeader (sharedNumbers h) (lastNumbers h)
-unfolding headerRangesBy sharedRangesBy
-last-in h f = go (eqb (h .kind) 2) refl
-  where
-    go : (t : Bool) → eqb (h .kind) 2 ≡ t → InRanges nextInHeader (sharedNumbers h) (if t then h .panel ∷ h .count ∷ [] else h .count ∷ [])
-    go true e = rw e (in-range 1 10000 (h .panel) (f .panel-low) (f .panel-top) (omega arith), (in-range 0 256 (h .count) (omega arith) (f .count) (omega arith), tt))
-    go false e = rw e (in-range 0 256 (h .count) (omega arith) (f .count) (omega arith), tt)
-
-pub header-in : (h : Header) → HeaderFits h → InRanges nextInHeader [] (headerNumbers h)
-unfolding headerRangesBy sharedRangesBy
-header-in h f = (
-  in-range 1 2 (h .kind) (f .kind-low) (f .kind-top) (omega arith),
-  (
-    in-range 0 (limits .lastStation - 1) (h .begin) (omega arith) (omega (arith, f .road, f .road-end)) (omega arith),
-    (
-      in-range (h .begin + 1) (roadTop limits (h .begin)) (h .end) (omega (arith, f .road)) (omega (arith, f .road-end, f .road-length)) (omega arith),
-      (
-        in-range 1 200000 (h .forward) (f .forward-low) (f .forward-top) (omega arith),
-        (
-          in-range 0 200000 (h .opposite) (omega arith) (f .opposite-top) (omega arith),
-          (
-            in-range 1 30000 (h .zone) (f .clear-low) (f .clear-top) (omega arith),
-            (
-              in-range 0 20000 (h .way) (omega arith) (f .way-top) (omega arith),
-              (
-                in-range 0 20000 (h .offset) (omega arith) (f .offset-top) (omega arith),
-                (
-                  in-range 1 5000 (h .deflection) (f .deflection-low) (f .deflection-top) (omega arith),
-                  (
-                    in-range 1 100 (h .along) (f .along-low) (f .along-top) (omega arith),
-                    (
-                      in-range 0 10 (h .across) (omega arith) (f .across-top) (omega arith),
-                      (
-                        in-range 0 100000 (h .straight) (omega arith) (f .straight-top) (omega arith),
-                        (in-range 0 200000 (h .continuity) (omega arith) (f .continuity-top) (omega arith), last-in h f),
-                      ),
-                    ),
-                  ),
-                ),
-              ),
-            ),
-          ),
-        ),
-      ),
-    ),
-  ),
-)
-
-hazard-in : (h : Header) (z : Hazard) → h .end ≤ limits .lastStation → HazardFits h z → InRanges (nextInHazard h) [] (hazardNumbers z)
-unfolding hazardRanges
-hazard-in h z road f = (
-  in-range 0 1 (z .side) (omega arith) (f .side) (omega arith),
-  (
-    in-range (h .begin) (h .end - 1) (z .start) (f .begins) (omega (arith, f .long, f .ends)) (omega arith),
-    (
-      in-range (z .start + 1) (h .end) (z .end) (omega (arith, f .long)) (f .ends) (omega arith),
-      (
-        in-range 0 60000 (z .near) (omega arith) (omega (arith, f .offsets, f .far-top)) (omega arith),
-        (
-          in-range (z .near) 60000 (z .far) (f .offsets) (f .far-top) (omega arith),
-          (in-range 1 6 (z .level) (f .level-low) (f .level-top) (omega arith), tt),
-        ),
-      ),
-    ),
-  ),
-)
-
--- A header's numbers make it again.
-pub header-again : (h : Header) → HeaderFits h → headerOf (headerNumbers h) ≡ h
-header-again h f = go (eqb (h .kind) 2) refl
-  where
-    go : (t : Bool) → eqb (h .kind) 2 ≡ t → headerOf (sharedNumbers h ++ (if eqb (h .kind) 2 then h .panel ∷ h .count ∷ [] else h .count ∷ [])) ≡ h
-    go true e = rw e
-    go false e =
-        let other = eqb-false (h .kind) 2 e in
-        let plain : h .panel ≡ 1 = f .panel-plain (omega (arith, f .kind-low, f .kind-top)) in
-        rw e (ap (λ (p : ℕ). headerWith (sharedNumbers h ++ h .count ∷ []) p (h .count)) (sym plain))
+use Rattle.job.proofs.RangeLaws.{HeaderBounds, header-bounds, HazardBounds, hazard-bounds}
+use Rattle.job.proofs.JobLaws.{job-fits}
 
 -- A job that fits reads back from its writing.
 pub job-written : (j : Job) → JobFits j → readJob (writeJob j) ≡ accepted j
-unfolding readRestBy readHazardsBy writeJob
+unfolding readRestBy readHazardsBy writeJob inRanges
 job-written j fits =
     let g = ofHazard (j .header) (j .hazards) in
-    let each : (z : Hazard) → List·Memᴰ z (j .hazards) → InRanges (nextInHazard (j .header)) [] (hazardNumbers z) = λ z m. hazard-in (j .header) z (fits .header .road-end) (fits .hazards .each z m) in
-    let stands : Stands (writeJob j) g [] [] = record { before = (header-in (j .header) (fits .header), header-again (j .header) (fits .header), each); own = tt; bytes = simp append-nil } in
+    let stands : Stands (writeJob j) g [] [] = record { before = (fits .header, fits .hazards .each); own = refl; bytes = simp append-nil } in
     job-behind 0 stands (omega (arith, fits .hazards .count)) ∙ rw (le-leb (length (writeJob j)) (behind g []) (omega (arith, ap length (stands .bytes), length-append (writeNumbers (numbersOf j ++ [])) [])))
 
 -- The length of a writing
@@ -123,7 +40,7 @@ number-within : (g n : ℕ) → n < 128 ^ suc g → length (writeNumber n) ≤ s
 unfolding writeNumberBy
 number-within g n h = length-below 6 g n h
 
-last-length : (h : Header) → HeaderFits h → length (writeNumbers (lastNumbers h)) ≤ 4
+last-length : (h : Header) → HeaderBounds h → length (writeNumbers (lastNumbers h)) ≤ 4
 unfolding writeNumbers
 last-length h f = go (eqb (h .kind) 2)
   where
@@ -137,7 +54,7 @@ last-length h f = go (eqb (h .kind) 2)
     go true = simp length-append (omega (arith, panel, count))
     go false = simp length-append (omega (arith, count))
 
-header-length : (h : Header) → HeaderFits h → length (writeNumbers (headerNumbers h)) ≤ 42
+header-length : (h : Header) → HeaderBounds h → length (writeNumbers (headerNumbers h)) ≤ 42
 unfolding writeNumbers
 header-length h f =
     let kind = number-within 0 (h .kind) (omega (arith, f .kind-top)) in
@@ -155,7 +72,7 @@ header-length h f =
     let continuity = number-within 2 (h .continuity) (omega (arith, f .continuity-top)) in
     simp length-append (omega (arith, last-length h f))
 
-hazard-length : (h : Header) (z : Hazard) → h .end ≤ limits .lastStation → HazardFits h z → length (writeNumbers (hazardNumbers z)) ≤ 20
+hazard-length : (h : Header) (z : Hazard) → h .end ≤ limits .lastStation → HazardBounds h z → length (writeNumbers (hazardNumbers z)) ≤ 20
 unfolding writeNumbers
 hazard-length h z road f =
     let side = number-within 0 (z .side) (omega (arith, f .side)) in
@@ -170,7 +87,7 @@ hazards-length : (h : Header) (zs : List Hazard) → h .end ≤ limits .lastStat
 unfolding hazardsNumbers writeNumbers
 hazards-length h [] road fits = omega arith
 hazards-length h (z ∷ zs) road fits =
-    let one = hazard-length h z road (fits z (List·Memᴰ·head refl)) in
+    let one = hazard-length h z road (hazard-bounds h z (fits z (List·Memᴰ·head refl))) in
     let others = hazards-length h zs road (λ y m. fits y (List·Memᴰ·tail m)) in
     rw (numbers-append (hazardNumbers z) (hazardsNumbers zs), length-append (writeNumbers (hazardNumbers z)) (writeNumbers (hazardsNumbers zs))) (omega arith)
 
@@ -178,8 +95,9 @@ hazards-length h (z ∷ zs) road fits =
 pub written-length : (j : Job) → JobFits j → length (writeJob j) ≤ 5162
 unfolding writeJob numbersOf
 written-length j fits =
+    let bounds = header-bounds (j .header) (fits .header) in
     rw (numbers-append (headerNumbers (j .header)) (hazardsNumbers (j .hazards)), length-append (writeNumbers (headerNumbers (j .header))) (writeNumbers (hazardsNumbers (j .hazards))))
-    (omega (arith, header-length (j .header) (fits .header), hazards-length (j .header) (j .hazards) (fits .header .road-end) (fits .hazards .each), fits .hazards .count, fits .header .count))
+    (omega (arith, header-length (j .header) bounds, hazards-length (j .header) (j .hazards) (bounds .road-end) (fits .hazards .each), fits .hazards .count, bounds .count))
 
 pub read-length : (s : List ℕ) (j : Job) → Bytes s → readJob s ≡ accepted j → length s ≤ 5162
 read-length s j b e = omega (arith, ap length (job-is-written s j b e), written-length j (job-fits s j e))

@@ -3,16 +3,19 @@
 use Prim.Native.Nat.{ℕ, zero, suc, _+_, _-_, min}
 use mathlib.Core.Bool.{Bool, _&&_}
 use mathlib.Core.List.{List, [], _∷_, _++_, map}
-use lib.ListN.{length, getD, take}
+use lib.ListN.{length, getD, take, set}
 use lib.Dec.{leb, eqb}
 use Rattle.refusal.specs.Choice.{if_then_else_}
-use Rattle.refusal.specs.Answer.{Answer, accepted, _>>=_, unless-refuse}
+use Rattle.refusal.specs.Answer.{Answer, accepted, _>>=_}
+use Rattle.refusal.specs.Refusal.{unless-refuse}
+use Rattle.refusal.specs.declared.Refusal.the-variants as Row
 use Rattle.refusal.specs.Limits.{Limits, limits}
 use Rattle.number.specs.Number.{numberAtBy}
 use Rattle.job.specs.declared.Header.{Header}
 use Rattle.job.specs.declared.Hazard.{Hazard}
 use Rattle.job.specs.declared.NamedHazard.{NamedHazard}
 use Rattle.job.specs.declared.StoredJob.{StoredJob}
+use Rattle.refusal.specs.declared.Refusal.{Refusal}
 
 pub record Job : Type 0 where
   pub header : Header
@@ -112,15 +115,15 @@ pub record Fields : Type 0 where
   pub numbers : List ℕ
   pub next : ℕ
 
--- "Numbers as they stand, each for 1, 2 and its range": k more after `got`. Out of range is the refusal `number`, with a value that the numbers before it give.
-unfoldable pub readFieldsBy : Limits → (rangeOf : List ℕ → Range) (number : ℕ) (valueOf : List ℕ → ℕ) (k : ℕ) (got s : List ℕ) (at : ℕ) → Answer Fields
-readFieldsBy L rangeOf number valueOf zero got s at = accepted (record { numbers = got; next = at })
-readFieldsBy L rangeOf number valueOf (suc k) got s at =
+-- "Numbers as they stand, each for 1, 2 and its range": k more after `got`. Out of range is the refusal `outside`, which the numbers before it give.
+unfoldable pub readFieldsBy : Limits → (rangeOf : List ℕ → Range) (outside : List ℕ → Refusal) (k : ℕ) (got s : List ℕ) (at : ℕ) → Answer Fields
+readFieldsBy L rangeOf outside zero got s at = accepted (record { numbers = got; next = at })
+readFieldsBy L rangeOf outside (suc k) got s at =
     numberAtBy L s at >>= λ x.
-    unless-refuse (within (rangeOf got) (x .value)) number (valueOf got) >>= λ _.
-    readFieldsBy L rangeOf number valueOf k (got ++ x .value ∷ []) s (x .next)
+    unless-refuse (within (rangeOf got) (x .value)) (outside got) >>= λ _.
+    readFieldsBy L rangeOf outside k (got ++ x .value ∷ []) s (x .next)
 
-abbrev pub readFields : (rangeOf : List ℕ → Range) (number : ℕ) (valueOf : List ℕ → ℕ) (k : ℕ) (got s : List ℕ) (at : ℕ) → Answer Fields
+abbrev pub readFields : (rangeOf : List ℕ → Range) (outside : List ℕ → Refusal) (k : ℕ) (got s : List ℕ) (at : ℕ) → Answer Fields
 readFields = readFieldsBy limits
 
 -- How many header numbers are still to come after the first fourteen, `got`, of which the first is the kind.
@@ -128,10 +131,13 @@ abbrev pub moreNumbers : (got : List ℕ) → ℕ
 moreNumbers got = headerSize (getD got 0 0) - 14
 
 -- Refusal 3 returns the header number, 1 to 14, of a kind 2 job to 15.
+abbrev pub outsideHeader : (got : List ℕ) → Refusal
+outsideHeader got = Row.HeaderRange (length got + 1)
+
 unfoldable pub readHeaderBy : Limits → (s : List ℕ) → Answer Fields
 readHeaderBy L s =
-    readFieldsBy L (nextInHeaderBy L) 3 (λ got. length got + 1) 14 [] s 0 >>= λ f.
-    readFieldsBy L (nextInHeaderBy L) 3 (λ got. length got + 1) (moreNumbers (f .numbers)) (f .numbers) s (f .next)
+    readFieldsBy L (nextInHeaderBy L) outsideHeader 14 [] s 0 >>= λ f.
+    readFieldsBy L (nextInHeaderBy L) outsideHeader (moreNumbers (f .numbers)) (f .numbers) s (f .next)
 
 abbrev pub readHeader : (s : List ℕ) → Answer Fields
 readHeader = readHeaderBy limits
@@ -160,25 +166,17 @@ headerWith l panel count = record {
 abbrev pub headerOf : List ℕ → Header
 headerOf l = if eqb (getD l 0 0) 2 then headerWith l (getD l 13 0) (getD l 14 0) else headerWith l 1 (getD l 13 0)
 
--- The same header with another barrier offset.
+-- The thirteen numbers that every kind has.
+abbrev pub sharedNumbers : Header → List ℕ
+sharedNumbers h =
+    h .kind ∷ h .begin ∷ h .end ∷ h .forward ∷ h .opposite ∷ h .zone ∷ h .way ∷ h .offset ∷ h .deflection ∷ h .along ∷ h .across ∷ h .straight ∷ h .continuity ∷ []
+
+-- A header with another hazard count, and one with another barrier offset.
+abbrev pub counted : Header → (count : ℕ) → Header
+counted h count = headerWith (sharedNumbers h) (h .panel) count
+
 abbrev pub withOffset : Header → (M : ℕ) → Header
-withOffset h M = record {
-  kind = h .kind;
-  begin = h .begin;
-  end = h .end;
-  forward = h .forward;
-  opposite = h .opposite;
-  zone = h .zone;
-  way = h .way;
-  offset = M;
-  deflection = h .deflection;
-  along = h .along;
-  across = h .across;
-  straight = h .straight;
-  continuity = h .continuity;
-  panel = h .panel;
-  count = h .count;
-}
+withOffset h M = headerWith (set (sharedNumbers h) 7 M) (h .panel) (h .count)
 
 abbrev pub hazardOf : List ℕ → Hazard
 hazardOf l = record { side = getD l 0 0; start = getD l 1 0; end = getD l 2 0; near = getD l 3 0; far = getD l 4 0; level = getD l 5 0 }
@@ -187,11 +185,15 @@ pub record Hazards : Type 0 where
   pub list : List Hazard
   pub next : ℕ
 
--- k more hazards after those in `got`. Refusal 4 returns the hazard's index from 0.
+-- Refusal 4 returns the hazard's index from 0.
+abbrev pub outsideHazard : (index : ℕ) (got : List ℕ) → Refusal
+outsideHazard index got = Row.HazardRange index
+
+-- k more hazards after those in `got`.
 unfoldable pub readHazardsBy : Limits → Header → (k : ℕ) (got : List Hazard) (s : List ℕ) (at : ℕ) → Answer Hazards
 readHazardsBy L h zero got s at = accepted (record { list = got; next = at })
 readHazardsBy L h (suc k) got s at =
-    readFieldsBy L (nextInHazard h) 4 (λ _. length got) 6 [] s at >>= λ z.
+    readFieldsBy L (nextInHazard h) (outsideHazard (length got)) 6 [] s at >>= λ z.
     readHazardsBy L h k (got ++ hazardOf (z .numbers) ∷ []) s (z .next)
 
 abbrev pub readHazards : Header → (k : ℕ) (got : List Hazard) (s : List ℕ) (at : ℕ) → Answer Hazards
@@ -202,7 +204,7 @@ readHazards = readHazardsBy limits
 unfoldable pub readRestBy : Limits → Header → (k : ℕ) (got : List Hazard) (s : List ℕ) (at : ℕ) → Answer Job
 readRestBy L h k got s at =
     readHazardsBy L h k got s at >>= λ r.
-    unless-refuse (leb (length s) (r .next)) 7 (r .next) >>= λ _.
+    unless-refuse (leb (length s) (r .next)) (Row.LeftOver (r .next)) >>= λ _.
     accepted (record { header = h; hazards = r .list })
 
 abbrev pub readRest : Header → (k : ℕ) (got : List Hazard) (s : List ℕ) (at : ℕ) → Answer Job

@@ -1,4 +1,5 @@
 pub mod Job
 pub mod Reply
 pub mod Writing
+pub mod Fits
 pub mod Rows

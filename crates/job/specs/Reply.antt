@@ -1,11 +1,11 @@
 -- What each reading function answers, and the part of the job's reading that it answers for.
 -- Assumes nothing.
-use Prim.Native.Nat.{ℕ, _+_}
+use Prim.Native.Nat.{ℕ}
 use mathlib.Core.List.{List, [], map}
-use lib.ListN.{length}
 use lib.Dec.{eqb}
-use Rattle.refusal.specs.Answer.{Answer, accepted, _>>=_, unless-refuse}
-use Rattle.refusal.specs.Refusal.{numberOf, valueOf, refusal, outcome}
+use Rattle.refusal.specs.Answer.{Answer, accepted, _>>=_}
+use Rattle.refusal.specs.Refusal.{unless-refuse, refusal, outcome}
+use Rattle.refusal.specs.declared.Refusal.the-variants as Row
 use Rattle.refusal.specs.Stored.{padded}
 use Rattle.refusal.specs.declared.Refusal.{Refusal}
 use Rattle.number.specs.Number.{Reading, numberAt}
@@ -22,13 +22,13 @@ use Rattle.job.specs.declared.hazard_fields.HazardRead.the-variants as H
 use Rattle.job.specs.declared.read.JobRead.{JobRead}
 use Rattle.job.specs.declared.read.Opening.{Opening}
 use Rattle.job.specs.declared.read.Opening.the-variants as Opening
-use Rattle.job.specs.Job.{Job, named, jobOf, Range, within, headerSize, Fields, nextInHeader, nextInHazard, readFields, readHeader, headerWith, headerOf, hazardOf, readJob}
+use Rattle.job.specs.Job.{Job, named, jobOf, Range, within, headerSize, Fields, nextInHeader, nextInHazard, readFields, readHeader, headerWith, headerOf, hazardOf, readJob, outsideHeader, outsideHazard}
 
 -- One number, for 1, 2 and its range; out of range is the refusal `outside`.
 unfoldable pub fieldAt : Range → (outside : Refusal) (s : List ℕ) (at : ℕ) → Answer Reading
 fieldAt range outside s at =
     numberAt s at >>= λ x.
-    unless-refuse (within range (x .value)) (numberOf outside) (valueOf outside) >>= λ _.
+    unless-refuse (within range (x .value)) outside >>= λ _.
     accepted x
 
 abbrev pub fieldAnswer : Field → Answer Reading
@@ -49,7 +49,7 @@ headerAt s = readHeader s >>= λ f. accepted (headerReading f)
 
 -- A kind 2 header whose first fourteen numbers are `got`: the fifteenth is read from byte index `at` on.
 unfoldable pub headerFrom : (got s : List ℕ) (at : ℕ) → Answer HeaderReading
-headerFrom got s at = readFields nextInHeader 3 (λ n. length n + 1) 1 got s at >>= λ f. accepted (headerReading f)
+headerFrom got s at = readFields nextInHeader outsideHeader 1 got s at >>= λ f. accepted (headerReading f)
 
 abbrev pub headerAnswer : HeaderRead → Answer HeaderReading
 headerAnswer (HeaderRead.Header h n) = accepted (record { header = h; next = n })
@@ -65,7 +65,7 @@ hazardReading f = record { hazard = hazardOf (f .numbers); next = f .next }
 
 -- The hazard with an index, from byte index `at` on.
 unfoldable pub hazardAt : Header → (index : ℕ) (s : List ℕ) (at : ℕ) → Answer HazardReading
-hazardAt h index s at = readFields (nextInHazard h) 4 (λ _. index) 6 [] s at >>= λ f. accepted (hazardReading f)
+hazardAt h index s at = readFields (nextInHazard h) (outsideHazard index) 6 [] s at >>= λ f. accepted (hazardReading f)
 
 abbrev pub hazardAnswer : HazardRead → Answer HazardReading
 hazardAnswer (HazardRead.Hazard z n) = accepted (record { hazard = z; next = n })
@@ -93,7 +93,7 @@ jobHeader s = readJob s >>= λ j. accepted (j .header)
 
 -- Job bytes that carry no hazard, read as a job is: a hazard count above 0 is 3 at that number, and returns it: 14, of a kind 2 job 15.
 unfoldable pub readOpening : (s : List ℕ) → Answer Header
-readOpening s = headerAt s >>= λ x. unless-refuse (eqb (x .header .count) 0) 3 (headerSize (x .header .kind)) >>= λ _. jobHeader s
+readOpening s = headerAt s >>= λ x. unless-refuse (eqb (x .header .count) 0) (Row.HeaderRange (headerSize (x .header .kind))) >>= λ _. jobHeader s
 
 abbrev pub openingAnswer : Opening → Answer Header
 openingAnswer (Opening.Header h) = accepted h

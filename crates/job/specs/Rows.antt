@@ -3,17 +3,18 @@
 use Prim.Native.Nat.{ℕ, _+_, _≤_, _<_}
 use mathlib.Core.Path.{_≡_}
 use mathlib.Core.Bool.{true, false}
-use mathlib.Core.List.{List, [], _∷_, _++_, List·Memᴰ}
+use mathlib.Core.List.{List, [], _++_, List·Memᴰ}
 use lib.ListN.{length, getD}
 use Rattle.refusal.specs.declared.Refusal.{Refusal}
 use Rattle.refusal.specs.declared.Refusal.the-variants.{Ended, Malformed, HeaderRange, HazardRange, NearBarrier, LeftOver, Argument, Room, Schedule, Ranges, Name, State, Full, Lengths, Tries}
-use Rattle.refusal.specs.declared.Refusal.the-variants as Refusal
+use Rattle.refusal.specs.declared.Refusal.the-variants as Row
 use Rattle.number.specs.Number.{writeNumber, greatest}
 use Rattle.number.specs.Form.{EndsInside, IllFormed}
 use Rattle.job.specs.declared.Header.{Header}
 use Rattle.job.specs.declared.Hazard.{Hazard}
-use Rattle.job.specs.Job.{Job, Range, within, headerSize, headerOf, nextInHeader, nextInHazard}
-use Rattle.job.specs.Writing.{headerNumbers, hazardNumbers, numbersOf, writeNumbers}
+use Rattle.job.specs.Job.{Job, Range, within, headerSize, nextInHeader, nextInHazard}
+use Rattle.job.specs.Writing.{numbersOf, writeNumbers}
+use Rattle.job.specs.Fits.{inRanges, HeaderFits, HazardFits}
 
 -- A place in the job
 
@@ -41,20 +42,15 @@ abbrev pub numbersBefore : Group → List ℕ
 numbersBefore ofHeader = []
 numbersBefore (ofHazard h before) = numbersOf (record { header = h; hazards = before })
 
--- Numbers after `got`, each in its range and within the greatest value.
-abbrev pub InRanges : (List ℕ → Range) → (got numbers : List ℕ) → Type 0
-InRanges rangeOf got [] = Unit {0}
-InRanges rangeOf got (x ∷ xs) = ((within (rangeOf got) x ≡ true) × (x ≤ greatest)) × InRanges rangeOf (got ++ x ∷ []) xs
-
-abbrev pub BeforeInRanges : Group → Type 0
-BeforeInRanges ofHeader = Unit {0}
-BeforeInRanges (ofHazard h before) =
-    InRanges nextInHeader [] (headerNumbers h) × (headerOf (headerNumbers h) ≡ h) × ((z : Hazard) → List·Memᴰ z before → InRanges (nextInHazard h) [] (hazardNumbers z))
+-- The header and hazards before a group fit.
+abbrev pub BeforeFits : Group → Type 0
+BeforeFits ofHeader = Unit {0}
+BeforeFits (ofHazard h before) = HeaderFits h × ((z : Hazard) → List·Memᴰ z before → HazardFits h z)
 
 -- The bytes begin with the numbers before a group and `got` of its own, each in shortest form and in its range; `rest` follows.
 pub record Stands (s : List ℕ) (g : Group) (got rest : List ℕ) : Type 0 where
-  pub before : BeforeInRanges g
-  pub own : InRanges (nextIn g) [] got
+  pub before : BeforeFits g
+  pub own : inRanges (nextIn g) [] got ≡ true
   pub bytes : s ≡ writeNumbers (numbersBefore g ++ got) ++ rest
 
 -- The byte index behind them.
@@ -114,7 +110,7 @@ ReadRow Schedule s = ⊥
 ReadRow Ranges s = ⊥
 ReadRow (Name name) s = ⊥
 ReadRow State s = ⊥
-ReadRow Refusal.Hazard s = ⊥
+ReadRow Row.Hazard s = ⊥
 ReadRow Full s = ⊥
 ReadRow Lengths s = ⊥
 ReadRow Tries s = ⊥

@@ -7,13 +7,9 @@ use Rattle.refusal.specs.Choice.{if_then_else_}
 use Rattle.number.specs.Number.{writeNumber}
 use Rattle.job.specs.declared.Header.{Header}
 use Rattle.job.specs.declared.Hazard.{Hazard}
-use Rattle.job.specs.Job.{Job}
+use Rattle.job.specs.Job.{Job, sharedNumbers}
 
--- The numbers of the header table: the thirteen that every kind has, and those after G, by kind.
-abbrev pub sharedNumbers : Header → List ℕ
-sharedNumbers h =
-    h .kind ∷ h .begin ∷ h .end ∷ h .forward ∷ h .opposite ∷ h .zone ∷ h .way ∷ h .offset ∷ h .deflection ∷ h .along ∷ h .across ∷ h .straight ∷ h .continuity ∷ []
-
+-- The numbers of the header table: behind the thirteen that every kind has those after G, by kind.
 abbrev pub lastNumbers : Header → List ℕ
 lastNumbers h = if eqb (h .kind) 2 then h .panel ∷ h .count ∷ [] else h .count ∷ []
 

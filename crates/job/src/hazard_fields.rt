@@ -1,11 +1,14 @@
 // A hazard's six numbers.
 use super::Hazard;
 use super::Header;
+use super::field::Bounds;
 use super::field::Field;
 use super::field::read_field;
 use refusal::Refusal;
 ghost use mathlib.Core.Path.{_≡_};
 ghost use Prim.Native.Nat.{_<_};
+ghost use lib.ListN.{getD};
+ghost use Rattle.job.specs.Job.{_to_, hazardRanges};
 ghost use Rattle.job.specs.Reply.{hazardAt, hazardAnswer};
 
 pub enum HazardRead {
@@ -14,45 +17,45 @@ pub enum HazardRead {
     Refused(Refusal),
 }
 
+// The range of the hazard number behind k others, where the hazard begins at start, at the near offset near; these go for the numbers behind them.
+fn hazard_range(k: usize, header: Header, start: u64, near: u64) -> Bounds
+    requires { ⌜ k < 6 ⌝ }
+    requires { ⌜ start < header .end ⌝ }
+    ensures { λ r. ⌜ (r .0) to (r .1) ≡ getD (hazardRanges (header .begin) (header .end) start near) k (0 to 0) ⌝ }
+{
+    let lows = [0, header.begin, start + 1, 0, near, 1];
+    let highs = [1, header.end - 1, header.end, 60000, 60000, 6];
+    Bounds(lows[k], highs[k])
+}
+
 // The hazard with this index, whose first number begins at byte index first.
 pub fn read_hazard(s: &[u8], first: usize, header: Header, index: usize) -> HazardRead
     requires { ⌜ 0 < header .end ⌝ }
     ensures { λ r. ⌜ hazardAnswer r ≡ hazardAt header index (now (s .entry)) first ⌝ }
 {
-    let outside = Refusal::HazardRange(index);
-    let side = match read_field(s, first, 0, 1, outside) {
-        Field::Number(reading) => reading,
-        Field::Refused(refusal) => return HazardRead::Refused(refusal),
-    };
-    let start = match read_field(s, side.next, header.begin, header.end - 1, outside) {
-        Field::Number(reading) => reading,
-        Field::Refused(refusal) => return HazardRead::Refused(refusal),
-    };
-    let end = match read_field(s, start.next, start.value + 1, header.end, outside) {
-        Field::Number(reading) => reading,
-        Field::Refused(refusal) => return HazardRead::Refused(refusal),
-    };
-    let near = match read_field(s, end.next, 0, 60000, outside) {
-        Field::Number(reading) => reading,
-        Field::Refused(refusal) => return HazardRead::Refused(refusal),
-    };
-    let far = match read_field(s, near.next, near.value, 60000, outside) {
-        Field::Number(reading) => reading,
-        Field::Refused(refusal) => return HazardRead::Refused(refusal),
-    };
-    let level = match read_field(s, far.next, 1, 6, outside) {
-        Field::Number(reading) => reading,
-        Field::Refused(refusal) => return HazardRead::Refused(refusal),
-    };
+    let mut numbers = [0u64; 6];
+    let mut at = first;
+    let mut k: usize = 0;
+    while k < 6 {
+        let range = hazard_range(k, header, numbers[1], numbers[3]);
+        match read_field(s, at, range.0, range.1, Refusal::HazardRange(index)) {
+            Field::Number(reading) => {
+                numbers[k] = reading.value;
+                at = reading.next;
+            }
+            Field::Refused(refusal) => return HazardRead::Refused(refusal),
+        }
+        k += 1;
+    }
     HazardRead::Hazard {
         hazard: Hazard {
-            side: side.value as u8,
-            start: start.value,
-            end: end.value,
-            near: near.value as u16,
-            far: far.value as u16,
-            level: level.value as u8,
+            side: numbers[0] as u8,
+            start: numbers[1],
+            end: numbers[2],
+            near: numbers[3] as u16,
+            far: numbers[4] as u16,
+            level: numbers[5] as u8,
         },
-        next: level.next,
+        next: at,
     }
 }

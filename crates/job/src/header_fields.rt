@@ -1,5 +1,6 @@
 // The header's numbers: fourteen, of a kind 2 job fifteen.
 use super::Header;
+use super::field::Bounds;
 use super::field::Field;
 use super::field::read_field;
 use super::road_top;
@@ -15,9 +16,6 @@ pub enum HeaderRead {
     Header { header: Header, next: usize },
     Refused(Refusal),
 }
-
-// The ends of a range, both included: low, then high.
-pub struct Bounds(pub u64, pub u64);
 
 // The header table's ranges of kind 2, where the road begins at 0. Kind 1 has no panel length, and its hazard count is number 14.
 const RANGES: [Bounds; 15] = [

@@ -1,4 +1,3 @@
 pub mod UnusedLaws
-pub mod PartLaws
 pub mod StateLaws
 pub mod WholeLaws

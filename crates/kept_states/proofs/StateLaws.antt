@@ -2,14 +2,19 @@
 -- Assumes nothing.
 use Prim.Native.Nat.{ℕ, zero, suc, _≤_, _<_}
 use native.Mathlib.Omega.{arith}
-use mathlib.Core.Path.{_≡_, refl, ap, _∙_}
+use native.Mathlib.Decide.{ℕ-discrete}
+use mathlib.Core.Path.{_≡_, refl, sym, ap, _∙_}
 use mathlib.Core.Logic.{_⊎_, inl, inr}
-use mathlib.Core.Bool.{Bool, true, _&&_}
+use mathlib.Core.Bool.{Bool, true, false, _&&_, or-false}
 use mathlib.Core.List.{List, [], _∷_}
-use lib.ListN.{length, replicate, getD}
-use lib.Dec.{eqb}
-use borrow.Author.Tests.{eqb-true}
-use Rattle.refusal.specs.Choice.{allOf}
+use lib.ListN.{length, replicate, getD, set, length-set, List·getD-eq-default}
+use lib.Seq.{getD-set-same, getD-set-other}
+use lib.Dec.{leb, eqb}
+use borrow.Author.Tests.{eqb-true, eq-eqb, ne-eqb}
+use Rattle.refusal.specs.Choice.{if_then_else_, allOf}
+use Rattle.refusal.specs.Answer.{accepted}
+use Rattle.refusal.specs.declared.Refusal.the-variants as Row
+use Rattle.refusal.proofs.AnswerLaws.{tested, passed}
 use Rattle.refusal.proofs.TestLaws.{and-left, and-right, and-intro, or-cases, or-left}
 use Rattle.job.specs.declared.Header.{Header}
 use Rattle.job.specs.declared.StoredJob.{StoredJob}
@@ -19,7 +24,7 @@ use Rattle.open_memory.proofs.RuleLaws.{unused-are}
 use Rattle.open_job.proofs.LayoutLaws.{unused-all}
 use Rattle.kept_states.specs.declared.KeptState.{KeptState}
 use Rattle.kept_states.specs.declared.OpenStates.{OpenStates}
-use Rattle.kept_states.specs.States.{mostKept, nothingKept, stateOf, isUsed, isNothingKept, keptSound, keptStates, keptUnder, statesFrom, areOpenStates}
+use Rattle.kept_states.specs.States.{mostKept, greatestStateNumber, nothingKept, keptFrom, stateOf, isUsed, isNothingKept, keptSound, keptStates, keptUnder, statesFrom, areOpenStates, testState}
 
 -- Put together and taken apart
 
@@ -38,19 +43,21 @@ kept-states a (k0 ∷ k1 ∷ k2 ∷ k3 ∷ k4 ∷ k5 ∷ k6 ∷ k7 ∷ k8 ∷ ks
 pub kept-under : (a : StoredJob) (ks : List KeptState) → length ks ≡ mostKept → (number : ℕ) → keptUnder (statesFrom a ks) number ≡ getD ks number nothingKept
 kept-under a ks e number = ap (λ (l : List KeptState). getD l number nothingKept) (kept-states a ks e)
 
+-- One of them replaced.
+pub replaced : (ks : List KeptState) (n k : ℕ) (new : KeptState) → (n ≡ k → k < length ks) → getD (set ks n new) k nothingKept ≡ (if eqb n k then new else getD ks k nothingKept)
+replaced ks n k new within = go (ℕ-discrete n k)
+  where
+    go : Dec (n ≡ k) → getD (set ks n new) k nothingKept ≡ (if eqb n k then new else getD ks k nothingKept)
+    go (yes q) = rw (eq-eqb n k q) (ap (λ (x : ℕ). getD (set ks x new) k nothingKept) q ∙ getD-set-same ks k new nothingKept (within q))
+    go (no q) = rw (ne-eqb n k q) (getD-set-other ks n k new nothingKept (λ r. q (sym r)))
+
+pub kept-set : (m : OpenStates) (n number : ℕ) (new : KeptState) → n ≤ 7 → keptUnder (statesFrom (m .now) (set (keptStates m) n new)) number ≡ (if eqb n number then new else keptUnder m number)
+kept-set m n number new most = kept-under (m .now) (set (keptStates m) n new) (length-set (keptStates m) n new) number ∙ replaced (keptStates m) n number new (λ q. omega arith)
+
 -- Memory is what it has now, and under each number.
 pub states-same : (m n : OpenStates) → m .now ≡ n .now → ((number : ℕ) → keptUnder m number ≡ keptUnder n number) → m ≡ n
-states-same m n now kept = λ i. record {
-  now = now i;
-  kept0 = kept 0 i;
-  kept1 = kept 1 i;
-  kept2 = kept 2 i;
-  kept3 = kept 3 i;
-  kept4 = kept 4 i;
-  kept5 = kept 5 i;
-  kept6 = kept 6 i;
-  kept7 = kept 7 i;
-}
+states-same m n now kept =
+    λ i. record { now = now i; kept0 = kept 0 i; kept1 = kept 1 i; kept2 = kept 2 i; kept3 = kept 3 i; kept4 = kept 4 i; kept5 = kept 5 i; kept6 = kept 6 i; kept7 = kept 7 i }
 
 pub none-under : (number : ℕ) → getD (replicate mostKept nothingKept) number nothingKept ≡ nothingKept
 none-under number = go mostKept number
@@ -62,18 +69,21 @@ none-under number = go mostKept number
 
 -- Nothing above the greatest number.
 pub none-above : (m : OpenStates) (number : ℕ) → 7 < number → keptUnder m number ≡ nothingKept
-none-above m number l = beyond (keptStates m) number (omega arith)
-  where
-    beyond : (ks : List KeptState) (i : ℕ) → length ks ≤ i → getD ks i nothingKept ≡ nothingKept
-    beyond [] i l = refl
-    beyond (k ∷ ks) zero l = absurd (omega arith)
-    beyond (k ∷ ks) (suc i) l = beyond ks i (omega arith)
+none-above m number l = List·getD-eq-default (keptStates m) nothingKept {n = number} (omega arith)
 
 -- The test
 
 pub nothing-sound : (h : Header) → keptSound h nothingKept ≡ true
 unfolding keptSound isNothingKept
 nothing-sound h = or-left _ (unused-all mostStanding)
+
+pub not-used : isUsed nothingKept ≡ false
+unfolding isUsed
+not-used = refl
+
+pub kept-used : (a : StoredJob) → isUsed (keptFrom a) ≡ true
+unfolding isUsed
+kept-used a = refl
 
 module _ (k : KeptState) where
   pub nothing-is : length (k .hazards) ≡ mostStanding → isNothingKept k ≡ true → k ≡ nothingKept
@@ -84,6 +94,21 @@ module _ (k : KeptState) where
       let count : k .count ≡ 0 = eqb-true _ _ (and-right (eqb (k .used) 0) (eqb (k .count) 0) numbers) in
       let hazards : k .hazards ≡ replicate mostStanding unused = unused-are (k .hazards) (and-right (eqb (k .used) 0 && eqb (k .count) 0) (allOf isUnused (k .hazards)) e) ∙ ap (λ (n : ℕ). replicate n unused) size in
       λ i. record { used = used i; count = count i; hazards = hazards i }
+
+  -- A state that is kept is not nothing; so the test is one of the two, by whether it is used.
+  used-not-nothing : isUsed k ≡ true → isNothingKept k ≡ false
+  unfolding isUsed isNothingKept
+  used-not-nothing e =
+      let one : k .used ≡ 1 = eqb-true _ _ e in
+      rw (ne-eqb (k .used) 0 (λ q. omega arith))
+
+  pub sound-used : (h : Header) → isUsed k ≡ true → isOpenJob (stateOf h k) ≡ keptSound h k
+  unfolding keptSound
+  sound-used h e = rw (used-not-nothing e, e)
+
+  pub sound-unused : (h : Header) → isUsed k ≡ false → isNothingKept k ≡ keptSound h k
+  unfolding keptSound
+  sound-unused h e = rw e (sym (or-false (isNothingKept k)))
 
   -- Nothing is kept, or an open job is.
   pub sound-cases : (h : Header) → keptSound h k ≡ true → (isNothingKept k ≡ true) ⊎ ((isUsed k ≡ true) × (isOpenJob (stateOf h k) ≡ true))
@@ -120,3 +145,7 @@ module _ (m : OpenStates) where
   pub each-sound : areOpenStates m ≡ true → (number : ℕ) → keptSound (m .now .header) (keptUnder m number) ≡ true
   unfolding areOpenStates
   each-sound e = all-each (keptSound (m .now .header)) (nothing-sound (m .now .header)) (keptStates m) (and-right (isOpenJob (m .now)) (allOf (keptSound (m .now .header)) (keptStates m)) e)
+
+  -- A state number that passes the test.
+  pub number-most : (number : ℕ) (u : Unit {0}) → testState m number ≡ accepted u → leb number greatestStateNumber ≡ true
+  number-most number u e = tested (leb number greatestStateNumber) Row.State u (passed (areOpenStates m) (Row.HeaderRange 0) _ u e .1)

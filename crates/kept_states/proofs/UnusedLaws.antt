@@ -2,63 +2,53 @@
 -- Assumes nothing.
 use Prim.Native.Nat.{ℕ, suc, _+_, _*_, _≤_, _<_}
 use native.Mathlib.Omega.{arith}
-use native.Mathlib.Decide.{ℕ-discrete}
-use mathlib.Core.Path.{_≡_, refl, sym, ap, ap₂, _∙_}
-use mathlib.Core.Bool.{Bool, true, false, _&&_, and-true}
+use mathlib.Core.Path.{_≡_, refl, sym, ap, _∙_}
+use mathlib.Core.Bool.{Bool, true, false, _&&_, and-true, and-assoc}
 use mathlib.Core.List.{List, [], _∷_, _++_}
 use lib.ListN.{length, drop, getD, drop-of-length-le}
 use lib.Seq.{drop-cons}
 use lib.Dec.{eqb}
-use borrow.Author.Tests.{eq-eqb, ne-eqb}
+use borrow.Author.Tests.{eq-eqb, eqb-true}
 use Rattle.refusal.specs.Choice.{allOf}
+use Rattle.refusal.proofs.TestLaws.{and-left, and-right, and-intro}
 use Rattle.job.specs.declared.NamedHazard.{NamedHazard}
 use Rattle.job.specs.Reply.{unused}
 use Rattle.open_memory.specs.Memory.{isUnused}
-use Rattle.open_memory.proofs.RangeLaws.{and-assoc}
+use Rattle.open_memory.proofs.RuleLaws.{unused-are}
 use Rattle.kept_states.specs.Parts.{restOf}
-
--- Sums that are 0
-
-sum-zero : (a b : ℕ) → eqb (a + b) 0 ≡ (eqb a 0 && eqb b 0)
-sum-zero a b = go (ℕ-discrete a 0) (ℕ-discrete b 0)
-  where
-    go : Dec (a ≡ 0) → Dec (b ≡ 0) → eqb (a + b) 0 ≡ (eqb a 0 && eqb b 0)
-    go (no x) d = ne-eqb (a + b) 0 (λ e. x (omega arith)) ∙ sym (ap (λ (t : Bool). t && eqb b 0) (ne-eqb a 0 x))
-    go (yes x) (yes y) = eq-eqb (a + b) 0 (omega arith) ∙ sym (ap₂ _&&_ (eq-eqb a 0 x) (eq-eqb b 0 y))
-    go (yes x) (no y) = ne-eqb (a + b) 0 (λ e. y (omega arith)) ∙ sym (ap₂ _&&_ (eq-eqb a 0 x) (ne-eqb b 0 y))
-
-zero-same : (x a : ℕ) → (x ≡ 0 → a ≡ 0) → (a ≡ 0 → x ≡ 0) → eqb x 0 ≡ eqb a 0
-zero-same x a to from = go (ℕ-discrete a 0)
-  where
-    go : Dec (a ≡ 0) → eqb x 0 ≡ eqb a 0
-    go (yes e) = eq-eqb x 0 (from e) ∙ sym (eq-eqb a 0 e)
-    go (no e) = ne-eqb x 0 (λ q. e (to q)) ∙ sym (ne-eqb a 0 e)
 
 -- One place
 
 pub place-unused : (p : NamedHazard) → (eqb (p .start) 0 && eqb (p .end) 0 && eqb (restOf p) 0) ≡ isUnused p
-unfolding isUnused
-place-unused p =
-    let near = p .near in
-    let far = p .far * 65536 in
-    let name = p .name * 4294967296 in
-    let side = p .side * 281474976710656 in
-    let level = p .level * 72057594037927936 in
-    rw (
-      sum-zero (near + far + name + side) level,
-      sum-zero (near + far + name) side,
-      sum-zero (near + far) name,
-      sum-zero near far,
-      zero-same far (p .far) (λ e. omega arith) (λ e. omega arith),
-      zero-same name (p .name) (λ e. omega arith) (λ e. omega arith),
-      zero-same side (p .side) (λ e. omega arith) (λ e. omega arith),
-      zero-same level (p .level) (λ e. omega arith) (λ e. omega arith),
-    )
-    (five (eqb (p .start) 0 && eqb (p .end) 0) (eqb (p .near) 0) (eqb (p .far) 0) (eqb (p .name) 0) (eqb (p .side) 0) (eqb (p .level) 0))
+unfolding isUnused allOf
+place-unused p = same-test (zeros p) (isUnused p) to from
   where
-    five : (w a b c d e : Bool) → (w && ((((a && b) && c) && d) && e)) ≡ (((((w && a) && b) && c) && d) && e)
-    five true a b c d e = refl
-    five false a b c d e = refl
+    zeros : NamedHazard → Bool
+    zeros q = eqb (q .start) 0 && eqb (q .end) 0 && eqb (restOf q) 0
+
+    same-test : (a b : Bool) → (a ≡ true → b ≡ true) → (b ≡ true → a ≡ true) → a ≡ b
+    same-test true b f g = sym (f refl)
+    same-test false true f g = g refl
+    same-test false false f g = refl
+
+    -- Numbers side by side are 0 exactly if each is.
+    to : zeros p ≡ true → isUnused p ≡ true
+    to e =
+        let two = and-left (eqb (p .start) 0 && eqb (p .end) 0) (eqb (restOf p) 0) e in
+        let rest : restOf p ≡ 0 = eqb-true _ _ (and-right (eqb (p .start) 0 && eqb (p .end) 0) (eqb (restOf p) 0) e) in
+        let zero : (x : ℕ) → x ≡ 0 → eqb x 0 ≡ true = λ x. eq-eqb x 0 in
+        rw (
+          and-left (eqb (p .start) 0) (eqb (p .end) 0) two,
+          and-right (eqb (p .start) 0) (eqb (p .end) 0) two,
+          zero (p .near) (omega arith),
+          zero (p .far) (omega arith),
+          zero (p .name) (omega arith),
+          zero (p .side) (omega arith),
+          zero (p .level) (omega arith),
+        )
+
+    from : isUnused p ≡ true → zeros p ≡ true
+    from e = ap zeros (let all = unused-are (p ∷ []) (and-intro {a = isUnused p} e refl) in let own : p ≡ unused = cc in own)
 
 -- Several
 
@@ -85,18 +75,16 @@ module _ (l : List NamedHazard) (size : length l ≡ 256) where
 
   eight-ahead : (i : ℕ) → i + 8 ≤ 256 → drop i l ≡ eightFrom i ++ drop (i + 8) l
   eight-ahead i h =
-      next i (i + 1) (omega arith) (omega arith)
-      ∙ ap (_∷_ (at i))
-      (next (i + 1) (i + 2) (omega arith) (omega arith)
-      ∙ ap (_∷_ (at (i + 1)))
-      (next (i + 2) (i + 3) (omega arith) (omega arith)
-      ∙ ap (_∷_ (at (i + 2)))
-      (next (i + 3) (i + 4) (omega arith) (omega arith)
-      ∙ ap (_∷_ (at (i + 3)))
-      (next (i + 4) (i + 5) (omega arith) (omega arith)
-      ∙ ap (_∷_ (at (i + 4)))
-      (next (i + 5) (i + 6) (omega arith) (omega arith)
-      ∙ ap (_∷_ (at (i + 5))) (next (i + 6) (i + 7) (omega arith) (omega arith) ∙ ap (_∷_ (at (i + 6))) (next (i + 7) (i + 8) (omega arith) (omega arith))))))))
+      rw (
+        next i (i + 1) (omega arith) (omega arith),
+        next (i + 1) (i + 2) (omega arith) (omega arith),
+        next (i + 2) (i + 3) (omega arith) (omega arith),
+        next (i + 3) (i + 4) (omega arith) (omega arith),
+        next (i + 4) (i + 5) (omega arith) (omega arith),
+        next (i + 5) (i + 6) (omega arith) (omega arith),
+        next (i + 6) (i + 7) (omega arith) (omega arith),
+        next (i + 7) (i + 8) (omega arith) (omega arith),
+      )
 
   all-append : (xs ys : List NamedHazard) → allOf isUnused (xs ++ ys) ≡ (allOf isUnused xs && allOf isUnused ys)
   unfolding allOf

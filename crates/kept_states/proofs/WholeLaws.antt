@@ -2,27 +2,26 @@
 -- Assumes nothing.
 use Prim.Native.Nat.{ℕ, zero, suc, _≤_, _<_}
 use native.Mathlib.Omega.{arith}
-use native.Mathlib.Decide.{ℕ-discrete}
-use mathlib.Core.Path.{_≡_, refl, sym, ap, _∙_}
-use mathlib.Core.Bool.{Bool, true, false, _&&_, and-true}
+use mathlib.Core.Path.{_≡_, refl, sym, ap, subst, _∙_}
+use mathlib.Core.Bool.{Bool, true, false, and-true, and-assoc}
 use mathlib.Core.List.{List}
-use lib.ListN.{length, getD, set, replicate}
-use lib.Seq.{getD-set-same, getD-set-other}
+use lib.ListN.{getD, set, replicate}
 use lib.Dec.{leb, eqb}
-use borrow.Author.Tests.{leb-true, eq-eqb, ne-eqb}
+use borrow.Author.Tests.{leb-true}
 use Rattle.refusal.specs.Choice.{if_then_else_, allOf}
-use Rattle.refusal.specs.Answer.{Answer, accepted, refused, _>>=_, unless-refuse, isAccepted}
+use Rattle.refusal.specs.Answer.{Answer, accepted, refused, _>>=_, isAccepted}
+use Rattle.refusal.specs.Refusal.{unless-refuse}
+use Rattle.refusal.specs.declared.Refusal.the-variants as Row
+use Rattle.refusal.proofs.AnswerLaws.{tested, behind, both-tests, same-behind}
 use Rattle.job.specs.declared.Hazard.{Hazard}
 use Rattle.job.specs.declared.StoredJob.{StoredJob}
 use Rattle.open_memory.specs.Memory.{isOpenJob}
-use Rattle.open_memory.proofs.RangeLaws.{and-assoc}
-use Rattle.open_job.specs.Open.{openJob, addTo, withdrawFrom, scheduleOf, memoryAfter, replied}
-use Rattle.open_job.proofs.CallLaws.{add-bad, withdraw-bad, schedule-bad}
-use Rattle.schedule.specs.Plan.{PlannedSide}
+use Rattle.open_job.specs.Open.{openJob, underRules, addTo, withdrawFrom, scheduleOf, memoryAfter, replied}
 use Rattle.kept_states.specs.declared.KeptState.{KeptState}
 use Rattle.kept_states.specs.declared.OpenStates.{OpenStates}
-use Rattle.kept_states.specs.States.{mostKept, greatestStateNumber, nothingKept, keptFrom, stateOf, isUsed, keptSound, keptStates, keptUnder, statesFrom, areOpenStates, openStatesBy, openStates, addIn, withdrawIn, scheduleIn, keepIn, returnIn}
+use Rattle.kept_states.specs.States.{mostKept, greatestStateNumber, nothingKept, keptFrom, stateOf, isUsed, keptSound, keptStates, keptUnder, statesFrom, areOpenStates, testState, openStatesBy, openStates, addIn, withdrawIn, scheduleIn, keepIn, returnIn}
 use Rattle.kept_states.specs.Parts.{alsoSound, chosen, emptied, addPart, withdrawPart, schedulePart, testNumber, returnPart}
+use Rattle.kept_states.proofs.StateLaws.{replaced, now-open, number-most}
 
 -- The kept states, tested one after the other.
 abbrev pub allSound : OpenStates → Bool
@@ -34,95 +33,77 @@ all-sound : (m : OpenStates) → allSound m ≡ allOf (keptSound (m .now .header
 unfolding allOf
 all-sound m = simp (and-assoc, and-true)
 
--- Add, withdraw and schedule: calls on the state now, which test it.
+-- A call by value tests first that all that is kept is sound, and then the state now; the call on the whole memory tests both at once.
 
 module _ (m : OpenStates) where
-  abbrev Now : Answer StoredJob → Answer OpenStates → Type 0
-  Now part whole = (statesFrom (memoryAfter part (m .now)) (keptStates m) ≡ memoryAfter whole m) × (replied part ≡ replied whole)
+  one-test : {A : Type 0} (a : Answer A) → (isOpenJob (m .now) ≡ false → a ≡ refused 3 0) → underRules (allSound m) a ≡ underRules (areOpenStates m) a
+  unfolding areOpenStates
+  one-test a bad = rw (all-sound m) (both-tests (allOf (keptSound (m .now .header)) (keptStates m)) (isOpenJob (m .now)) (Row.HeaderRange 0) a bad)
 
-  now-changed : (sound good : Bool) (a : Answer StoredJob) → (good ≡ false → a ≡ refused 3 0)
-      → Now (unless-refuse sound 3 0 >>= λ _. a) (unless-refuse (good && sound) 3 0 >>= λ _. a >>= λ x. accepted (statesFrom x (keptStates m)))
-  now-changed true true (accepted x) e = (refl, refl)
-  now-changed true true (refused k v) e = (refl, refl)
-  now-changed true false a e = rw (e refl) (refl, refl)
-  now-changed false true a e = (refl, refl)
-  now-changed false false a e = (refl, refl)
+  -- Add, withdraw and schedule: what a call makes of the state now is carried over into the whole memory.
 
-  pub add-whole : (name : ℕ) (z : Hazard) → Now (addPart (allSound m) (m .now) name z) (addIn m name z)
-  unfolding addPart addIn areOpenStates
-  add-whole name z = rw (all-sound m) (now-changed (allOf (keptSound (m .now .header)) (keptStates m)) (isOpenJob (m .now)) (addTo (m .now) name z) (λ e. add-bad (m .now) e name z))
+  abbrev carried : Answer StoredJob → Answer OpenStates
+  carried part = part >>= λ a. accepted (statesFrom a (keptStates m))
 
-  pub withdraw-whole : (name : ℕ) → Now (withdrawPart (allSound m) (m .now) name) (withdrawIn m name)
-  unfolding withdrawPart withdrawIn areOpenStates
-  withdraw-whole name = rw (all-sound m) (now-changed (allOf (keptSound (m .now .header)) (keptStates m)) (isOpenJob (m .now)) (withdrawFrom (m .now) name) (λ e. withdraw-bad (m .now) e name))
+  abbrev Carries : Answer StoredJob → Answer OpenStates → Type 0
+  Carries part whole = (statesFrom (memoryAfter part (m .now)) (keptStates m) ≡ memoryAfter whole m) × (replied part ≡ replied whole)
+
+  pub now-carried : (part : Answer StoredJob) → Carries part (carried part)
+  now-carried (accepted a) = (refl, refl)
+  now-carried (refused k v) = (refl, refl)
+
+  now-changed : (a : Answer StoredJob) → (isOpenJob (m .now) ≡ false → a ≡ refused 3 0) → Carries (underRules (allSound m) a) (underRules (areOpenStates m) (carried a))
+  now-changed a bad =
+      let whole = underRules (areOpenStates m) a in
+      rw (one-test a bad) (subst (Carries whole) (behind (unless-refuse (areOpenStates m) (Row.HeaderRange 0)) _ _) (now-carried whole))
+
+  pub add-whole : (name : ℕ) (z : Hazard) → Carries (addPart (allSound m) (m .now) name z) (addIn m name z)
+  unfolding addPart addIn addTo
+  add-whole name z = now-changed (addTo (m .now) name z) (λ bad. rw bad)
+
+  pub withdraw-whole : (name : ℕ) → Carries (withdrawPart (allSound m) (m .now) name) (withdrawIn m name)
+  unfolding withdrawPart withdrawIn withdrawFrom
+  withdraw-whole name = now-changed (withdrawFrom (m .now) name) (λ bad. rw bad)
 
   pub schedule-whole : (side room : ℕ) → schedulePart (allSound m) (m .now) side room ≡ scheduleIn m side room
-  unfolding schedulePart scheduleIn areOpenStates
-  schedule-whole side room = rw (all-sound m) (go (allOf (keptSound (m .now .header)) (keptStates m)) (isOpenJob (m .now)) (scheduleOf (m .now) side room) (schedule-bad (m .now) side room))
-    where
-      go : (sound good : Bool) (a : Answer PlannedSide) → (good ≡ false → a ≡ refused 3 0) → (unless-refuse sound 3 0 >>= λ _. a) ≡ (unless-refuse (good && sound) 3 0 >>= λ _. a)
-      go true true a e = refl
-      go true false a e = e refl
-      go false true a e = refl
-      go false false a e = refl
+  unfolding schedulePart scheduleIn scheduleOf
+  schedule-whole side room = one-test (scheduleOf (m .now) side room) (λ bad. rw bad)
+
+  -- The tests of keep and return.
+  number-tested : (number : ℕ) → testNumber (allSound m) (m .now) number ≡ testState m number
+  unfolding testNumber
+  number-tested number =
+      one-test (underRules (isOpenJob (m .now)) (unless-refuse (leb number greatestStateNumber) Row.State)) (λ bad. rw bad)
+      ∙ same-behind (unless-refuse (areOpenStates m) (Row.HeaderRange 0)) _ _ (λ u e. rw (now-open m (tested (areOpenStates m) (Row.HeaderRange 0) u e)))
 
   -- Keep
 
-  chosen-set : (ks : List KeptState) (number own : ℕ) (new : KeptState) → own < length ks → chosen true number own new (getD ks own nothingKept) ≡ getD (set ks number new) own nothingKept
-  unfolding chosen
-  chosen-set ks number own new l = go (ℕ-discrete number own)
-    where
-      go : Dec (number ≡ own) → (if eqb number own then new else getD ks own nothingKept) ≡ getD (set ks number new) own nothingKept
-      go (yes e) = rw (eq-eqb number own e) (sym (ap (λ (n : ℕ). getD (set ks n new) own nothingKept) e ∙ getD-set-same ks own new nothingKept l))
-      go (no e) = rw (ne-eqb number own e) (sym (getD-set-other ks number own new nothingKept (λ q. e (sym q))))
-
   -- The memory whose kept states are chosen one after the other.
   abbrev pub eachChosen : (done : Bool) (number : ℕ) (new : KeptState) → OpenStates
-  eachChosen done number new = record {
-    now = m .now;
-    kept0 = chosen done number 0 new (m .kept0);
-    kept1 = chosen done number 1 new (m .kept1);
-    kept2 = chosen done number 2 new (m .kept2);
-    kept3 = chosen done number 3 new (m .kept3);
-    kept4 = chosen done number 4 new (m .kept4);
-    kept5 = chosen done number 5 new (m .kept5);
-    kept6 = chosen done number 6 new (m .kept6);
-    kept7 = chosen done number 7 new (m .kept7);
-  }
+  eachChosen done number new =
+      let one : ℕ → KeptState → KeptState = λ own old. chosen done number own new old in
+      record { now = m .now; kept0 = one 0 (m .kept0); kept1 = one 1 (m .kept1); kept2 = one 2 (m .kept2); kept3 = one 3 (m .kept3); kept4 = one 4 (m .kept4); kept5 = one 5 (m .kept5); kept6 = one 6 (m .kept6); kept7 = one 7 (m .kept7) }
 
   none-chosen : (number : ℕ) (new : KeptState) → eachChosen false number new ≡ m
   unfolding chosen
   none-chosen number new = refl
 
   one-chosen : (number : ℕ) (new : KeptState) → eachChosen true number new ≡ statesFrom (m .now) (set (keptStates m) number new)
+  unfolding chosen
   one-chosen number new =
-      λ i. record {
-        now = m .now;
-        kept0 = chosen-set (keptStates m) number 0 new (omega arith) i;
-        kept1 = chosen-set (keptStates m) number 1 new (omega arith) i;
-        kept2 = chosen-set (keptStates m) number 2 new (omega arith) i;
-        kept3 = chosen-set (keptStates m) number 3 new (omega arith) i;
-        kept4 = chosen-set (keptStates m) number 4 new (omega arith) i;
-        kept5 = chosen-set (keptStates m) number 5 new (omega arith) i;
-        kept6 = chosen-set (keptStates m) number 6 new (omega arith) i;
-        kept7 = chosen-set (keptStates m) number 7 new (omega arith) i;
-      }
+      let at : (own : ℕ) → own < 8 → (if eqb number own then new else keptUnder m own) ≡ getD (set (keptStates m) number new) own nothingKept = λ own l. sym (replaced (keptStates m) number own new (λ q. l)) in
+      λ i. record { now = m .now; kept0 = at 0 (omega arith) i; kept1 = at 1 (omega arith) i; kept2 = at 2 (omega arith) i; kept3 = at 3 (omega arith) i; kept4 = at 4 (omega arith) i; kept5 = at 5 (omega arith) i; kept6 = at 6 (omega arith) i; kept7 = at 7 (omega arith) i }
 
-  abbrev Kept : (number : ℕ) → Answer (Unit {0}) → Answer OpenStates → Type 0
-  Kept number part whole = (eachChosen (isAccepted part) number (keptFrom (m .now)) ≡ memoryAfter whole m) × (replied part ≡ replied whole)
+  abbrev Keeps : (number : ℕ) → Answer (Unit {0}) → Answer OpenStates → Type 0
+  Keeps number part whole = (eachChosen (isAccepted part) number (keptFrom (m .now)) ≡ memoryAfter whole m) × (replied part ≡ replied whole)
 
-  pub keep-whole : (number : ℕ) → Kept number (testNumber (allSound m) (m .now) number) (keepIn m number)
-  unfolding testNumber keepIn areOpenStates
-  keep-whole number = rw (all-sound m) (go (allOf (keptSound (m .now .header)) (keptStates m)) (isOpenJob (m .now)) (leb number greatestStateNumber))
+  pub keep-whole : (number : ℕ) → Keeps number (testNumber (allSound m) (m .now) number) (keepIn m number)
+  unfolding keepIn
+  keep-whole number = rw (number-tested number) (go (testState m number))
     where
-      go : (sound good most : Bool)
-          → Kept number (unless-refuse sound 3 0 >>= λ _. unless-refuse good 3 0 >>= λ _. unless-refuse most 13 0)
-          (unless-refuse (good && sound) 3 0 >>= λ _. unless-refuse most 13 0 >>= λ _. accepted (statesFrom (m .now) (set (keptStates m) number (keptFrom (m .now)))))
-      go true true true = (one-chosen number (keptFrom (m .now)), refl)
-      go true true false = (none-chosen number (keptFrom (m .now)), refl)
-      go true false most = (none-chosen number (keptFrom (m .now)), refl)
-      go false true most = (none-chosen number (keptFrom (m .now)), refl)
-      go false false most = (none-chosen number (keptFrom (m .now)), refl)
+      go : (part : Answer (Unit {0})) → Keeps number part (part >>= λ _. accepted (statesFrom (m .now) (set (keptStates m) number (keptFrom (m .now)))))
+      go (accepted u) = (one-chosen number (keptFrom (m .now)), refl)
+      go (refused k v) = (none-chosen number (keptFrom (m .now)), refl)
 
   -- Return
 
@@ -144,37 +125,24 @@ module _ (m : OpenStates) where
   found (suc (suc (suc (suc (suc (suc (suc zero))))))) e = refl
   found (suc (suc (suc (suc (suc (suc (suc (suc n)))))))) e = absurd (let l : suc (suc (suc (suc (suc (suc (suc (suc n))))))) ≤ 7 = leb-true _ _ e in omega arith)
 
-  pub return-whole : (number : ℕ) → Now (returnPart (allSound m) (m .now) number (lookedFor number)) (returnIn m number)
-  unfolding returnPart testNumber returnIn areOpenStates
-  return-whole number = rw (all-sound m) (go (allOf (keptSound (m .now .header)) (keptStates m)) (isOpenJob (m .now)) (leb number greatestStateNumber) (lookedFor number) (keptUnder m number) (found number))
+  pub return-whole : (number : ℕ) → Carries (returnPart (allSound m) (m .now) number (lookedFor number)) (returnIn m number)
+  unfolding returnPart returnIn
+  return-whole number = subst (Carries (testNumber (allSound m) (m .now) number >>= λ _. back (lookedFor number))) same (now-carried (testNumber (allSound m) (m .now) number >>= λ _. back (lookedFor number)))
     where
-      last : (k : KeptState) (used : Bool) → Now (unless-refuse used 13 0 >>= λ _. accepted (stateOf (m .now .header) k)) (unless-refuse used 13 0 >>= λ _. accepted (statesFrom (stateOf (m .now .header) k) (keptStates m)))
-      last k true = (refl, refl)
-      last k false = (refl, refl)
+      back : KeptState → Answer StoredJob
+      back k = unless-refuse (isUsed k) Row.State >>= λ _. accepted (stateOf (m .now .header) k)
 
-      go : (sound good most : Bool) (f k : KeptState) → (most ≡ true → f ≡ k)
-          → Now ((unless-refuse sound 3 0 >>= λ _. unless-refuse good 3 0 >>= λ _. unless-refuse most 13 0) >>= λ _. unless-refuse (isUsed f) 13 0 >>= λ _. accepted (stateOf (m .now .header) f))
-          (unless-refuse (good && sound) 3 0 >>= λ _. unless-refuse most 13 0 >>= λ _. unless-refuse (isUsed k) 13 0 >>= λ _. accepted (statesFrom (stateOf (m .now .header) k) (keptStates m)))
-      go true true true f k e = rw (e refl) (last k (isUsed k))
-      go true true false f k e = (refl, refl)
-      go true false most f k e = (refl, refl)
-      go false true most f k e = (refl, refl)
-      go false false most f k e = (refl, refl)
+      same : carried (testNumber (allSound m) (m .now) number >>= λ _. back (lookedFor number)) ≡ (testState m number >>= λ _. unless-refuse (isUsed (keptUnder m number)) Row.State >>= λ _. accepted (statesFrom (stateOf (m .now .header) (keptUnder m number)) (keptStates m)))
+      same =
+          ap (λ (t : Answer (Unit {0})). carried (t >>= λ _. back (lookedFor number))) (number-tested number) ∙ behind (testState m number) (λ _. back (lookedFor number)) _
+          ∙ same-behind (testState m number) _ _ (λ u e. ap (λ (k : KeptState). carried (back k)) (found number (number-most m number u e)) ∙ behind (unless-refuse (isUsed (keptUnder m number)) Row.State) _ _)
 
   -- Opening
 
   abbrev pub eachEmptied : (done : Bool) → StoredJob → OpenStates
-  eachEmptied done a = record {
-    now = a;
-    kept0 = emptied done (m .kept0);
-    kept1 = emptied done (m .kept1);
-    kept2 = emptied done (m .kept2);
-    kept3 = emptied done (m .kept3);
-    kept4 = emptied done (m .kept4);
-    kept5 = emptied done (m .kept5);
-    kept6 = emptied done (m .kept6);
-    kept7 = emptied done (m .kept7);
-  }
+  eachEmptied done a =
+      let none : KeptState → KeptState = emptied done in
+      record { now = a; kept0 = none (m .kept0); kept1 = none (m .kept1); kept2 = none (m .kept2); kept3 = none (m .kept3); kept4 = none (m .kept4); kept5 = none (m .kept5); kept6 = none (m .kept6); kept7 = none (m .kept7) }
 
   pub open-whole : (s : List ℕ) → (eachEmptied (isAccepted (openJob s)) (memoryAfter (openJob s) (m .now)) ≡ memoryAfter (openStates s) m) × (replied (openJob s) ≡ replied (openStates s))
   unfolding openStatesBy emptied

@@ -4,14 +4,16 @@ use Prim.Native.Nat.{ℕ, _+_, _*_}
 use mathlib.Core.Bool.{Bool, _&&_}
 use lib.Dec.{leb, eqb}
 use Rattle.refusal.specs.Choice.{if_then_else_}
-use Rattle.refusal.specs.Answer.{Answer, accepted, _>>=_, unless-refuse}
+use Rattle.refusal.specs.Answer.{Answer, accepted, _>>=_}
+use Rattle.refusal.specs.Refusal.{unless-refuse}
+use Rattle.refusal.specs.declared.Refusal.the-variants as Row
 use Rattle.job.specs.declared.Header.{Header}
 use Rattle.job.specs.declared.Hazard.{Hazard}
 use Rattle.job.specs.declared.NamedHazard.{NamedHazard}
 use Rattle.job.specs.declared.StoredJob.{StoredJob}
 use Rattle.schedule.specs.Plan.{PlannedSide}
 use Rattle.open_memory.specs.Memory.{isOpenJob}
-use Rattle.open_job.specs.Open.{addTo, withdrawFrom, scheduleOf}
+use Rattle.open_job.specs.Open.{underRules, addTo, withdrawFrom, scheduleOf}
 use Rattle.kept_states.specs.declared.KeptState.{KeptState}
 use Rattle.kept_states.specs.States.{greatestStateNumber, nothingKept, stateOf, isUsed, keptSound}
 
@@ -38,24 +40,21 @@ emptied done old = if done then nothingKept else old
 -- The calls
 
 unfoldable pub addPart : (sound : Bool) → StoredJob → (name : ℕ) → Hazard → Answer StoredJob
-addPart sound a name z = unless-refuse sound 3 0 >>= λ _. addTo a name z
+addPart sound a name z = underRules sound (addTo a name z)
 
 unfoldable pub withdrawPart : (sound : Bool) → StoredJob → (name : ℕ) → Answer StoredJob
-withdrawPart sound a name = unless-refuse sound 3 0 >>= λ _. withdrawFrom a name
+withdrawPart sound a name = underRules sound (withdrawFrom a name)
 
 unfoldable pub schedulePart : (sound : Bool) → StoredJob → (side room : ℕ) → Answer PlannedSide
-schedulePart sound a side room = unless-refuse sound 3 0 >>= λ _. scheduleOf a side room
+schedulePart sound a side room = underRules sound (scheduleOf a side room)
 
 -- The tests of keep and return.
 unfoldable pub testNumber : (sound : Bool) → StoredJob → (number : ℕ) → Answer (Unit {0})
-testNumber sound a number =
-    unless-refuse sound 3 0 >>= λ _.
-    unless-refuse (isOpenJob a) 3 0 >>= λ _.
-    unless-refuse (leb number greatestStateNumber) 13 0
+testNumber sound a number = underRules sound (underRules (isOpenJob a) (unless-refuse (leb number greatestStateNumber) Row.State))
 
 -- The state now after a return to what was found under a number.
 unfoldable pub returnPart : (sound : Bool) → StoredJob → (number : ℕ) → (kept : KeptState) → Answer StoredJob
 returnPart sound a number kept =
     testNumber sound a number >>= λ _.
-    unless-refuse (isUsed kept) 13 0 >>= λ _.
+    unless-refuse (isUsed kept) Row.State >>= λ _.
     accepted (stateOf (a .header) kept)

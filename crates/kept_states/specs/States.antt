@@ -6,17 +6,20 @@ use mathlib.Core.List.{List, [], _∷_}
 use lib.ListN.{replicate, getD, set}
 use lib.Dec.{leb, eqb}
 use Rattle.refusal.specs.Choice.{allOf}
-use Rattle.refusal.specs.Answer.{Answer, accepted, _>>=_, unless-refuse}
+use Rattle.refusal.specs.Answer.{Answer, accepted, _>>=_}
+use Rattle.refusal.specs.Refusal.{unless-refuse}
+use Rattle.refusal.specs.declared.Refusal.the-variants as Row
 use Rattle.refusal.specs.Limits.{Limits, limits}
 use Rattle.job.specs.declared.Header.{Header}
 use Rattle.job.specs.declared.Hazard.{Hazard}
 use Rattle.job.specs.declared.StoredJob.{StoredJob}
 use Rattle.job.specs.Reply.{unused}
 use Rattle.schedule.specs.Plan.{PlannedSide}
-use Rattle.open_memory.specs.Memory.{mostStanding, counted, isUnused, isOpenJob}
-use Rattle.open_job.specs.Open.{openJobBy, addTo, withdrawFrom, scheduleOf}
+use Rattle.open_memory.specs.Memory.{mostStanding, isUnused, isOpenJob}
+use Rattle.open_job.specs.Open.{openJobBy, underRules, addTo, withdrawFrom, scheduleOf}
 use Rattle.kept_states.specs.declared.KeptState.{KeptState}
 use Rattle.kept_states.specs.declared.OpenStates.{OpenStates}
+use Rattle.job.specs.Job.{counted}
 
 -- "Up to eight states of the open job are kept under numbers 0 to 7."
 abbrev pub mostKept : ℕ
@@ -60,17 +63,9 @@ keptUnder m number = getD (keptStates m) number nothingKept
 
 -- The memory of a state now and of what is kept.
 abbrev pub statesFrom : StoredJob → List KeptState → OpenStates
-statesFrom a ks = record {
-  now = a;
-  kept0 = getD ks 0 nothingKept;
-  kept1 = getD ks 1 nothingKept;
-  kept2 = getD ks 2 nothingKept;
-  kept3 = getD ks 3 nothingKept;
-  kept4 = getD ks 4 nothingKept;
-  kept5 = getD ks 5 nothingKept;
-  kept6 = getD ks 6 nothingKept;
-  kept7 = getD ks 7 nothingKept;
-}
+statesFrom a ks =
+    let kept : ℕ → KeptState = λ number. getD ks number nothingKept in
+    record { now = a; kept0 = kept 0; kept1 = kept 1; kept2 = kept 2; kept3 = kept 3; kept4 = kept 4; kept5 = kept 5; kept6 = kept 6; kept7 = kept 7 }
 
 -- "Memory whose header, names or hazards break these rules" is any other: all of it keeps the rules, what is kept too, and is 0 where
 -- nothing stands or is kept.
@@ -88,34 +83,26 @@ openStates = openStatesBy limits
 
 -- Add, withdraw and schedule are calls on the state now; what is kept stays. (Their own test of the state now is met here.)
 unfoldable pub addIn : OpenStates → (name : ℕ) → Hazard → Answer OpenStates
-addIn m name z =
-    unless-refuse (areOpenStates m) 3 0 >>= λ _.
-    addTo (m .now) name z >>= λ a.
-    accepted (statesFrom a (keptStates m))
+addIn m name z = underRules (areOpenStates m) (addTo (m .now) name z >>= λ a. accepted (statesFrom a (keptStates m)))
 
 unfoldable pub withdrawIn : OpenStates → (name : ℕ) → Answer OpenStates
-withdrawIn m name =
-    unless-refuse (areOpenStates m) 3 0 >>= λ _.
-    withdrawFrom (m .now) name >>= λ a.
-    accepted (statesFrom a (keptStates m))
+withdrawIn m name = underRules (areOpenStates m) (withdrawFrom (m .now) name >>= λ a. accepted (statesFrom a (keptStates m)))
 
 unfoldable pub scheduleIn : OpenStates → (side room : ℕ) → Answer PlannedSide
-scheduleIn m side room =
-    unless-refuse (areOpenStates m) 3 0 >>= λ _.
-    scheduleOf (m .now) side room
+scheduleIn m side room = underRules (areOpenStates m) (scheduleOf (m .now) side room)
 
--- "Keeping under a used number replaces it." "A state number above 7 .. is 13, tested next after the open job's memory."
+-- "A state number above 7 .. is 13, tested next after the open job's memory."
+abbrev pub testState : OpenStates → (number : ℕ) → Answer (Unit {0})
+testState m number = underRules (areOpenStates m) (unless-refuse (leb number greatestStateNumber) Row.State)
+
+-- "Keeping under a used number replaces it."
 unfoldable pub keepIn : OpenStates → (number : ℕ) → Answer OpenStates
-keepIn m number =
-    unless-refuse (areOpenStates m) 3 0 >>= λ _.
-    unless-refuse (leb number greatestStateNumber) 13 0 >>= λ _.
-    accepted (statesFrom (m .now) (set (keptStates m) number (keptFrom (m .now))))
+keepIn m number = testState m number >>= λ _. accepted (statesFrom (m .now) (set (keptStates m) number (keptFrom (m .now))))
 
 -- "After a return, the open job is as when that state was last kept ..; other kept states are untouched." "A state number above 7, or in
 -- a return one under which nothing is kept, is 13."
 unfoldable pub returnIn : OpenStates → (number : ℕ) → Answer OpenStates
 returnIn m number =
-    unless-refuse (areOpenStates m) 3 0 >>= λ _.
-    unless-refuse (leb number greatestStateNumber) 13 0 >>= λ _.
-    unless-refuse (isUsed (keptUnder m number)) 13 0 >>= λ _.
+    testState m number >>= λ _.
+    unless-refuse (isUsed (keptUnder m number)) Row.State >>= λ _.
     accepted (statesFrom (stateOf (m .now .header) (keptUnder m number)) (keptStates m))

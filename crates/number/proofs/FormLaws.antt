@@ -1,7 +1,6 @@
 -- Exactly which bytes are ended inside a number, and which are malformed; 64 bits hold every value that is read.
 -- Assumes nothing.
-use Prim.Native.Nat.{ℕ, zero, suc, _+_, _-_, _*_, _^_, _≤_, _<_}
-use native.Mathlib.Nat.{pow-le-pow-right, pow-succ'}
+use Prim.Native.Nat.{ℕ, zero, suc, _+_, _-_, _≤_, _<_}
 use native.Mathlib.Omega.{arith}
 use native.Mathlib.Decide.{decLt, decLe}
 use mathlib.Core.Path.{_≡_, refl, sym, ap, _∙_}
@@ -9,15 +8,18 @@ use mathlib.Core.Logic.{_↔_, _⊎_, inl, inr}
 use mathlib.Core.Bool.{Bool, true, false, _&&_}
 use mathlib.Core.List.{List, [], _∷_, _++_, List·Memᴰ·head, List·Memᴰ·tail, List·Memᴰ·not-nil}
 use lib.ListN.{length, drop}
-use lib.Dec.{ltb, leb, eqb}
-use borrow.Author.Tests.{ltb-true, lt-leb, le-leb, eqb-false, ne-eqb}
+use lib.Dec.{leb, eqb}
+use borrow.Author.Tests.{lt-leb, le-leb, eqb-false, ne-eqb}
 use Rattle.refusal.specs.Choice.{if_then_else_}
 use Rattle.refusal.proofs.EachLaws.{cons-each}
 use Rattle.number.specs.declared.Read.{Read}
 use Rattle.number.specs.declared.Read.the-variants.{Number, Ended, Malformed}
 use Rattle.number.specs.Number.{writeNumber, mostGroups, greatest, groupCount, Scan, cut, overlong, whole, prefixed, scan, judged, readNumberBy, readNumber}
 use Rattle.number.specs.Form.{TopBits, EndsInside, IllFormed, sixth, long}
-use Rattle.number.proofs.NumberLaws.{scan-last, scan-more, group-count, read-bounds, Bytes, tail-bytes, drop-bytes}
+use Rattle.number.proofs.ScanLaws.{scan-last, scan-more, scan-most}
+use Rattle.number.proofs.WriteLaws.{group-count}
+use Rattle.number.proofs.ReadLaws.{read-bounds}
+use Rattle.number.proofs.ByteLaws.{Bytes, drop-bytes}
 
 -- Scans
 
@@ -33,25 +35,6 @@ unfolding scan
 scan-overlong [] rest t = refl
 scan-overlong (x ∷ xs) rest t =
     scan-more (length xs) x (xs ++ rest) (t x (List·Memᴰ·head refl)) ∙ ap (prefixed (x - 128)) (scan-overlong xs rest (λ y m. t y (List·Memᴰ·tail m)))
-
--- Groups that are bytes make a value that as many groups hold.
-scan-most : (k : ℕ) (s : List ℕ) (v n : ℕ) → Bytes s → scan k s ≡ whole v n → v < 128 ^ k
-unfolding scan
-scan-most zero s v n b e = let z : _≡_ {A = ℕ} 0 1 = cc in absurd (omega arith)
-scan-most (suc k) [] v n b e = let z : _≡_ {A = ℕ} 0 1 = cc in absurd (omega arith)
-scan-most (suc k) (x ∷ xs) v n b e = go (ltb x 128) refl e (λ w m. scan-most k xs w m (tail-bytes b))
-  where
-    some : 1 ≤ 128 ^ k
-    some = pow-le-pow-right {n = 128} (omega arith) {i = 0} {j = k} (omega arith)
-
-    inner : (c : Scan) → scan k xs ≡ c → prefixed (x - 128) c ≡ whole v n → ((w m : ℕ) → scan k xs ≡ whole w m → w < 128 ^ k) → v < 128 ^ suc k
-    inner cut p q r = let z : _≡_ {A = ℕ} 0 1 = cc in absurd (omega arith)
-    inner overlong p q r = let z : _≡_ {A = ℕ} 0 1 = cc in absurd (omega arith)
-    inner (whole w m) p q r = let z : x - 128 + 128 * w ≡ v = cc in omega (arith, r w m p, b x (List·Memᴰ·head refl), pow-succ' 128 k)
-
-    go : (t : Bool) → ltb x 128 ≡ t → (if t then whole x 1 else prefixed (x - 128) (scan k xs)) ≡ whole v n → ((w m : ℕ) → scan k xs ≡ whole w m → w < 128 ^ k) → v < 128 ^ suc k
-    go true l q r = let z : x ≡ v = cc in omega (arith, ltb-true x 128 l, some, pow-succ' 128 k)
-    go false l q r = inner (scan k xs) refl q r
 
 -- What a scan that does not end says of the bytes.
 abbrev Scanned : (k : ℕ) → List ℕ → Scan → Type 0

@@ -4,16 +4,16 @@ use Prim.Native.Nat.{ℕ, zero, suc, _+_, _-_, _*_, _^_, _≤_, _<_}
 use native.Mathlib.Nat.{mul-add, mul-assoc, add-assoc, mul-le-mul-left, pow-le-pow-right, pow-suc}
 use native.Mathlib.Numerals.{add-one}
 use native.Mathlib.Omega.{arith}
-use native.Mathlib.Decide.{decLt}
 use mathlib.Core.Path.{_≡_, refl, ap, ap₂, _∙_}
 use mathlib.Core.List.{List, _∷_}
 use lib.ListN.{length, getD, drop, drop-of-length-le}
 use lib.Seq.{drop-cons}
-use borrow.Author.Tests.{le-leb, lt-leb, eq-eqb, ne-eqb}
+use borrow.Author.Tests.{le-leb, eq-eqb, ne-eqb}
 use Rattle.number.specs.declared.Read.the-variants.{Number, Ended, Malformed}
 use Rattle.number.specs.Number.{writeIn, writeNumberBy, greatest, Scan, cut, overlong, whole, prefixed, scan, judged, readNumberBy, readNumber}
 use Rattle.number.specs.Groups.{behind, readBehind}
-use Rattle.number.proofs.NumberLaws.{scan-last, scan-more, small-length, length-below, length-above}
+use Rattle.number.proofs.ScanLaws.{scan-last, scan-more}
+use Rattle.number.proofs.WriteLaws.{small-length, length-below, length-above}
 
 pub behind-first : (group : ℕ) (rest : Scan) → prefixed group rest ≡ behind group 128 1 rest
 behind-first group cut = refl

@@ -1,4 +1,8 @@
-pub mod NumberLaws
+pub mod WriteLaws
+pub mod ByteLaws
+pub mod ScanLaws
+pub mod ReadLaws
+pub mod PlaceLaws
 pub mod GroupWalk
 pub mod FormLaws
 pub mod LimitLaws

@@ -7,10 +7,12 @@ use lib.ListN.{length, take, drop}
 use lib.Count.{leadingZeros}
 use lib.Dec.{ltb, leb, eqb}
 use Rattle.refusal.specs.Choice.{if_then_else_}
-use Rattle.refusal.specs.Answer.{Answer, accepted, refused}
+use Rattle.refusal.specs.Answer.{Answer, accepted}
 use Rattle.refusal.specs.Limits.{Limits, limits}
 use Rattle.number.specs.declared.Read.{Read}
 use Rattle.number.specs.declared.Read.the-variants.{Number, Ended, Malformed}
+use Rattle.refusal.specs.Refusal.{refusal}
+use Rattle.refusal.specs.declared.Refusal.the-variants as Row
 
 -- Writing
 
@@ -84,8 +86,8 @@ pub record Reading : Type 0 where
 -- Refusals 1 and 2 return the byte index where the number begins.
 abbrev pub readingOf : (at : ℕ) → Read → Answer Reading
 readingOf at (Number value next) = accepted (record { value = value; next = next })
-readingOf at Ended = refused 1 at
-readingOf at Malformed = refused 2 at
+readingOf at Ended = refusal (Row.Ended at)
+readingOf at Malformed = refusal (Row.Malformed at)
 
 unfoldable pub numberAtBy : Limits → List ℕ → (at : ℕ) → Answer Reading
 numberAtBy L s at = readingOf at (readNumberBy L s at)

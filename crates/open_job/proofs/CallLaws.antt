@@ -3,15 +3,17 @@
 use Prim.Native.Nat.{ℕ, _≤_, _<_}
 use native.Mathlib.Omega.{arith}
 use mathlib.Core.Path.{_≡_, refl, sym, ap, _∙_}
-use mathlib.Core.Bool.{Bool, true, false}
+use mathlib.Core.Bool.{true, false}
 use mathlib.Core.List.{List, [], _∷_, append-nil}
 use lib.ListN.{length}
 use lib.Dec.{leb, eqb}
 use borrow.Author.Tests.{le-leb, eqb-true}
-use Rattle.refusal.specs.Answer.{Answer, accepted, refused, _>>=_, unless-refuse}
-use Rattle.refusal.specs.Refusal.{refusal, outcome}
+use Rattle.refusal.specs.Answer.{Answer, accepted, refused, _>>=_}
+use Rattle.refusal.specs.Refusal.{unless-refuse, refusal, outcome}
+use Rattle.refusal.specs.declared.Refusal.the-variants as Row
 use Rattle.refusal.specs.declared.Refusal.{Refusal}
 use Rattle.refusal.specs.declared.Outcome.the-variants.{Done, Refused}
+use Rattle.refusal.proofs.AnswerLaws.{tested, behind, same-behind}
 use Rattle.job.specs.declared.Header.{Header}
 use Rattle.job.specs.declared.Hazard.{Hazard}
 use Rattle.job.specs.declared.NamedHazard.{NamedHazard}
@@ -36,10 +38,11 @@ use Rattle.schedule.specs.Schedule.{writeSchedule}
 use Rattle.schedule.specs.Plan.{fitted, planBy, plan}
 use Rattle.schedule.proofs.PlanLaws.{plan-bad-side, tested-bytes}
 use Rattle.open_job.specs.declared.Change.{Change}
-use Rattle.open_memory.specs.Memory.{standing, laidOut, stands, isFull, inserted, hazardInRange, admit, isOpenJob}
+use Rattle.open_memory.specs.Memory.{standing, laidOut, stands, isFull, admit, isOpenJob}
+use Rattle.job.specs.Fits.{hazardInRange}
 use Rattle.open_job.specs.Open.{openJobBy, openJob, addTo, withdrawFrom, scheduleOf, Changes}
 use Rattle.open_memory.specs.Steps.{rank, putAt, takenAt}
-use Rattle.open_memory.proofs.RuleLaws.{admit-ranged, open-header, open-standing, open-accepted}
+use Rattle.open_memory.proofs.RuleLaws.{admit-ranged, open-count, open-standing, open-accepted}
 use Rattle.open_memory.proofs.PlaceLaws.{inserted-at, without-at}
 use Rattle.open_memory.proofs.WalkLaws.{standing-length}
 
@@ -68,24 +71,17 @@ module _ (s : List ℕ) where
 
   pub opening-read : openJob s ≡ (readOpening s >>= λ h. accepted (laidOut h []))
   unfolding openJobBy readOpening headerAt jobHeader acceptJobBy testHazards
-  opening-read = header (readHeader s) refl
+  opening-read =
+      same-behind (readHeader s) _ _ (λ f read. same-behind (count f) _ _ (λ u zero. job (readJob s) (λ j e. none-read f j read (tested _ _ u zero) e)) ∙ sym (behind (count f) _ _))
+      ∙ sym (behind (headerAt s) _ _ ∙ behind (readHeader s) _ _)
     where
+      count : (f : Fields) → Answer (Unit {0})
+      count f = unless-refuse (eqb (headerOf (f .numbers) .count) 0) (Row.HeaderRange (headerSize (headerOf (f .numbers) .kind)))
+
       job : (a : Answer Job) → ((j : Job) → a ≡ accepted j → j .hazards ≡ [])
           → ((a >>= λ j. testHazards (j .header) 0 (j .hazards) >>= λ _. accepted j) >>= λ j. accepted (laidOut (j .header) [])) ≡ ((a >>= λ j. accepted (j .header)) >>= λ h. accepted (laidOut h []))
       job (refused k v) none = refl
       job (accepted j) none = ap (λ (zs : List Hazard). (testHazards (j .header) 0 zs >>= λ _. accepted j) >>= λ i. accepted (laidOut (i .header) [])) (none j refl)
-
-      count : (f : Fields) → readHeader s ≡ accepted f → (b : Bool) → eqb (headerOf (f .numbers) .count) 0 ≡ b
-          → (unless-refuse b 3 (headerSize (headerOf (f .numbers) .kind)) >>= λ _. (readJob s >>= λ j. testHazards (j .header) 0 (j .hazards) >>= λ _. accepted j) >>= λ j. accepted (laidOut (j .header) []))
-          ≡ ((unless-refuse b 3 (headerSize (headerOf (f .numbers) .kind)) >>= λ _. readJob s >>= λ j. accepted (j .header)) >>= λ h. accepted (laidOut h []))
-      count f read true q = job (readJob s) (λ j e. none-read f j read q e)
-      count f read false q = refl
-
-      header : (a : Answer Fields) → readHeader s ≡ a
-          → (a >>= λ f. unless-refuse (eqb (headerOf (f .numbers) .count) 0) 3 (headerSize (headerOf (f .numbers) .kind)) >>= λ _. (readJob s >>= λ j. testHazards (j .header) 0 (j .hazards) >>= λ _. accepted j) >>= λ j. accepted (laidOut (j .header) []))
-          ≡ (((a >>= λ f. accepted (headerReading f)) >>= λ x. unless-refuse (eqb (x .header .count) 0) 3 (headerSize (x .header .kind)) >>= λ _. readJob s >>= λ j. accepted (j .header)) >>= λ h. accepted (laidOut h []))
-      header (refused k v) read = refl
-      header (accepted f) read = count f read (eqb (headerOf (f .numbers) .count) 0) refl
 
   pub opening-done : {h : Header} → accepted h ≡ readOpening s → openJob s ≡ accepted (laidOut h [])
   opening-done e = opening-read ∙ rw (sym e)
@@ -103,93 +99,59 @@ module _ (h : Header) (name : ℕ) (z : Hazard) (ranged : hazardInRange h z ≡ 
   unfolding testHazard
   given-clear e = sym (admit-ranged h name z ranged ∙ rw e)
 
-module _ (m : StoredJob) where
-  -- Memory that breaks the rules.
-  module _ (bad : isOpenJob m ≡ false) where
-    pub add-bad : (name : ℕ) (z : Hazard) → addTo m name z ≡ refused 3 0
-    unfolding addTo
-    add-bad name z = rw bad
+-- Memory that keeps the rules
+module _ (m : StoredJob) (good : isOpenJob m ≡ true) where
+  -- As many stand as the header's count says.
+  pub full-count : length (m .hazards) ≡ 256 → isFull (standing m) ≡ leb 256 (m .header .count)
+  full-count size = ap (leb 256) (standing-length m size (open-count m good))
 
-    pub withdraw-bad : (name : ℕ) → withdrawFrom m name ≡ refused 3 0
-    unfolding withdrawFrom
-    withdraw-bad name = rw bad
+  -- A name that does not stand is put in at its place, and one that stands is taken out from there.
+  pub add-done : (name : ℕ) (z : Hazard) → stands name (standing m) ≡ false → isFull (standing m) ≡ false → accepted tt ≡ admit (m .header) name z → (at : ℕ) → at ≡ rank name (standing m)
+      → addTo m name z ≡ accepted (laidOut (m .header) (putAt at (named name z) (standing m)))
+  unfolding addTo
+  add-done name z fresh room may at place =
+      rw (good, fresh, room, sym may)
+      (ap (λ (ps : List NamedHazard). accepted (laidOut (m .header) ps)) (inserted-at (named name z) (standing m) fresh ∙ ap (λ (k : ℕ). putAt k (named name z) (standing m)) (sym place)))
 
-  -- Memory that keeps them.
-  module _ (good : isOpenJob m ≡ true) where
-    -- As many stand as the header's count says.
-    pub full-count : length (m .hazards) ≡ 256 → isFull (standing m) ≡ leb 256 (m .header .count)
-    full-count size = ap (leb 256) (standing-length m size (open-header m good .count))
-
-    -- Add
-    pub add-stands : (name : ℕ) (z : Hazard) → stands name (standing m) ≡ true → addTo m name z ≡ refused 12 name
-    unfolding addTo
-    add-stands name z e = rw (good, e)
-
-    module _ (name : ℕ) (z : Hazard) (fresh : stands name (standing m) ≡ false) where
-      pub add-full : isFull (standing m) ≡ true → addTo m name z ≡ refused 15 0
-      unfolding addTo
-      add-full e = rw (good, fresh, e)
-
-      module _ (room : isFull (standing m) ≡ false) where
-        pub add-tested : (x : Refusal) → refusal x ≡ admit (m .header) name z → addTo m name z ≡ refusal x
-        unfolding addTo
-        add-tested x e = rw (good, fresh, room, sym e)
-
-        pub add-done : accepted tt ≡ admit (m .header) name z → (at : ℕ) → at ≡ rank name (standing m) → addTo m name z ≡ accepted (laidOut (m .header) (putAt at (named name z) (standing m)))
-        unfolding addTo
-        add-done may at place =
-            rw (good, fresh, room, sym may)
-            (ap (λ (ps : List NamedHazard). accepted (laidOut (m .header) ps)) (inserted-at (named name z) (standing m) fresh ∙ ap (λ (k : ℕ). putAt k (named name z) (standing m)) (sym place)))
-
-    -- Withdraw
-    pub withdraw-done : (name : ℕ) → stands name (standing m) ≡ true → (at : ℕ) → at ≡ rank name (standing m) → withdrawFrom m name ≡ accepted (laidOut (m .header) (takenAt at (standing m)))
-    unfolding withdrawFrom
-    withdraw-done name e at place =
-        rw (good, e)
-        (ap (λ (ps : List NamedHazard). accepted (laidOut (m .header) ps)) (without-at (m .header) name 0 (standing m) (open-standing m good) e ∙ ap (λ (k : ℕ). takenAt k (standing m)) (sym place)))
-
-    pub withdraw-none : (name : ℕ) → stands name (standing m) ≡ false → withdrawFrom m name ≡ refused 12 name
-    unfolding withdrawFrom
-    withdraw-none name e = rw (good, e)
+  pub withdraw-done : (name : ℕ) → stands name (standing m) ≡ true → (at : ℕ) → at ≡ rank name (standing m) → withdrawFrom m name ≡ accepted (laidOut (m .header) (takenAt at (standing m)))
+  unfolding withdrawFrom
+  withdraw-done name e at place =
+      rw (good, e)
+      (ap (λ (ps : List NamedHazard). accepted (laidOut (m .header) ps)) (without-at (m .header) name 0 (standing m) (open-standing m good) e ∙ ap (λ (k : ℕ). takenAt k (standing m)) (sym place)))
 
 -- Schedule
 
 -- Plan, of the writing of a job that is accepted.
-pub plan-written : (j : Job) → AcceptedFits j → (side room : ℕ) → plan (writeJob j) side room ≡ (unless-refuse (leb side 1) 8 0 >>= λ _. fitted (writeSchedule (jobRuns j side)) (sideOverhangs j side) room)
+pub plan-written : (j : Job) → AcceptedFits j → (side room : ℕ) → plan (writeJob j) side room ≡ (unless-refuse (leb side 1) Row.Argument >>= λ _. fitted (writeSchedule (jobRuns j side)) (sideOverhangs j side) room)
 unfolding planBy
 plan-written j f side room = rw (fitting-accepted j f)
 
-module _ (m : StoredJob) (side : ℕ) where
-  pub schedule-bad : (room : ℕ) → isOpenJob m ≡ false → scheduleOf m side room ≡ refused 3 0
+module _ (m : StoredJob) (side : ℕ) (good : isOpenJob m ≡ true) where
+  pub schedule-eight : (room : ℕ) → 1 < side → scheduleOf m side room ≡ refused 8 0
   unfolding scheduleOf
-  schedule-bad room bad = rw bad
+  schedule-eight room l = rw good (plan-bad-side (writeJob (jobOf m)) side room l)
 
-  module _ (good : isOpenJob m ≡ true) where
-    pub schedule-eight : (room : ℕ) → 1 < side → scheduleOf m side room ≡ refused 8 0
-    unfolding scheduleOf
-    schedule-eight room l = rw good (plan-bad-side (writeJob (jobOf m)) side room l)
+  -- By what `side_envelopes` answers: the hazards pass.
+  module _ (size : length (m .hazards) ≡ 256) (r : SideEnvelopes) (reply : Replies r (testedEnvelopes (jobOf m) side)) where
+    passes : testedEnvelopes (jobOf m) side ≡ accepted (cutsOf (m .header) side (jobOf m .hazards))
+    unfolding testedEnvelopes testHazards
+    passes = rw (← append-nil (jobOf m .hazards), hazards-pass (m .header) 0 (jobOf m .hazards) [] (open-accepted m good size .passed))
 
-    -- By what `side_envelopes` answers: the hazards pass.
-    module _ (size : length (m .hazards) ≡ 256) (r : SideEnvelopes) (reply : Replies r (testedEnvelopes (jobOf m) side)) where
-      passes : testedEnvelopes (jobOf m) side ≡ accepted (cutsOf (m .header) side (jobOf m .hazards))
-      unfolding testedEnvelopes testHazards
-      passes = rw (← append-nil (jobOf m .hazards), hazards-pass (m .header) 0 (jobOf m .hazards) [] (open-accepted m good size .passed))
+    done : r .outcome ≡ Done
+    done = outcome-done (jobOf m) side r reply passes
 
-      done : r .outcome ≡ Done
-      done = outcome-done (jobOf m) side r reply passes
+    pub schedule-stored : StoredEnvelopes (r .envelopes)
+    schedule-stored = stored-envelopes (jobOf m) side r reply (open-accepted m good size .fits) done
 
-      pub schedule-stored : StoredEnvelopes (r .envelopes)
-      schedule-stored = stored-envelopes (jobOf m) side r reply (open-accepted m good size .fits) done
+    pub schedule-most : length (writeSchedule (requiredRuns (envelopesOf (r .envelopes)) (m .header .continuity))) ≤ 5624
+    schedule-most = tested-bytes (jobOf m) side r reply (open-accepted m good size .fits) done
 
-      pub schedule-most : length (writeSchedule (requiredRuns (envelopesOf (r .envelopes)) (m .header .continuity))) ≤ 5624
-      schedule-most = tested-bytes (jobOf m) side r reply (open-accepted m good size .fits) done
+    own : cutsOf (m .header) side (jobOf m .hazards) ≡ record { envelopes = envelopesOf (r .envelopes); overhangs = r .overhangs }
+    own = let e = sym passes ∙ envelopes-done (jobOf m) side r reply done in cc
 
-      own : cutsOf (m .header) side (jobOf m .hazards) ≡ record { envelopes = envelopesOf (r .envelopes); overhangs = r .overhangs }
-      own = let e = sym passes ∙ envelopes-done (jobOf m) side r reply done in cc
-
-      pub schedule-done : (room : ℕ) → side ≤ 1 → scheduleOf m side room ≡ fitted (writeSchedule (requiredRuns (envelopesOf (r .envelopes)) (m .header .continuity))) (r .overhangs) room
-      unfolding scheduleOf jobRuns
-      schedule-done room l =
-          rw good
-          (plan-written (jobOf m) (open-accepted m good size) side room
-          ∙ rw (le-leb side 1 l) (ap (λ (c : Cuts). fitted (writeSchedule (requiredRuns (c .envelopes) (m .header .continuity))) (c .overhangs) room) own))
+    pub schedule-done : (room : ℕ) → side ≤ 1 → scheduleOf m side room ≡ fitted (writeSchedule (requiredRuns (envelopesOf (r .envelopes)) (m .header .continuity))) (r .overhangs) room
+    unfolding scheduleOf jobRuns
+    schedule-done room l =
+        rw good
+        (plan-written (jobOf m) (open-accepted m good size) side room
+        ∙ rw (le-leb side 1 l) (ap (λ (c : Cuts). fitted (writeSchedule (requiredRuns (c .envelopes) (m .header .continuity))) (c .overhangs) room) own))

@@ -4,25 +4,28 @@ use Prim.Native.Nat.{ℕ, zero, suc, _-_, _≤_}
 use native.Mathlib.Omega.{arith}
 use mathlib.Core.Path.{_≡_, refl, sym, ap, ap₂, _∙_}
 use mathlib.Core.Logic.{_↔_}
-use mathlib.Core.Bool.{true, not}
+use mathlib.Core.Bool.{true}
 use mathlib.Core.List.{List, [], _∷_, _++_, map}
 use lib.ListN.{length, drop, replicate, length-map, length-take, take-append-drop}
 use lib.Seq.{take-append-seam, drop-append-seam, length-take-le}
 use Rattle.refusal.specs.Choice.{allOf}
-use Rattle.refusal.specs.Answer.{accepted, _>>=_, unless-refuse}
+use Rattle.refusal.specs.Answer.{accepted, _>>=_}
+use Rattle.refusal.specs.Refusal.{unless-refuse}
+use Rattle.refusal.specs.declared.Refusal.the-variants as Row
 use Rattle.job.specs.declared.Header.{Header}
 use Rattle.job.specs.declared.Hazard.{Hazard}
 use Rattle.job.specs.declared.NamedHazard.{NamedHazard}
 use Rattle.job.specs.declared.StoredJob.{StoredJob}
-use Rattle.job.specs.Job.{named, unnamed}
+use Rattle.job.specs.Job.{named, unnamed, counted}
 use Rattle.job.specs.Writing.{writeJob}
 use Rattle.job.specs.Reply.{unused}
-use Rattle.job.proofs.JobLaws.{HeaderFits}
+use Rattle.job.specs.Fits.{HeaderFits}
+use Rattle.job.proofs.RangeLaws.{header-bounds}
 use Rattle.schedule.specs.Plan.{plan}
-use Rattle.open_memory.specs.Memory.{mostStanding, standing, counted, laidOut, madeFrom, stands, isFull, inserted, without, admit, admissible, isUnused, isOpenJob}
-use Rattle.open_job.specs.Open.{addTo, withdrawFrom, scheduleOf}
-use Rattle.open_memory.proofs.RangeLaws.{header-ranged, counted-fits}
-use Rattle.open_memory.proofs.RuleLaws.{Stand, admit-counted, stand-names, stand-admissible, open-header, open-standing, open-clear}
+use Rattle.open_memory.specs.Memory.{mostStanding, standing, laidOut, madeFrom, stands, inserted, without, admissible, isUnused, isOpenJob}
+use Rattle.open_job.specs.Open.{testAdd, addTo, withdrawFrom, scheduleOf}
+use Rattle.open_memory.proofs.RangeLaws.{counted-fits}
+use Rattle.open_memory.proofs.RuleLaws.{Stand, admit-counted, stand-names, stand-admissible, open-header, open-standing, open-clear, open-count}
 
 admissible-counted : (h : Header) (n : ℕ) (ps : List NamedHazard) → allOf (admissible (counted h n)) ps ≡ allOf (admissible h) ps
 unfolding allOf
@@ -43,16 +46,16 @@ module _ (h : Header) (ps : List NamedHazard) where
     unfolding isOpenJob
     laid-open =
         let n = length ps in
-        let header = header-ranged (counted h n) (counted-fits h n fits few) in
+        let header = counted-fits h n fits few in
         let rest : allOf isUnused (drop n (ps ++ replicate (mostStanding - n) unused)) ≡ true = rw (drop-append-seam ps (replicate (mostStanding - n) unused)) (unused-all (mostStanding - n)) in
         rw (laid-standing, header, stand-names h 0 ps rules, admissible-counted h n ps, stand-admissible h 0 ps rules) rest
 
     -- The calls on it.
-    pub add-laid : (name : ℕ) (z : Hazard) → addTo (laidOut h ps) name z ≡ (unless-refuse (not (stands name ps)) 12 name >>= λ _. unless-refuse (not (isFull ps)) 15 0 >>= λ _. admit h name z >>= λ _. accepted (laidOut h (inserted (named name z) ps)))
+    pub add-laid : (name : ℕ) (z : Hazard) → addTo (laidOut h ps) name z ≡ (testAdd h ps name z >>= λ _. accepted (laidOut h (inserted (named name z) ps)))
     unfolding addTo
     add-laid name z = rw (laid-open, laid-standing, admit-counted h name z (length ps))
 
-    pub withdraw-laid : (name : ℕ) → withdrawFrom (laidOut h ps) name ≡ (unless-refuse (stands name ps) 12 name >>= λ _. accepted (laidOut h (without name ps)))
+    pub withdraw-laid : (name : ℕ) → withdrawFrom (laidOut h ps) name ≡ (unless-refuse (stands name ps) (Row.Name name) >>= λ _. accepted (laidOut h (without name ps)))
     unfolding withdrawFrom
     withdraw-laid name = rw (laid-open, laid-standing)
 
@@ -67,12 +70,12 @@ pub record KeepsRules (m : StoredJob) : Type 0 where
   pub layout : m ≡ laidOut (m .header) (standing m)
 
 pub open-exactly : (m : StoredJob) → length (m .hazards) ≡ 256 → (isOpenJob m ≡ true) ↔ KeepsRules m
-open-exactly m size = (means, λ k. ap isOpenJob (k .layout) ∙ laid-open (m .header) (standing m) (k .header) (k .hazards) (omega (arith, k .header .count, length-take (m .header .count) (m .hazards))))
+open-exactly m size = (means, λ k. ap isOpenJob (k .layout) ∙ laid-open (m .header) (standing m) (k .header) (k .hazards) (omega (arith, header-bounds (m .header) (k .header) .count, length-take (m .header .count) (m .hazards))))
   where
     means : isOpenJob m ≡ true → KeepsRules m
     means e =
         let count = m .header .count in
-        let number : length (standing m) ≡ count = length-take-le count (m .hazards) (omega (arith, open-header m e .count)) in
+        let number : length (standing m) ≡ count = length-take-le count (m .hazards) (omega (arith, open-count m e)) in
         let all : m .hazards ≡ standing m ++ replicate (mostStanding - count) unused = sym (take-append-drop count (m .hazards)) ∙ ap (λ (l : List NamedHazard). standing m ++ l) (open-clear m e size .behind) in
         record {
           header = open-header m e;

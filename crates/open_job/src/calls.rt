@@ -27,7 +27,8 @@ ghost use lib.ListN.{length};
 ghost use Rattle.refusal.specs.Refusal.{outcome};
 ghost use Rattle.refusal.specs.declared.Outcome.the-variants.{Refused};
 ghost use Rattle.schedule.specs.Plan.{planReply, bytesWritten, outputAfter};
-ghost use Rattle.open_memory.specs.Memory.{hazardGiven, headerInRange, admit, isOpenJob};
+ghost use Rattle.job.specs.Fits.{headerInRange};
+ghost use Rattle.open_memory.specs.Memory.{hazardGiven, admit, isOpenJob};
 ghost use Rattle.open_job.specs.Open.{openJob, addTo, withdrawFrom, scheduleOf, Changes};
 
 // A refusal, and the open job as it was.

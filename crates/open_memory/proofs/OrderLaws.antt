@@ -8,13 +8,16 @@ use lib.ListN.{drop}
 use lib.Dec.{leb}
 use borrow.Author.Tests.{le-leb}
 use Rattle.refusal.specs.Choice.{allOf}
-use Rattle.refusal.specs.Answer.{unless-refuse, isAccepted}
+use Rattle.refusal.specs.Answer.{isAccepted}
+use Rattle.refusal.specs.Refusal.{unless-refuse}
+use Rattle.refusal.specs.declared.Refusal.the-variants as Row
 use Rattle.job.specs.declared.Header.{Header}
 use Rattle.job.specs.declared.NamedHazard.{NamedHazard}
 use Rattle.job.specs.declared.StoredJob.{StoredJob}
 use Rattle.job.specs.Job.{unnamed}
 use Rattle.planning.specs.Envelope.{standsNear, testHazard}
-use Rattle.open_memory.specs.Memory.{greatestName, standing, headerInRange, hazardInRange, admit, admissible, namesRise, isUnused, isOpenJob}
+use Rattle.job.specs.Fits.{headerInRange, hazardInRange}
+use Rattle.open_memory.specs.Memory.{greatestName, standing, admit, admissible, namesRise, isUnused, isOpenJob}
 use Rattle.open_memory.specs.Steps.{inOrderFrom, allInOrder}
 
 module _ (h : Header) where
@@ -24,7 +27,7 @@ module _ (h : Header) where
     unfolding inOrderFrom admit testHazard
     order-ranged top e = rw (e, le-leb (p .name) greatestName top, and-true (leb low (p .name))) (go (leb low (p .name)) (not (standsNear h (unnamed p))))
       where
-        go : (a b : Bool) → (a && b) ≡ (a && isAccepted (unless-refuse b 5 (p .name)))
+        go : (a b : Bool) → (a && b) ≡ (a && isAccepted (unless-refuse b (Row.NearBarrier (p .name))))
         go a true = refl
         go a false = refl
 

@@ -11,22 +11,26 @@ use lib.Seq.{length-take-le}
 use lib.Dec.{leb, eqb}
 use borrow.Author.Tests.{le-leb, leb-true, eqb-true}
 use Rattle.refusal.specs.Choice.{allOf}
-use Rattle.refusal.specs.Answer.{Answer, accepted, refused, _>>=_, unless-refuse, isAccepted}
+use Rattle.refusal.specs.Answer.{Answer, accepted, refused, _>>=_, isAccepted}
+use Rattle.refusal.specs.Refusal.{unless-refuse}
+use Rattle.refusal.specs.declared.Refusal.the-variants as Row
 use Rattle.refusal.proofs.TestLaws.{and-left, and-right}
 use Rattle.job.specs.declared.Header.{Header}
 use Rattle.job.specs.declared.Hazard.{Hazard}
 use Rattle.job.specs.declared.NamedHazard.{NamedHazard}
 use Rattle.job.specs.declared.StoredJob.{StoredJob}
-use Rattle.job.specs.Job.{unnamed, jobOf}
+use Rattle.job.specs.Job.{unnamed, jobOf, counted}
 use Rattle.job.specs.Reply.{unused}
-use Rattle.job.proofs.JobLaws.{HeaderFits, HazardFits}
+use Rattle.job.specs.Fits.{HeaderFits, HazardFits}
+use Rattle.job.proofs.RangeLaws.{header-bounds}
 use Rattle.planning.specs.Envelope.{reached, reaches, farther, standsNear, testHazard}
 use Rattle.planning.specs.Rows.{Passed}
 use Rattle.planning.proofs.EnvelopeLaws.{AcceptedFits, hazard-passed}
 use Rattle.planning.proofs.AcceptedLaws.{hazard-passes}
-use Rattle.open_memory.specs.Memory.{greatestName, standing, counted, madeFrom, headerInRange, hazardInRange, admit, admissible, namesRise, isUnused, isOpenJob}
+use Rattle.job.specs.Fits.{headerInRange, hazardInRange}
+use Rattle.open_memory.specs.Memory.{greatestName, standing, madeFrom, admit, admissible, namesRise, isUnused, isOpenJob}
 use Rattle.open_memory.specs.Steps.{Clear}
-use Rattle.open_memory.proofs.RangeLaws.{header-fits, counted-fits, hazard-fits, hazard-ranged}
+use Rattle.open_memory.proofs.RangeLaws.{counted-fits}
 
 -- A hazard that can be added
 pub record Admitted (h : Header) (z : Hazard) : Type 0 where
@@ -42,13 +46,13 @@ module _ (h : Header) (name : ℕ) (z : Hazard) where
       tested f (accepted u) p t = record { fits = f; passed = hazard-passed h name z u p }
       tested f (refused k v) p t = absurd (false≢true t)
 
-      ranged : (b : Bool) → hazardInRange h z ≡ b → isAccepted (unless-refuse b 4 name >>= λ _. testHazard h name z) ≡ true → Admitted h z
-      ranged true p t = tested (hazard-fits h z p) (testHazard h name z) refl t
+      ranged : (b : Bool) → hazardInRange h z ≡ b → isAccepted (unless-refuse b (Row.HazardRange name) >>= λ _. testHazard h name z) ≡ true → Admitted h z
+      ranged true p t = tested p (testHazard h name z) refl t
       ranged false p t = absurd (false≢true t)
 
   pub admits : Admitted h z → admit h name z ≡ accepted tt
   unfolding admit
-  admits a = rw (hazard-ranged h z (a .fits)) (hazard-passes h name z (a .passed))
+  admits a = rw (a .fits) (hazard-passes h name z (a .passed))
 
   -- Answer by answer.
   pub admit-unranged : hazardInRange h z ≡ false → refused 4 name ≡ admit h name z
@@ -66,7 +70,8 @@ module _ (h : Header) (name : ℕ) (z : Hazard) where
 
 module _ (h : Header) (n : ℕ) (z : Hazard) (a : Admitted h z) where
   pub counted-hazard : HazardFits (counted h n) z
-  counted-hazard = let f = a .fits in record { side = f .side; begins = f .begins; long = f .long; ends = f .ends; offsets = f .offsets; far-top = f .far-top; level-low = f .level-low; level-top = f .level-top }
+  unfolding hazardInRange
+  counted-hazard = a .fits
 
   pub counted-passed : Passed (counted h n) z
   unfolding reached reaches farther
@@ -148,11 +153,11 @@ module _ (m : StoredJob) (good : isOpenJob m ≡ true) where
   header : headerInRange (m .header) && namesRise 0 (standing m) ≡ true
   header = and-left (headerInRange (m .header) && namesRise 0 (standing m)) (allOf (admissible (m .header)) (standing m)) names
 
-  pub open-ranged : headerInRange (m .header) ≡ true
-  open-ranged = and-left (headerInRange (m .header)) (namesRise 0 (standing m)) header
-
   pub open-header : HeaderFits (m .header)
-  open-header = header-fits (m .header) open-ranged
+  open-header = and-left (headerInRange (m .header)) (namesRise 0 (standing m)) header
+
+  pub open-count : m .header .count ≤ 256
+  open-count = header-bounds (m .header) open-header .count
 
   pub open-standing : Stand (m .header) 0 (standing m)
   open-standing =
@@ -169,7 +174,7 @@ module _ (m : StoredJob) (good : isOpenJob m ≡ true) where
 
     pub open-accepted : AcceptedFits (jobOf m)
     open-accepted =
-        let number : length (standing m) ≡ m .header .count = length-take-le (m .header .count) (m .hazards) (omega (arith, open-header .count)) in
+        let number : length (standing m) ≡ m .header .count = length-take-le (m .header .count) (m .hazards) (omega (arith, open-count)) in
         record { fits = record { header = open-header; hazards = record { count = length-map (standing m) unnamed ∙ number; each = λ z k. one z k .fits } }; passed = λ z k. one z k .passed }
       where
         one : (z : Hazard) → List·Memᴰ z (map unnamed (standing m)) → Admitted (m .header) z

@@ -13,14 +13,14 @@ use lib.Seq.{drop-cons, take-take, getD-take, getD-drop, take-suc-set, length-ta
 use lib.Dec.{ltb, eqb}
 use borrow.Author.Tests.{lt-ltb, le-ltb, eq-eqb, ne-eqb}
 use Rattle.refusal.specs.Choice.{if_then_else_, allOf}
-use Rattle.job.specs.declared.Header.{Header}
 use Rattle.job.specs.declared.NamedHazard.{NamedHazard}
 use Rattle.job.specs.declared.StoredJob.{StoredJob}
 use Rattle.job.specs.Reply.{unused}
-use Rattle.open_memory.specs.Memory.{standing, counted, laidOut, stands, isUnused, isOpenJob}
+use Rattle.open_memory.specs.Memory.{standing, laidOut, stands, isUnused, isOpenJob}
 use Rattle.open_memory.specs.Steps.{inOrderFrom, allInOrder, Clear, rank, putAt, takenAt}
-use Rattle.open_memory.proofs.RuleLaws.{open-header, open-standing}
+use Rattle.open_memory.proofs.RuleLaws.{open-count, open-standing}
 use Rattle.open_memory.proofs.PlaceLaws.{stands-place, not-at-place}
+use Rattle.job.specs.Job.{counted}
 
 -- The element with an index before those behind it.
 behind : (l : List NamedHazard) (i : ℕ) → i < length l → drop i l ≡ getD l i unused ∷ drop (i + 1) l
@@ -220,7 +220,7 @@ module _ (job : StoredJob) (size : length (job .hazards) ≡ 256) (clear : Clear
 module _ (m : StoredJob) (good : isOpenJob m ≡ true) (size : length (m .hazards) ≡ 256) (name at : ℕ) (place : at ≡ rank name (standing m)) where
   there : Dec (getD (m .hazards) at unused .name ≡ name) → at < m .header .count → eqb (getD (m .hazards) at unused .name) name ≡ stands name (standing m)
   there d l =
-      let number = standing-length m size (open-header m good .count) in
+      let number = standing-length m size (open-count m good) in
       let own : getD (standing m) (rank name (standing m)) unused ≡ getD (m .hazards) at unused = ap (λ (k : ℕ). getD (standing m) k unused) (sym place) ∙ getD-take (m .header .count) (m .hazards) at unused l in
       go d own (omega arith)
     where
@@ -233,5 +233,5 @@ module _ (m : StoredJob) (good : isOpenJob m ≡ true) (size : length (m .hazard
 
   pub stands-beyond : m .header .count ≤ at → false ≡ stands name (standing m)
   stands-beyond l =
-      let number = standing-length m size (open-header m good .count) in
+      let number = standing-length m size (open-count m good) in
       sym (not-at-place (m .header) name unused 0 (standing m) (open-standing m good) (λ w. omega (arith, w .0)))

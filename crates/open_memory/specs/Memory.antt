@@ -1,19 +1,21 @@
 -- One state of an open job in the caller's memory: what stands in it, and which memory keeps the rules.
 -- Assumes nothing.
 use Prim.Native.Nat.{ℕ, _+_}
-use mathlib.Core.Bool.{Bool, true, false, _&&_, _||_, not}
+use mathlib.Core.Bool.{Bool, true, _&&_, not}
 use mathlib.Core.List.{List, [], _∷_}
 use lib.ListN.{length, take, drop}
 use lib.Dec.{leb, ltb, eqb}
 use Rattle.refusal.specs.Choice.{if_then_else_, someOf, allOf, keep}
-use Rattle.refusal.specs.Answer.{Answer, _>>=_, unless-refuse, isAccepted}
+use Rattle.refusal.specs.Answer.{Answer, _>>=_, isAccepted}
+use Rattle.refusal.specs.Refusal.{unless-refuse}
+use Rattle.refusal.specs.declared.Refusal.the-variants as Row
 use Rattle.refusal.specs.Stored.{padded}
 use Rattle.job.specs.declared.Header.{Header}
 use Rattle.job.specs.declared.Hazard.{Hazard}
 use Rattle.job.specs.declared.NamedHazard.{NamedHazard}
 use Rattle.job.specs.declared.StoredJob.{StoredJob}
-use Rattle.job.specs.Job.{Job, unnamed, Range, within, headerRanges, hazardRanges}
-use Rattle.job.specs.Writing.{headerNumbers, hazardNumbers}
+use Rattle.job.specs.Job.{Job, unnamed, counted}
+use Rattle.job.specs.Fits.{headerInRange, hazardInRange}
 use Rattle.job.specs.Reply.{unused}
 use Rattle.planning.specs.Envelope.{testHazard}
 use Rattle.open_memory.specs.declared.GivenHazard.{GivenHazard}
@@ -30,26 +32,6 @@ greatestName = 65535
 -- The hazards that stand, with their names: the first in the memory, as many as the header's hazard count says.
 abbrev pub standing : StoredJob → List NamedHazard
 standing m = take (m .header .count) (m .hazards)
-
--- A header with another hazard count.
-abbrev pub counted : Header → ℕ → Header
-counted h n = record {
-  kind = h .kind;
-  begin = h .begin;
-  end = h .end;
-  forward = h .forward;
-  opposite = h .opposite;
-  zone = h .zone;
-  way = h .way;
-  offset = h .offset;
-  deflection = h .deflection;
-  along = h .along;
-  across = h .across;
-  straight = h .straight;
-  continuity = h .continuity;
-  panel = h .panel;
-  count = n;
-}
 
 -- The memory in which these hazards stand: as many as the hazard count says, and zeros behind them.
 abbrev pub laidOut : Header → List NamedHazard → StoredJob
@@ -78,23 +60,9 @@ without name ps = keep (λ (p : NamedHazard). not (eqb (p .name) name)) ps
 
 -- The rules
 
--- Numbers, each in its range.
-unfoldable pub inRanges : List Range → List ℕ → Bool
-inRanges (r ∷ rs) (x ∷ xs) = within r x && inRanges rs xs
-inRanges [] [] = true
-inRanges [] (x ∷ xs) = false
-inRanges (r ∷ rs) [] = false
-
--- Each of the header's numbers in its range; of kind 1, which has no panel length and "acts as panel length 1", the panel length is 1.
-unfoldable pub headerInRange : Header → Bool
-headerInRange h = inRanges (headerRanges (h .kind) (h .begin)) (headerNumbers h) && (eqb (h .kind) 2 || eqb (h .panel) 1)
-
-unfoldable pub hazardInRange : Header → Hazard → Bool
-hazardInRange h z = inRanges (hazardRanges (h .begin) (h .end) (z .start) (z .near)) (hazardNumbers z)
-
 -- "Add tests its hazard for 4, 5 and 6, index replaced by name"; since request 8 "number 6 no longer occurs anywhere".
 unfoldable pub admit : Header → (name : ℕ) → Hazard → Answer (Unit {0})
-admit h name z = unless-refuse (hazardInRange h z) 4 name >>= λ _. testHazard h name z
+admit h name z = unless-refuse (hazardInRange h z) (Row.HazardRange name) >>= λ _. testHazard h name z
 
 -- The same of a hazard that stands.
 abbrev pub admissible : Header → NamedHazard → Bool

@@ -10,14 +10,15 @@ use Rattle.refusal.specs.Choice.{if_then_else_}
 use Rattle.job.specs.declared.Header.{Header}
 use Rattle.job.specs.declared.NamedHazard.{NamedHazard}
 use Rattle.job.specs.declared.StoredJob.{StoredJob}
-use Rattle.job.specs.Job.{lastRanges}
+use Rattle.job.specs.Job.{nextInHeader, sharedNumbers}
 use Rattle.job.specs.Writing.{lastNumbers}
+use Rattle.job.specs.Fits.{inRanges}
 use Rattle.job.specs.Reply.{unused}
-use Rattle.open_memory.specs.Memory.{mostStanding, greatestName, inRanges, admissible}
+use Rattle.open_memory.specs.Memory.{mostStanding, greatestName, admissible}
 
 -- The header's numbers after the thirteen that every kind has.
 unfoldable pub lastInRange : Header → Bool
-lastInRange h = inRanges (lastRanges (h .kind)) (lastNumbers h) && (eqb (h .kind) 2 || eqb (h .panel) 1)
+lastInRange h = inRanges nextInHeader (sharedNumbers h) (lastNumbers h) && (eqb (h .kind) 2 || eqb (h .panel) 1)
 
 -- A name from `low` on, and a hazard that could be added; and all of them, with rising names.
 unfoldable pub inOrderFrom : Header → (low : ℕ) → NamedHazard → Bool

@@ -7,8 +7,9 @@ ghost use mathlib.Core.Path.{_≡_};
 ghost use mathlib.Core.Bool.{true};
 ghost use mathlib.Core.List.{[]};
 ghost use Prim.Native.Nat.{_≤_, _<_};
-ghost use Rattle.job.specs.Job.{named};
-ghost use Rattle.open_memory.specs.Memory.{hazardGiven, standing, counted, laidOut, headerInRange, hazardInRange, isOpenJob, stands};
+ghost use Rattle.job.specs.Job.{named, counted};
+ghost use Rattle.job.specs.Fits.{headerInRange, hazardInRange};
+ghost use Rattle.open_memory.specs.Memory.{hazardGiven, standing, laidOut, isOpenJob, stands};
 ghost use Rattle.open_memory.specs.Steps.{Clear, rank, putAt, takenAt};
 
 // A place in which no hazard stands.

@@ -8,18 +8,19 @@ use job::unnamed;
 use planning::near::stands_near;
 ghost use mathlib.Core.Path.{_≡_};
 ghost use mathlib.Core.Bool.{true};
+ghost use mathlib.Core.List.{[]};
 ghost use Prim.Native.Nat.{_≤_};
 ghost use lib.ListN.{drop};
 ghost use Rattle.refusal.specs.Choice.{allOf};
-ghost use Rattle.job.specs.Job.{sharedRanges};
+ghost use Rattle.job.specs.Job.{nextInHeader, sharedNumbers};
 ghost use Rattle.job.specs.Job as job;
-ghost use Rattle.job.specs.Writing.{sharedNumbers};
-ghost use Rattle.open_memory.specs.Memory.{hazardGiven, standing, inRanges, headerInRange, hazardInRange, isUnused, isOpenJob};
+ghost use Rattle.job.specs.Fits.{inRanges, headerInRange, hazardInRange};
+ghost use Rattle.open_memory.specs.Memory.{hazardGiven, standing, isUnused, isOpenJob};
 ghost use Rattle.open_memory.specs.Steps.{lastInRange, inOrderFrom, allInOrder};
 
 // Each of the thirteen header numbers that every kind has lies in its range, in the table's order.
 fn shared_in_range(h: Header) -> bool
-    ensures { λ r. ⌜ r ≡ inRanges (sharedRanges (h .begin)) (sharedNumbers h) ⌝ }
+    ensures { λ r. ⌜ r ≡ inRanges nextInHeader [] (sharedNumbers h) ⌝ }
 {
     // So that no sum below leaves 64 bits.
     if 999999999999 < h.begin {

@@ -1,9 +1,13 @@
 pub mod SameLaws
-pub mod ModelLaws
+pub mod HazardLaws
 pub mod StandingLaws
+pub mod ModelLaws
 pub mod AddedLaws
 pub mod MemoryLaws
+pub mod ReplyLaws
 pub mod ListLaws
+pub mod ContentLaws
+pub mod BuildLaws
 pub mod MeaningLaws
 pub mod BeforeLaws
 pub mod NamesLaws

@@ -3,25 +3,29 @@
 use Prim.Native.Nat.{ℕ, zero, suc, _≤_, _<_}
 use native.Mathlib.Omega.{arith}
 use native.Mathlib.Decide.{ℕ-discrete}
-use mathlib.Core.Path.{_≡_, refl, sym, ap, subst, _∙_}
-use mathlib.Core.Logic.{_⊎_, inl, inr, _↔_}
-use mathlib.Core.Bool.{Bool, true, false, _||_, not}
-use mathlib.Core.List.{List, [], _∷_, _++_, map, List·Memᴰ, List·Memᴰ·head, List·Memᴰ·tail, List·Memᴰ·cases-cons, List·Memᴰ·not-nil, List·Memᴰ·append-cases, List·Memᴰ·eq-of-singleton}
+use mathlib.Core.Path.{_≡_, refl, ap, subst, _∙_}
+use mathlib.Core.Logic.{_⊎_, inl, inr}
+use mathlib.Core.Bool.{Bool, true, false, not}
+use mathlib.Core.List.{List, [], _∷_, _++_, List·Memᴰ, List·Memᴰ·head, List·Memᴰ·cases-cons, List·Memᴰ·not-nil, List·Memᴰ·append-cases, List·Memᴰ·eq-of-singleton}
 use lib.ListN.{length}
-use lib.Dec.{leb, eqb}
 use borrow.Author.Tests.{lt-leb}
 use Rattle.refusal.specs.Choice.{if_then_else_}
-use Rattle.refusal.specs.Answer.{Answer, accepted, _>>=_, unless-refuse, isAccepted}
+use Rattle.refusal.specs.Answer.{_>>=_, isAccepted}
+use Rattle.refusal.specs.Refusal.{unless-refuse}
+use Rattle.refusal.specs.declared.Refusal.the-variants as Row
 use Rattle.job.specs.declared.Header.{Header}
 use Rattle.job.specs.declared.Hazard.{Hazard}
 use Rattle.job.specs.declared.NamedHazard.{NamedHazard}
-use Rattle.job.specs.Job.{Job, named, unnamed}
+use Rattle.job.specs.Job.{Job, named}
 use Rattle.open_memory.specs.Memory.{mostStanding, stands, isFull, without, admit}
+use Rattle.open_job.specs.Open.{testAdd, replied}
 use Rattle.kept_states.specs.declared.OpenStates.{OpenStates}
-use Rattle.kept_states.specs.States.{greatestStateNumber}
-use Rattle.open_promises.specs.Lists.{Edit, add, withdraw, Call, edit, schedule, keepAs, returnTo, Kept, nothing, state, States, opened, keptAs, returnedTo, statesAfter, statesAfterAll, standAfter, hazardsAfter, CallsFrom, Standing}
-use Rattle.open_promises.specs.Before.{ByteNamed, standBefore, hazardsBefore, NamedAsBefore, Names-before-12}
-use Rattle.open_promises.proofs.StandingLaws.{Distinct, distinct-more, distinct-less, without-cases, none-taken, one-less}
+use Rattle.kept_states.specs.States.{addIn}
+use Rattle.open_promises.specs.Lists.{Edit, add, withdraw, Call, edit, Kept, nothing, state, States, opened, standAfter, hazardsAfter, CallsFrom, SchedulesAs, Standing, testNameAndHazard}
+use Rattle.open_promises.specs.Before.{ByteNamed, hazardsBefore, NamedAsBefore, Names-before-12}
+use Rattle.open_promises.proofs.HazardLaws.{Distinct, distinct-more, distinct-less, without-cases, none-taken, one-less}
+use Rattle.open_promises.proofs.StandingLaws.{may-add}
+use Rattle.open_promises.proofs.ModelLaws.{AgreeKept, AgreeAll, agree-opened, agree-calls}
 use Rattle.open_promises.proofs.ListLaws.{standing-promise, schedule-promise}
 
 -- No more hazards than names.
@@ -46,14 +50,6 @@ record Bytes (past : List NamedHazard) : Type 0 where
   apart : Distinct past
   each : (p : NamedHazard) → List·Memᴰ p past → p .name ≤ 255
 
-abbrev BytesKept : Kept (List NamedHazard) → Type 0
-BytesKept nothing = Unit {0}
-BytesKept (state past) = Bytes past
-
-record AllBytes (s : States (List NamedHazard)) : Type 0 where
-  now : Bytes (s .now)
-  kept : (number : ℕ) → BytesKept (s .kept number)
-
 -- A byte that is the name of none leaves room.
 room : (past : List NamedHazard) → Bytes past → (name : ℕ) (z : Hazard) → name ≤ 255 → stands name past ≡ false → isFull past ≡ false
 room past b name z byte fresh = lt-leb mostStanding (length past) (omega (arith, few-names mostStanding (named name z ∷ past) (fresh, b .apart) (λ p m. lower p (List·Memᴰ·cases-cons m))))
@@ -62,6 +58,15 @@ room past b name z byte fresh = lt-leb mostStanding (length past) (omega (arith,
     lower p (inl e) = omega (arith, byte, ap (λ (x : NamedHazard). x .name) e)
     lower p (inr m) = omega (arith, b .each p m)
 
+-- So an add under a byte is tested as before.
+tests-before : (h : Header) (past : List NamedHazard) → Bytes past → (name : ℕ) (z : Hazard) → name ≤ 255 → testAdd h past name z ≡ testNameAndHazard h past name z
+tests-before h past b name z byte = go (stands name past) refl
+  where
+    go : (t : Bool) → stands name past ≡ t
+        → (unless-refuse (not t) (Row.Name name) >>= λ _. unless-refuse (not (isFull past)) Row.Full >>= λ _. admit h name z) ≡ (unless-refuse (not t) (Row.Name name) >>= λ _. admit h name z)
+    go true e = refl
+    go false e = rw (room past b name z byte e)
+
 -- Edits
 
 abbrev ByteEdit : Edit → Type 0
@@ -69,112 +74,65 @@ ByteEdit (add name z) = name ≤ 255
 ByteEdit (withdraw name) = Unit {0}
 
 module _ (h : Header) (past : List NamedHazard) (b : Bytes past) where
-  edit-same : (e : Edit) → ByteEdit e → standAfter h past e ≡ standBefore h past e
-  unfolding standAfter standBefore
+  edit-same : (e : Edit) → ByteEdit e → standAfter (testAdd h) past e ≡ standAfter (testNameAndHazard h) past e
+  unfolding standAfter
   edit-same (withdraw name) byte = refl
-  edit-same (add name z) byte = go (stands name past) refl
-    where
-      go : (t : Bool) → stands name past ≡ t
-          → (if t || isFull past || not (isAccepted (admit h name z)) then past else past ++ named name z ∷ []) ≡ (if t || not (isAccepted (admit h name z)) then past else past ++ named name z ∷ [])
-      go true e = refl
-      go false e = rw (room past b name z byte e)
+  edit-same (add name z) byte = rw (tests-before h past b name z byte)
 
-  edit-bytes : (e : Edit) → ByteEdit e → Bytes (standBefore h past e)
-  unfolding standBefore
+  edit-bytes : (e : Edit) → ByteEdit e → Bytes (standAfter (testAdd h) past e)
+  unfolding standAfter
   edit-bytes (withdraw name) byte = record { apart = distinct-less name past (b .apart); each = λ p m. b .each p (without-cases name p past m .0) }
-  edit-bytes (add name z) byte = go (stands name past) (isAccepted (admit h name z)) refl
+  edit-bytes (add name z) byte = go (isAccepted (testAdd h past name z)) refl
     where
-      go : (t a : Bool) → stands name past ≡ t → Bytes (if t || not a then past else past ++ named name z ∷ [])
-      go true a e = b
-      go false false e = b
-      go false true e = record { apart = distinct-more past (named name z) (b .apart) e; each = λ p m. there p (List·Memᴰ·append-cases past m) }
-        where
-          there : (p : NamedHazard) → List·Memᴰ p past ⊎ List·Memᴰ p (named name z ∷ []) → p .name ≤ 255
-          there p (inl m) = b .each p m
-          there p (inr m) = omega (arith, byte, ap (λ (x : NamedHazard). x .name) (List·Memᴰ·eq-of-singleton m))
+      there : (p : NamedHazard) → List·Memᴰ p past ⊎ List·Memᴰ p (named name z ∷ []) → p .name ≤ 255
+      there p (inl m) = b .each p m
+      there p (inr m) = omega (arith, byte, ap (λ (x : NamedHazard). x .name) (List·Memᴰ·eq-of-singleton m))
+
+      go : (a : Bool) → isAccepted (testAdd h past name z) ≡ a → Bytes (if a then past ++ named name z ∷ [] else past)
+      go true e = record { apart = distinct-more past (named name z) (b .apart) (may-add h past name z e .fresh); each = λ p m. there p (List·Memᴰ·append-cases past m) }
+      go false e = b
 
 -- Calls
 
-abbrev ByteCall : Call → Type 0
-ByteCall (edit e) = ByteEdit e
-ByteCall (schedule side room) = Unit {0}
-ByteCall (keepAs number) = Unit {0}
-ByteCall (returnTo number) = Unit {0}
+record AsBefore (past before : List NamedHazard) : Type 0 where
+  same : past ≡ before
+  bytes : Bytes past
 
-module _ (h : Header) where
-  call-same : (s : States (List NamedHazard)) → AllBytes s → (c : Call) → ByteCall c → statesAfter (standAfter h) s c ≡ statesAfter (standBefore h) s c
-  unfolding statesAfter
-  call-same s b (edit e) byte = ap (λ (l : List NamedHazard). record { now = l; kept = s .kept }) (edit-same h (s .now) (b .now) e byte)
-  call-same s b (schedule side room) byte = refl
-  call-same s b (keepAs number) byte = refl
-  call-same s b (returnTo number) byte = refl
-
-  call-bytes : (s : States (List NamedHazard)) → AllBytes s → (c : Call) → ByteCall c → AllBytes (statesAfter (standBefore h) s c)
-  unfolding statesAfter keptAs
-  call-bytes s b (edit e) byte = record { now = edit-bytes h (s .now) (b .now) e byte; kept = b .kept }
-  call-bytes s b (schedule side room) byte = b
-  call-bytes s b (keepAs number) byte = go (leb number greatestStateNumber)
-    where
-      here : (k : ℕ) (t : Bool) → BytesKept (if t then state (s .now) else s .kept k)
-      here k true = b .now
-      here k false = b .kept k
-
-      go : (t : Bool) → AllBytes (if t then record { now = s .now; kept = λ k. if eqb number k then state (s .now) else s .kept k } else s)
-      go true = record { now = b .now; kept = λ k. here k (eqb number k) }
-      go false = b
-  call-bytes s b (returnTo number) byte = go (s .kept number) (b .kept number)
-    where
-      go : (x : Kept (List NamedHazard)) → BytesKept x → AllBytes (returnedTo x s)
-      go nothing t = b
-      go (state past) t = record { now = t; kept = b .kept }
-
-  one-byte : (c : Call) (cs : List Call) → ByteNamed (c ∷ cs) → ByteCall c
-  one-byte (edit (add name z)) cs byte = byte name z (List·Memᴰ·head refl)
-  one-byte (edit (withdraw name)) cs byte = tt
-  one-byte (schedule side room) cs byte = tt
-  one-byte (keepAs number) cs byte = tt
-  one-byte (returnTo number) cs byte = tt
-
-  -- The same hazards after a list of calls, and all of them with bytes for names.
-  record Same (s : States (List NamedHazard)) (calls : List Call) : Type 0 where
-    same : statesAfterAll (standAfter h) s calls ≡ statesAfterAll (standBefore h) s calls
-    bytes : AllBytes (statesAfterAll (standBefore h) s calls)
-
-  calls-same : (s : States (List NamedHazard)) → AllBytes s → (calls : List Call) → ByteNamed calls → Same s calls
-  unfolding statesAfterAll
-  calls-same s b [] byte = record { same = refl; bytes = b }
-  calls-same s b (c ∷ cs) byte =
-      let here = one-byte c cs byte in
-      let rest = calls-same (statesAfter (standBefore h) s c) (call-bytes s b c here) cs (λ name z m. byte name z (List·Memᴰ·tail m)) in
-      record { same = ap (λ (t : States (List NamedHazard)). statesAfterAll (standAfter h) t cs) (call-same s b c here) ∙ rest .same; bytes = rest .bytes }
+same-kept : (x y : Kept (List NamedHazard)) → AgreeKept AsBefore x y → x ≡ y
+same-kept nothing nothing a = refl
+same-kept nothing (state before) a = absurd a
+same-kept (state past) nothing a = absurd a
+same-kept (state past) (state before) a = ap state (a .same)
 
 module _ (s : List ℕ) (j : Job) (calls : List Call) (m : OpenStates) (from : CallsFrom s j calls m) (byte : ByteNamed calls) where
-  none : AllBytes (opened [])
-  none = record { now = record { apart = tt; each = λ p k. absurd (List·Memᴰ·not-nil k) }; kept = λ number. tt }
+  abbrev h : Header
+  h = j .header
 
-  alike : Same (j .header) (opened []) calls
-  alike = calls-same (j .header) (opened []) none calls byte
+  abbrev are : States (List NamedHazard)
+  are = hazardsAfter h calls
 
   abbrev were : States (List NamedHazard)
-  were = hazardsBefore (j .header) calls
+  were = hazardsBefore h calls
 
-  stood : Standing (j .header) were m
-  stood = subst (λ (t : States (List NamedHazard)). Standing (j .header) t m) (alike .same) (standing-promise s j calls m from)
+  alike : AgreeAll AsBefore are were
+  alike =
+      agree-calls AsBefore (standAfter (testAdd h)) (standAfter (testNameAndHazard h)) ByteEdit
+      (λ past before k e byte. record { same = edit-same h past (k .bytes) e byte ∙ ap (λ (l : List NamedHazard). standAfter (testNameAndHazard h) l e) (k .same); bytes = edit-bytes h past (k .bytes) e byte })
+      (opened []) (opened []) (agree-opened AsBefore (record { same = refl; bytes = record { apart = tt; each = λ p k. absurd (List·Memᴰ·not-nil k) } })) calls may
+    where
+      may : (e : Edit) → List·Memᴰ (edit e) calls → ByteEdit e
+      may (add name z) k = byte name z k
+      may (withdraw name) k = tt
 
-  no-fifteen : (name : ℕ) (z : Hazard) → name ≤ 255 → (t : Bool) → stands name (were .now) ≡ t
-      → _≡_ {A = Answer ℕ} (unless-refuse (not t) 12 name >>= λ _. unless-refuse (not (isFull (were .now))) 15 0 >>= λ _. admit (j .header) name z >>= λ _. accepted 0)
-      (unless-refuse (not t) 12 name >>= λ _. admit (j .header) name z >>= λ _. accepted 0)
-  no-fifteen name z top true e = refl
-  no-fifteen name z top false e = rw (room (were .now) (alike .bytes .now) name z top e)
+  same : are ≡ were
+  same = λ i. record { present = alike .present .same i; kept = λ number. same-kept (are .kept number) (were .kept number) (alike .kept number) i }
 
-  as-before : NamedAsBefore (j .header) calls m
+  as-before : NamedAsBefore h calls m
   as-before = record {
-    same = alike .same;
-    next-add = λ name z top. stood .next-add name z ∙ no-fifteen name z top (stands name (were .now)) refl;
-    next-withdrawal = stood .next-withdrawal;
-    next-keep = stood .next-keep;
-    next-return = stood .next-return;
-    schedules = λ zs most each. schedule-promise s j calls m from zs most (λ z. subst (λ (t : States (List NamedHazard)). List·Memᴰ z zs ↔ List·Memᴰ z (map unnamed (t .now))) (sym (alike .same)) (each z));
+    same = same;
+    next-add = λ name z top. subst (λ (t : States (List NamedHazard)). replied (addIn m name z) ≡ replied (testNameAndHazard h (t .present) name z)) same (standing-promise s j calls m from .next-add name z ∙ ap replied (tests-before h (are .present) (alike .present .bytes) name z top));
+    hazards-stand = subst (λ (t : States (List NamedHazard)). Standing h t m) same (standing-promise s j calls m from);
+    schedules = subst (λ (t : States (List NamedHazard)). SchedulesAs h (t .present) m) same (schedule-promise s j calls m from);
   }
 
 pub names-before-12 : Names-before-12

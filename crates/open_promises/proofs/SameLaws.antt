@@ -7,7 +7,7 @@ use lib.ListN.{length}
 use Rattle.job.specs.declared.Header.{Header}
 use Rattle.job.specs.declared.Hazard.{Hazard}
 use Rattle.job.specs.Writing.{writeJob}
-use Rattle.job.proofs.JobLaws.{HeaderFits}
+use Rattle.job.specs.Fits.{HeaderFits}
 use Rattle.planning.proofs.AcceptedLaws.{fitting-accepted}
 use Rattle.schedule.specs.Plan.{plan}
 use Rattle.demands.proofs.DemandLaws.{counted-alike}

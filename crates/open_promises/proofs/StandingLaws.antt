@@ -1,161 +1,50 @@
 -- Hazards that stand, in their places and apart from them: the same ones, edit after edit.
 -- Assumes nothing.
-use Prim.Native.Nat.{ℕ, suc, _+_, _≤_}
+use Prim.Native.Nat.{ℕ, _≤_}
 use native.Mathlib.Omega.{arith}
 use mathlib.Core.Path.{_≡_, refl, sym, ap, _∙_}
-use mathlib.Core.Logic.{_⊎_, inl, inr, _↔_}
-use mathlib.Core.Bool.{Bool, true, false, _||_, not, false≢true}
-use mathlib.Core.List.{List, [], _∷_, _++_, List·Memᴰ, List·Memᴰ·head, List·Memᴰ·tail, List·Memᴰ·cases-cons, List·Memᴰ·not-nil, List·Memᴰ·append-cases, List·Memᴰ·eq-of-singleton}
+use mathlib.Core.Logic.{_⊎_, inl, inr, _↔_, ⊎-elim}
+use mathlib.Core.Bool.{Bool, true, false, not}
+use mathlib.Core.List.{List, [], _∷_, _++_, List·Memᴰ, List·Memᴰ·head, List·Memᴰ·append-cases, List·Memᴰ·eq-of-singleton, Memᴰ·append-left, Memᴰ·append-right}
 use lib.ListN.{length, length-append}
-use lib.Dec.{ltb, leb, eqb}
-use borrow.Author.Tests.{eq-eqb, ne-eqb, eqb-true, leb-false}
-use Rattle.refusal.specs.Choice.{if_then_else_, someOf, keep}
-use Rattle.refusal.specs.Answer.{Answer, accepted, refused, _>>=_, unless-refuse, isAccepted}
-use Rattle.refusal.proofs.TestLaws.{decided, any-elim, any-intro, keep-elim, keep-intro}
+use borrow.Author.Tests.{leb-false}
+use Rattle.refusal.specs.Choice.{if_then_else_}
+use Rattle.refusal.specs.Answer.{Answer, accepted, refused, _>>=_, isAccepted}
+use Rattle.refusal.specs.Refusal.{unless-refuse}
+use Rattle.refusal.specs.declared.Refusal.the-variants as Row
+use Rattle.refusal.proofs.TestLaws.{decided, impossible}
 use Rattle.job.specs.declared.Header.{Header}
 use Rattle.job.specs.declared.Hazard.{Hazard}
 use Rattle.job.specs.declared.NamedHazard.{NamedHazard}
-use Rattle.job.specs.Job.{named}
-use Rattle.job.proofs.JobLaws.{HeaderFits}
-use Rattle.open_memory.specs.Memory.{mostStanding, greatestName, laidOut, stands, isFull, inserted, without, admit}
 use Rattle.job.specs.declared.StoredJob.{StoredJob}
-use Rattle.open_job.specs.Open.{memoryAfter, addTo, withdrawFrom}
-use Rattle.open_promises.specs.Lists.{Edit, add, withdraw, Nameable, standAfter}
+use Rattle.job.specs.Job.{named}
+use Rattle.job.specs.Fits.{HeaderFits}
+use Rattle.open_memory.specs.Memory.{mostStanding, laidOut, stands, isFull, inserted, without, admit}
 use Rattle.open_memory.proofs.RuleLaws.{admitted, Stand}
-use Rattle.open_memory.proofs.PlaceLaws.{other-name, none-below, inserted-stand, inserted-length, without-stand}
+use Rattle.open_memory.proofs.PlaceLaws.{other-name, standing-named, inserted-stand, inserted-length, without-stand}
+use Rattle.open_job.specs.Open.{testAdd, memoryAfter, addTo, withdrawFrom}
 use Rattle.open_job.proofs.LayoutLaws.{add-laid, withdraw-laid}
+use Rattle.open_promises.specs.Lists.{Edit, add, withdraw, Nameable, standAfter}
+use Rattle.open_promises.proofs.HazardLaws.{inserted-which, without-cases, without-other, stands-which, stands-none, none-taken, Distinct, stand-distinct, distinct-more, distinct-less, without-length, one-less}
 
--- Which hazards stand
+-- An add that is not refused.
+pub record MayAdd (h : Header) (ps : List NamedHazard) (name : ℕ) (z : Hazard) : Type 0 where
+  pub fresh : stands name ps ≡ false
+  pub room : isFull ps ≡ false
+  pub may : isAccepted (admit h name z) ≡ true
 
-pub member-first : (ps : List NamedHazard) {x : NamedHazard} → List·Memᴰ x ps → (qs : List NamedHazard) → List·Memᴰ x (ps ++ qs)
-member-first ps (List·Memᴰ·head e) qs = List·Memᴰ·head e
-member-first ps (List·Memᴰ·tail {xs = xs} m) qs = List·Memᴰ·tail (member-first xs m qs)
-
-pub member-last : (ps : List NamedHazard) (x : NamedHazard) → List·Memᴰ x (ps ++ x ∷ [])
-member-last [] x = List·Memᴰ·head refl
-member-last (p ∷ ps) x = List·Memᴰ·tail (member-last ps x)
-
-inserted-cases : (p x : NamedHazard) (ps : List NamedHazard) → List·Memᴰ x (inserted p ps) → (x ≡ p) ⊎ List·Memᴰ x ps
-unfolding inserted
-inserted-cases p x [] m = List·Memᴰ·cases-cons m
-inserted-cases p x (q ∷ qs) m = go (ltb (p .name) (q .name)) m (inserted-cases p x qs)
+pub may-add : (h : Header) (ps : List NamedHazard) (name : ℕ) (z : Hazard) → isAccepted (testAdd h ps name z) ≡ true → MayAdd h ps name z
+may-add h ps name z e = go (stands name ps) (isFull ps) refl refl e
   where
-    later : (x ≡ p) ⊎ List·Memᴰ x qs → (x ≡ p) ⊎ List·Memᴰ x (q ∷ qs)
-    later (inl e) = inl e
-    later (inr k) = inr (List·Memᴰ·tail k)
+    go : (b f : Bool) → stands name ps ≡ b → isFull ps ≡ f → isAccepted (unless-refuse (not b) (Row.Name name) >>= λ _. unless-refuse (not f) Row.Full >>= λ _. admit h name z) ≡ true → MayAdd h ps name z
+    go false false p q r = record { fresh = p; room = q; may = r }
+    go false true p q r = impossible cc
+    go true f p q r = impossible cc
 
-    here : (x ≡ q) ⊎ List·Memᴰ x (inserted p qs) → (List·Memᴰ x (inserted p qs) → (x ≡ p) ⊎ List·Memᴰ x qs) → (x ≡ p) ⊎ List·Memᴰ x (q ∷ qs)
-    here (inl e) r = inr (List·Memᴰ·head e)
-    here (inr k) r = later (r k)
-
-    go : (b : Bool) → List·Memᴰ x (if b then p ∷ q ∷ qs else q ∷ inserted p qs) → (List·Memᴰ x (inserted p qs) → (x ≡ p) ⊎ List·Memᴰ x qs) → (x ≡ p) ⊎ List·Memᴰ x (q ∷ qs)
-    go true k r = List·Memᴰ·cases-cons k
-    go false k r = here (List·Memᴰ·cases-cons k) r
-
-inserted-member : (p x : NamedHazard) (ps : List NamedHazard) → (x ≡ p) ⊎ List·Memᴰ x ps → List·Memᴰ x (inserted p ps)
-unfolding inserted
-inserted-member p x [] (inl e) = List·Memᴰ·head e
-inserted-member p x [] (inr m) = absurd (List·Memᴰ·not-nil m)
-inserted-member p x (q ∷ qs) w = go (ltb (p .name) (q .name)) w (inserted-member p x qs)
-  where
-    deeper : (x ≡ p) ⊎ List·Memᴰ x (q ∷ qs) → ((x ≡ p) ⊎ List·Memᴰ x qs → List·Memᴰ x (inserted p qs)) → List·Memᴰ x (q ∷ inserted p qs)
-    deeper (inl e) r = List·Memᴰ·tail (r (inl e))
-    deeper (inr m) r = there (List·Memᴰ·cases-cons m)
-      where
-        there : (x ≡ q) ⊎ List·Memᴰ x qs → List·Memᴰ x (q ∷ inserted p qs)
-        there (inl e) = List·Memᴰ·head e
-        there (inr k) = List·Memᴰ·tail (r (inr k))
-
-    first : (x ≡ p) ⊎ List·Memᴰ x (q ∷ qs) → List·Memᴰ x (p ∷ q ∷ qs)
-    first (inl e) = List·Memᴰ·head e
-    first (inr m) = List·Memᴰ·tail m
-
-    go : (b : Bool) → (x ≡ p) ⊎ List·Memᴰ x (q ∷ qs) → ((x ≡ p) ⊎ List·Memᴰ x qs → List·Memᴰ x (inserted p qs)) → List·Memᴰ x (if b then p ∷ q ∷ qs else q ∷ inserted p qs)
-    go true v r = first v
-    go false v r = deeper v r
-
-pub without-cases : (name : ℕ) (x : NamedHazard) (ps : List NamedHazard) → List·Memᴰ x (without name ps) → List·Memᴰ x ps × (x .name ≡ name → ⊥)
-unfolding without
-without-cases name x ps m =
-    let w = keep-elim (λ (p : NamedHazard). not (eqb (p .name) name)) ps m in
-    (w .0, λ same. absurd (false≢true (rw (eq-eqb (x .name) name same) at (w .1))))
-
-pub without-other : (name : ℕ) (x : NamedHazard) (ps : List NamedHazard) → List·Memᴰ x ps → (x .name ≡ name → ⊥) → List·Memᴰ x (without name ps)
-unfolding without
-without-other name x ps m differ = keep-intro (λ (p : NamedHazard). not (eqb (p .name) name)) m (rw (ne-eqb (x .name) name differ))
-
--- Names by which no two hazards stand
-
-abbrev pub Distinct : List NamedHazard → Type 0
-Distinct [] = Unit {0}
-Distinct (p ∷ ps) = (stands (p .name) ps ≡ false) × Distinct ps
-
-pub stand-distinct : (h : Header) (low : ℕ) (ps : List NamedHazard) → Stand h low ps → Distinct ps
-stand-distinct h low [] t = tt
-stand-distinct h low (p ∷ ps) t = (none-below h (p .name + 1) (p .name) ps (t .3) (omega arith), stand-distinct h (p .name + 1) ps (t .3))
-
--- A name stands exactly if a hazard has it.
-pub stands-intro : (name : ℕ) (ps : List NamedHazard) → ((p : NamedHazard) → List·Memᴰ p ps → p .name ≡ name → ⊥) → stands name ps ≡ false
-unfolding stands
-stands-intro name ps none = go (decided (stands name ps))
-  where
-    go : (stands name ps ≡ true) ⊎ (stands name ps ≡ false) → stands name ps ≡ false
-    go (inr f) = f
-    go (inl t) = let w = any-elim (λ (p : NamedHazard). eqb (p .name) name) ps t in absurd (none (w .one) (w .member) (eqb-true _ _ (w .passes)))
-
-pub without-stands : (name : ℕ) (ps : List NamedHazard) → stands name (without name ps) ≡ false
-without-stands name ps = stands-intro name (without name ps) (λ p m. without-cases name p ps m .1)
-
-pub distinct-more : (past : List NamedHazard) (p : NamedHazard) → Distinct past → stands (p .name) past ≡ false → Distinct (past ++ p ∷ [])
-unfolding stands someOf
-distinct-more [] p d e = (refl, tt)
-distinct-more (q ∷ qs) p d e = (
-  stands-intro (q .name) (qs ++ p ∷ []) (λ x m same. there x same (List·Memᴰ·append-cases qs m)),
-  distinct-more qs p (d .1) (stands-intro (p .name) qs (λ x m. other-name (p .name) (q ∷ qs) x e (List·Memᴰ·tail m))),
-)
-  where
-    there : (x : NamedHazard) → x .name ≡ q .name → List·Memᴰ x qs ⊎ List·Memᴰ x (p ∷ []) → ⊥
-    there x same (inl k) = other-name (q .name) qs x (d .0) k same
-    there x same (inr k) = other-name (p .name) (q ∷ qs) q e (List·Memᴰ·head refl) (sym same ∙ ap (λ (y : NamedHazard). y .name) (List·Memᴰ·eq-of-singleton k))
-
-pub none-taken : (name : ℕ) (ps : List NamedHazard) → stands name ps ≡ false → without name ps ≡ ps
-unfolding without keep
-none-taken name [] e = refl
-none-taken name (p ∷ ps) e = rw (ne-eqb (p .name) name (other-name name (p ∷ ps) p e (List·Memᴰ·head refl))) (ap (_∷_ p) (none-taken name ps (stands-intro name ps (λ x m. other-name name (p ∷ ps) x e (List·Memᴰ·tail m)))))
-
--- No hazard more.
-pub without-length : (name : ℕ) (ps : List NamedHazard) → length (without name ps) ≤ length ps
-unfolding without keep
-without-length name [] = omega arith
-without-length name (p ∷ ps) = go (eqb (p .name) name) (without-length name ps)
-  where
-    go : (b : Bool) → length (without name ps) ≤ length ps → length (if not b then p ∷ without name ps else without name ps) ≤ suc (length ps)
-    go true r = omega arith
-    go false r = omega arith
-
--- One hazard less, where the name stands.
-pub one-less : (name : ℕ) (ps : List NamedHazard) → Distinct ps → stands name ps ≡ true → suc (length (without name ps)) ≡ length ps
-unfolding without keep stands someOf
-one-less name [] d e = absurd (false≢true e)
-one-less name (p ∷ ps) d e = go (eqb (p .name) name) refl e (one-less name ps (d .1))
-  where
-    go : (b : Bool) → eqb (p .name) name ≡ b → (b || stands name ps) ≡ true → (stands name ps ≡ true → suc (length (without name ps)) ≡ length ps) → suc (length (if not b then p ∷ without name ps else without name ps)) ≡ suc (length ps)
-    go true q f r = ap (λ (l : List NamedHazard). suc (length l)) (none-taken name ps (ap (λ (n : ℕ). stands n ps) (sym (eqb-true _ _ q)) ∙ d .0))
-    go false q f r = ap suc (r f)
-
-pub distinct-less : (name : ℕ) (ps : List NamedHazard) → Distinct ps → Distinct (without name ps)
-unfolding without keep
-distinct-less name [] d = tt
-distinct-less name (p ∷ ps) d = go (eqb (p .name) name) (distinct-less name ps (d .1))
-  where
-    go : (b : Bool) → Distinct (without name ps) → Distinct (if not b then p ∷ without name ps else without name ps)
-    go true r = r
-    go false r = (stands-intro (p .name) (without name ps) (λ x m. other-name (p .name) ps x (d .0) (without-cases name x ps m .0)), r)
-
--- Edits of the hazards in their places, in the order of their names.
+-- In their places, in the order of their names
 
 unfoldable pub placedAfter : Header → List NamedHazard → Edit → List NamedHazard
-placedAfter h ps (add name z) = if stands name ps || isFull ps || not (isAccepted (admit h name z)) then ps else inserted (named name z) ps
+placedAfter h ps (add name z) = if isAccepted (testAdd h ps name z) then inserted (named name z) ps else ps
 placedAfter h ps (withdraw name) = without name ps
 
 abbrev pub edited : StoredJob → Edit → Answer StoredJob
@@ -165,18 +54,14 @@ edited a (withdraw name) = withdrawFrom a name
 -- So the memory is changed.
 pub edit-memory : (h : Header) (ps : List NamedHazard) → HeaderFits h → Stand h 0 ps → length ps ≤ mostStanding → (e : Edit) → memoryAfter (edited (laidOut h ps) e) (laidOut h ps) ≡ laidOut h (placedAfter h ps e)
 unfolding placedAfter
-edit-memory h ps fits rules few (add name z) = ap (λ (x : Answer StoredJob). memoryAfter x (laidOut h ps)) (add-laid h ps fits rules few name z) ∙ go (stands name ps) (isFull ps) (admit h name z)
+edit-memory h ps fits rules few (add name z) = ap (λ (x : Answer StoredJob). memoryAfter x (laidOut h ps)) (add-laid h ps fits rules few name z) ∙ go (testAdd h ps name z)
   where
-    go : (b f : Bool) (a : Answer (Unit {0}))
-        → memoryAfter (unless-refuse (not b) 12 name >>= λ _. unless-refuse (not f) 15 0 >>= λ _. a >>= λ _. accepted (laidOut h (inserted (named name z) ps))) (laidOut h ps)
-        ≡ laidOut h (if b || f || not (isAccepted a) then ps else inserted (named name z) ps)
-    go true f a = refl
-    go false true a = refl
-    go false false (accepted u) = refl
-    go false false (refused k v) = refl
+    go : (a : Answer (Unit {0})) → memoryAfter (a >>= λ _. accepted (laidOut h (inserted (named name z) ps))) (laidOut h ps) ≡ laidOut h (if isAccepted a then inserted (named name z) ps else ps)
+    go (accepted u) = refl
+    go (refused k v) = refl
 edit-memory h ps fits rules few (withdraw name) = ap (λ (x : Answer StoredJob). memoryAfter x (laidOut h ps)) (withdraw-laid h ps fits rules few name) ∙ go (stands name ps) refl
   where
-    go : (b : Bool) → stands name ps ≡ b → memoryAfter (unless-refuse b 12 name >>= λ _. accepted (laidOut h (without name ps))) (laidOut h ps) ≡ laidOut h (without name ps)
+    go : (b : Bool) → stands name ps ≡ b → memoryAfter (unless-refuse b (Row.Name name) >>= λ _. accepted (laidOut h (without name ps))) (laidOut h ps) ≡ laidOut h (without name ps)
     go true e = refl
     go false e = ap (laidOut h) (sym (none-taken name ps e))
 
@@ -189,49 +74,42 @@ pub record Agree (h : Header) (ps past : List NamedHazard) : Type 0 where
   pub number : length ps ≡ length past
   pub apart : Distinct past
 
-pub stands-same : (h : Header) {ps past : List NamedHazard} → Agree h ps past → (name : ℕ) → stands name ps ≡ stands name past
-unfolding stands
-stands-same h {ps} {past} k name = go (decided (stands name past))
-  where
-    go : (stands name past ≡ true) ⊎ (stands name past ≡ false) → stands name ps ≡ stands name past
-    go (inl t) =
-        let w = any-elim (λ (p : NamedHazard). eqb (p .name) name) past t in
-        any-intro (λ (p : NamedHazard). eqb (p .name) name) (k .same (w .one) .1 (w .member)) (w .passes) ∙ sym t
-    go (inr f) = stands-intro name ps (λ p m. other-name name past p f (k .same p .0 m)) ∙ sym f
-
 module _ (h : Header) {ps past : List NamedHazard} (k : Agree h ps past) where
-  agree-add : (name : ℕ) (z : Hazard) → name ≤ greatestName → Agree h (placedAfter h ps (add name z)) (standAfter h past (add name z))
+  pub stands-same : (name : ℕ) → stands name ps ≡ stands name past
+  stands-same name = go (decided (stands name past))
+    where
+      go : (stands name past ≡ true) ⊎ (stands name past ≡ false) → stands name ps ≡ stands name past
+      go (inl t) = let w = stands-which name past t in (rw (w .2) at (standing-named (k .same (w .0) .1 (w .1)))) ∙ sym t
+      go (inr f) = stands-none name ps (λ p m. other-name name past p f (k .same p .0 m)) ∙ sym f
+
+  -- So an add is tested alike.
+  pub tests-same : (name : ℕ) (z : Hazard) → testAdd h ps name z ≡ testAdd h past name z
+  tests-same name z = rw (stands-same name, k .number)
+
+  agree-add : (name : ℕ) (z : Hazard) → Nameable (add name z) → Agree h (placedAfter h ps (add name z)) (standAfter (testAdd h) past (add name z))
   unfolding placedAfter standAfter
-  agree-add name z top = rw (stands-same h k name, full-same) (go (stands name past) (isFull past) (isAccepted (admit h name z)) refl refl refl)
+  agree-add name z top = rw (tests-same name z) (go (isAccepted (testAdd h past name z)) refl)
     where
       p : NamedHazard
       p = named name z
 
-      full-same : isFull ps ≡ isFull past
-      full-same = ap (leb mostStanding) (k .number)
+      put : MayAdd h past name z → Agree h (inserted p ps) (past ++ p ∷ [])
+      put a =
+          let fresh : stands name ps ≡ false = stands-same name ∙ a .fresh in
+          record {
+            few = omega (arith, inserted-length p ps, leb-false mostStanding (length past) (a .room), k .number);
+            rules = inserted-stand h 0 p ps (omega arith) top (admitted h name z (a .may)) fresh (k .rules);
+            same = λ x. (
+              λ m. ⊎-elim (λ e. Memᴰ·append-right past (List·Memᴰ·head e)) (λ n. Memᴰ·append-left (p ∷ []) (k .same x .0 n)) (inserted-which p x ps fresh .0 m),
+              λ m. inserted-which p x ps fresh .1 (⊎-elim (λ n. inr (k .same x .1 n)) (λ n. inl (List·Memᴰ·eq-of-singleton n)) (List·Memᴰ·append-cases past m)),
+            );
+            number = omega (arith, inserted-length p ps, length-append past (p ∷ []), k .number);
+            apart = distinct-more past p (k .apart) (a .fresh);
+          }
 
-      put : stands name past ≡ false → isFull past ≡ false → isAccepted (admit h name z) ≡ true → Agree h (inserted p ps) (past ++ p ∷ [])
-      put e room may = record {
-        few = omega (arith, inserted-length p ps, leb-false mostStanding (length past) room, k .number);
-        rules = inserted-stand h 0 p ps (omega arith) top (admitted h name z may) (stands-same h k name ∙ e) (k .rules);
-        same = λ x. (λ m. to x (inserted-cases p x ps m), λ m. inserted-member p x ps (from x (List·Memᴰ·append-cases past m)));
-        number = inserted-length p ps ∙ ap suc (k .number) ∙ sym (length-append past (p ∷ []) ∙ (let n : length past + 1 ≡ suc (length past) = omega arith in n));
-        apart = distinct-more past p (k .apart) e;
-      }
-        where
-          to : (x : NamedHazard) → (x ≡ p) ⊎ List·Memᴰ x ps → List·Memᴰ x (past ++ p ∷ [])
-          to x (inl q) = rw q (member-last past p)
-          to x (inr m) = member-first past (k .same x .0 m) (p ∷ [])
-
-          from : (x : NamedHazard) → List·Memᴰ x past ⊎ List·Memᴰ x (p ∷ []) → (x ≡ p) ⊎ List·Memᴰ x ps
-          from x (inl m) = inr (k .same x .1 m)
-          from x (inr m) = inl (List·Memᴰ·eq-of-singleton m)
-
-      go : (b f a : Bool) → stands name past ≡ b → isFull past ≡ f → isAccepted (admit h name z) ≡ a → Agree h (if b || f || not a then ps else inserted p ps) (if b || f || not a then past else past ++ p ∷ [])
-      go true f a e r w = k
-      go false true a e r w = k
-      go false false false e r w = k
-      go false false true e r w = put e r w
+      go : (b : Bool) → isAccepted (testAdd h past name z) ≡ b → Agree h (if b then inserted p ps else ps) (if b then past ++ p ∷ [] else past)
+      go true e = put (may-add h past name z e)
+      go false e = k
 
   agree-withdraw : (name : ℕ) → Agree h (without name ps) (without name past)
   agree-withdraw name = record {
@@ -246,10 +124,10 @@ module _ (h : Header) {ps past : List NamedHazard} (k : Agree h ps past) where
   }
     where
       go : (b : Bool) → stands name past ≡ b → length (without name ps) ≡ length (without name past)
-      go true e = omega (arith, one-less name ps (stand-distinct h 0 ps (k .rules)) (stands-same h k name ∙ e), one-less name past (k .apart) e, k .number)
-      go false e = ap length (none-taken name ps (stands-same h k name ∙ e)) ∙ k .number ∙ sym (ap length (none-taken name past e))
+      go true e = omega (arith, one-less name ps (stand-distinct h 0 ps (k .rules)) (stands-same name ∙ e), one-less name past (k .apart) e, k .number)
+      go false e = ap length (none-taken name ps (stands-same name ∙ e)) ∙ k .number ∙ sym (ap length (none-taken name past e))
 
-  pub agree-edit : (e : Edit) → Nameable e → Agree h (placedAfter h ps e) (standAfter h past e)
+  pub agree-edit : (e : Edit) → Nameable e → Agree h (placedAfter h ps e) (standAfter (testAdd h) past e)
   unfolding placedAfter standAfter
   agree-edit (add name z) top = agree-add name z top
   agree-edit (withdraw name) top = agree-withdraw name

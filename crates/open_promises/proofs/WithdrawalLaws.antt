@@ -2,20 +2,18 @@
 -- Assumes nothing.
 use Prim.Native.Nat.{ℕ}
 use native.Mathlib.Decide.{ℕ-discrete}
-use mathlib.Core.Path.{_≡_, refl, sym, ap, subst, _∙_}
-use mathlib.Core.Logic.{_⊎_, inl, inr}
+use mathlib.Core.Path.{_≡_, sym, ap, subst, _∙_}
+use mathlib.Core.Logic.{_⊎_, inl, inr, ⊎-elim}
 use mathlib.Core.Bool.{true}
-use mathlib.Core.List.{List, [], _∷_, _++_, map, List·Memᴰ, List·Memᴰ·cases-cons, List·Memᴰ·not-nil, List·Memᴰ·append-cases, List·Memᴰ·eq-of-singleton, Memᴰ·map, Memᴰ·of-map}
+use mathlib.Core.List.{List, [], _∷_, map, foldl-append, List·Memᴰ, List·Memᴰ·append-cases, List·Memᴰ·eq-of-singleton, Memᴰ·map, Memᴰ·of-map}
 use lib.ListN.{length, length-map}
-use lib.Dec.{eqb}
-use borrow.Author.Tests.{eqb-true}
-use Rattle.refusal.specs.Answer.{Answer, accepted, _>>=_, unless-refuse}
-use Rattle.refusal.proofs.TestLaws.{any-elim}
-use Rattle.refusal.proofs.AnswerLaws.{bound, tested}
+use Rattle.refusal.specs.Answer.{Answer, accepted}
+use Rattle.refusal.specs.declared.Refusal.the-variants as Row
+use Rattle.refusal.proofs.AnswerLaws.{passed}
 use Rattle.job.specs.declared.Header.{Header}
 use Rattle.job.specs.declared.Hazard.{Hazard}
 use Rattle.job.specs.declared.NamedHazard.{NamedHazard}
-use Rattle.job.specs.Job.{Job, unnamed}
+use Rattle.job.specs.Job.{Job, unnamed, counted}
 use Rattle.job.specs.Writing.{writeJob}
 use Rattle.planning.specs.Envelope.{farther, reaches, reached, reachOf, offsetOf, lengthening, envelope, cutToRoad, cutEnvelope}
 use Rattle.planning.specs.Required.{jobLevel}
@@ -26,43 +24,29 @@ use Rattle.demands.specs.Demands.{Alike}
 use Rattle.demands.specs.Withdrawal.{lengthenedAtBothEnds, withdrawalReach, Unaltered, no-envelope, other-side, Beyond, outside, unaltered, SameBeyond}
 use Rattle.demands.proofs.DemandLaws.{counted-alike}
 use Rattle.demands.proofs.WithdrawalLaws.{same-beyond, side-plans, same-shown}
-use Rattle.open_memory.specs.Memory.{standing, counted, madeFrom, stands, without}
+use Rattle.open_memory.specs.Memory.{standing, madeFrom, stands, without}
 use Rattle.open_memory.proofs.RuleLaws.{open-standing}
-use Rattle.open_memory.proofs.PlaceLaws.{other-name}
-use Rattle.open_job.specs.Open.{memoryAfter, replied}
+use Rattle.open_job.specs.Open.{testAdd, memoryAfter, replied}
 use Rattle.kept_states.specs.declared.OpenStates.{OpenStates}
 use Rattle.kept_states.specs.States.{openStates, withdrawIn}
 use Rattle.kept_states.proofs.StateLaws.{now-open}
-use Rattle.open_promises.specs.Lists.{Edit, withdraw, Nameable, Call, edit, States, opened, statesAfter, statesAfterAll, standAfter, addedSince, afterCall, afterCalls, CallsFrom, AnswersAs, Standing}
+use Rattle.open_promises.specs.Lists.{withdraw, Nameable, Call, edit, States, opened, statesAfter, standAfter, addedSince, afterCall, CallsFrom, AnswersAs, Standing}
 use Rattle.open_promises.specs.Withdrawal.{thenWithdrawn, jobAfter, Scheduled, StandsUnder, WithdrawalPromise}
-use Rattle.open_promises.proofs.ModelLaws.{after-append}
-use Rattle.open_promises.proofs.StandingLaws.{Distinct, stand-distinct, without-cases, without-other}
+use Rattle.open_promises.proofs.HazardLaws.{unnamed-among, stands-which, stand-distinct, distinct-alone, without-cases, without-other}
 use Rattle.open_promises.proofs.ListLaws.{schedule-promise, standing-promise}
 
 -- The hazard under a name
 
-distinct-alone : (ps : List NamedHazard) → Distinct ps → (p q : NamedHazard) → List·Memᴰ p ps → List·Memᴰ q ps → q .name ≡ p .name → q ≡ p
-distinct-alone [] d p q m k e = absurd (List·Memᴰ·not-nil m)
-distinct-alone (x ∷ xs) d p q m k e = go (List·Memᴰ·cases-cons m) (List·Memᴰ·cases-cons k) (λ a b. distinct-alone xs (d .1) p q a b e)
-  where
-    go : (p ≡ x) ⊎ List·Memᴰ p xs → (q ≡ x) ⊎ List·Memᴰ q xs → (List·Memᴰ p xs → List·Memᴰ q xs → q ≡ p) → q ≡ p
-    go (inl a) (inl b) r = b ∙ sym a
-    go (inl a) (inr b) r = absurd (other-name (x .name) xs q (d .0) b (e ∙ ap (λ (y : NamedHazard). y .name) a))
-    go (inr a) (inl b) r = absurd (other-name (x .name) xs p (d .0) a (sym e ∙ ap (λ (y : NamedHazard). y .name) b))
-    go (inr a) (inr b) r = r a b
-
 -- It is among those apart from the memory, and no other: in the memory names rise.
-under-name : (h : Header) (s : States (List NamedHazard)) (m : OpenStates) → Standing h s m → (name : ℕ) → stands name (s .now) ≡ true → (p : NamedHazard) × StandsUnder name (s .now) p
-unfolding stands
+under-name : (h : Header) (s : States (List NamedHazard)) (m : OpenStates) → Standing h s m → (name : ℕ) → stands name (s .present) ≡ true → (p : NamedHazard) × StandsUnder name (s .present) p
 under-name h s m stood name e =
-    let w = any-elim (λ (p : NamedHazard). eqb (p .name) name) (s .now) e in
-    let named : w .one .name ≡ name = eqb-true _ _ (w .passes) in
+    let w = stands-which name (s .present) e in
     let apart = stand-distinct (m .now .header) 0 (standing (m .now)) (open-standing (m .now) (now-open m (stood .is-open))) in (
-      w .one,
+      w .0,
       record {
-        member = w .member;
-        its-name = named;
-        alone = λ q k same. distinct-alone (standing (m .now)) apart (w .one) q (stood .state-now .each (w .one) .1 (w .member)) (stood .state-now .each q .1 k) (same ∙ sym named);
+        member = w .1;
+        its-name = w .2;
+        alone = λ q k same. distinct-alone (standing (m .now)) apart (w .0) q (stood .state-now .each (w .0) .1 (w .1)) (stood .state-now .each q .1 k) (same ∙ sym (w .2));
       },
     )
 
@@ -83,46 +67,36 @@ module _ (h : Header) (past : List NamedHazard) (name : ℕ) (p : NamedHazard) (
   abbrev zs : List Hazard
   zs = map unnamed past
 
-  abbrev left : List Hazard
-  left = map unnamed (without name past)
+  abbrev others : List Hazard
+  others = map unnamed (without name past)
 
-  only : (x : Hazard) → List·Memᴰ x zs → (x ≡ unnamed p) ⊎ List·Memᴰ x left
-  only x m = go (Memᴰ·of-map unnamed past m)
+  only : (x : Hazard) → List·Memᴰ x zs → (x ≡ unnamed p) ⊎ List·Memᴰ x others
+  only x m = let w = Memᴰ·of-map unnamed past m in go (w .0) (w .1) (w .2) (ℕ-discrete (w .0 .name) name)
     where
-      go : (q : NamedHazard) × List·Memᴰ q past × (unnamed q ≡ x) → (x ≡ unnamed p) ⊎ List·Memᴰ x left
-      go w = by-name (ℕ-discrete (w .0 .name) name)
-        where
-          by-name : Dec (w .0 .name ≡ name) → (x ≡ unnamed p) ⊎ List·Memᴰ x left
-          by-name (yes e) = inl (sym (w .2) ∙ ap unnamed (under .alone (w .0) (w .1) e))
-          by-name (no e) = inr (subst (λ (y : Hazard). List·Memᴰ y left) (w .2) (Memᴰ·map unnamed (without-other name (w .0) past (w .1) e)))
+      go : (q : NamedHazard) → List·Memᴰ q past → unnamed q ≡ x → Dec (q .name ≡ name) → (x ≡ unnamed p) ⊎ List·Memᴰ x others
+      go q k same (yes e) = inl (sym same ∙ ap unnamed (under .alone q k e))
+      go q k same (no e) = inr (subst (λ (y : Hazard). List·Memᴰ y others) same (Memᴰ·map unnamed (without-other name q past k e)))
 
-  fewer : (x : Hazard) → List·Memᴰ x left → List·Memᴰ x zs
-  fewer x m =
-      let w = Memᴰ·of-map unnamed (without name past) m in
-      subst (λ (y : Hazard). List·Memᴰ y zs) (w .2) (Memᴰ·map unnamed (without-cases name (w .0) past (w .1) .0))
+  among : (x : Hazard) → List·Memᴰ x others → List·Memᴰ x zs
+  among = unnamed-among (λ q k. without-cases name q past k .0)
 
-  to : Alike (counted h (length zs)) (counted h (length left))
-  to = counted-alike h (length zs) (length left)
+  to : Alike (counted h (length zs)) (counted h (length others))
+  to = counted-alike h (length zs) (length others)
 
-  back : Alike (counted h (length left)) (counted h (length zs))
-  back = counted-alike h (length left) (length zs)
+  back : Alike (counted h (length others)) (counted h (length zs))
+  back = counted-alike h (length others) (length zs)
 
-  without-levels : AcceptedFits (madeFrom h zs) → SameBeyond h (unnamed p) (jobLevel (madeFrom h zs)) (jobLevel (madeFrom h left))
-  without-levels fits side t b = same-beyond (madeFrom h zs) (madeFrom h left) to back (unnamed p) only fewer fits (Memᴰ·map unnamed (under .member)) side t (beyond-counted h (length zs) (unnamed p) side t b)
+  without-levels : AcceptedFits (madeFrom h zs) → SameBeyond h (unnamed p) (jobLevel (madeFrom h zs)) (jobLevel (madeFrom h others))
+  without-levels fits side t b = same-beyond (madeFrom h zs) (madeFrom h others) to back (unnamed p) only among fits (Memᴰ·map unnamed (under .member)) side t (beyond-counted h (length zs) (unnamed p) side t b)
 
-  without-plans : (s₁ s₂ : List ℕ) → Accepted s₁ (madeFrom h zs) → Accepted s₂ (madeFrom h left) → (side : ℕ) → Unaltered h (unnamed p) side → (room : ℕ) → plan s₂ side room ≡ plan s₁ side room
-  without-plans s₁ s₂ a₁ a₂ side u room = side-plans (madeFrom h zs) (madeFrom h left) to back (unnamed p) only fewer s₁ s₂ a₁ a₂ side (unaltered-counted h (length zs) (unnamed p) side u) room
+  without-plans : (s₁ s₂ : List ℕ) → Accepted s₁ (madeFrom h zs) → Accepted s₂ (madeFrom h others) → (side : ℕ) → Unaltered h (unnamed p) side → (room : ℕ) → plan s₂ side room ≡ plan s₁ side room
+  without-plans s₁ s₂ a₁ a₂ side u room = side-plans (madeFrom h zs) (madeFrom h others) to back (unnamed p) only among s₁ s₂ a₁ a₂ side (unaltered-counted h (length zs) (unnamed p) side u) room
 
 -- The calls with the withdrawal behind them
 
-calls-append : (m : OpenStates) (xs ys : List Call) → afterCalls m (xs ++ ys) ≡ afterCalls (afterCalls m xs) ys
-unfolding afterCalls
-calls-append m [] ys = refl
-calls-append m (x ∷ xs) ys = calls-append (afterCall m x) xs ys
-
 added-without : (h : Header) (calls : List Call) (name : ℕ) → addedSince h (thenWithdrawn calls name) ≡ without name (addedSince h calls)
-unfolding statesAfterAll statesAfter standAfter
-added-without h calls name = ap (λ (s : States (List NamedHazard)). s .now) (after-append (standAfter h) (opened []) calls (edit (withdraw name) ∷ []))
+unfolding statesAfter standAfter
+added-without h calls name = ap (λ (s : States (List NamedHazard)). s .present) (foldl-append (statesAfter (standAfter (testAdd h))) (opened []) calls (edit (withdraw name) ∷ []))
 
 module _ (s : List ℕ) (j : Job) (calls : List Call) (m : OpenStates) (from : CallsFrom s j calls m) where
   abbrev past : List NamedHazard
@@ -133,48 +107,41 @@ module _ (s : List ℕ) (j : Job) (calls : List Call) (m : OpenStates) (from : C
 
   module _ (name : ℕ) (next : OpenStates) (e : withdrawIn m name ≡ accepted next) where
     was-standing : stands name past ≡ true
-    was-standing =
-        let told : _≡_ {A = Answer ℕ} (unless-refuse (stands name past) 12 name >>= λ _. accepted 0) (accepted 0) = sym (standing-promise s j calls m from .next-withdrawal name) ∙ ap replied e in
-        let b = bound (unless-refuse (stands name past) 12 name) _ 0 told in
-        tested (stands name past) 12 name (b .first) (b .taken)
+    was-standing = passed (stands name past) (Row.Name name) (λ _. accepted 0) 0 (sym (standing-promise s j calls m from .next-withdrawal name) ∙ ap replied e) .0
 
     still-from : CallsFrom s j (thenWithdrawn calls name) next
-    unfolding afterCalls afterCall
+    unfolding afterCall
     still-from = record {
       is-accepted = from .is-accepted;
       empty = from .empty;
-      nameable = λ x k. may x (List·Memᴰ·append-cases calls k);
+      nameable = λ x k. ⊎-elim (from .nameable x) (λ (l : List·Memᴰ (edit x) (edit (withdraw name) ∷ [])). let q = List·Memᴰ·eq-of-singleton l in let same : x ≡ withdraw name = cc in subst Nameable (sym same) tt) (List·Memᴰ·append-cases calls k);
       before = from .before;
-      memory = sym (calls-append start calls (edit (withdraw name) ∷ []) ∙ ap (λ (n : OpenStates). memoryAfter (withdrawIn n name) n) (sym (from .memory)) ∙ ap (λ (a : Answer OpenStates). memoryAfter a m) e);
+      memory = sym (foldl-append afterCall (memoryAfter (openStates s) (from .before)) calls (edit (withdraw name) ∷ []) ∙ ap (λ (n : OpenStates). memoryAfter (withdrawIn n name) n) (sym (from .memory)) ∙ ap (λ (a : Answer OpenStates). memoryAfter a m) e);
     }
-      where
-        start : OpenStates
-        start = memoryAfter (openStates s) (from .before)
-
-        may : (x : Edit) → List·Memᴰ (edit x) calls ⊎ List·Memᴰ (edit x) (edit (withdraw name) ∷ []) → Nameable x
-        may x (inl k) = from .nameable x k
-        may x (inr k) = let q = List·Memᴰ·eq-of-singleton k in let same : x ≡ withdraw name = cc in rw same tt
 
 -- The schedule call's bytes are the planned schedule of the job that the memory answers as.
 scheduled-planned : (m : OpenStates) (j : Job) → AnswersAs m j → (side : ℕ) (w : List ℕ) → Scheduled m side w → Planned (writeJob j) side w
-scheduled-planned m j a side w p room l = ap scheduleAlone (sym (a .schedule side room)) ∙ p room l
+scheduled-planned m j a side w p room l = ap scheduleAlone (sym (a .planned side room)) ∙ p room l
 
 pub withdrawal-promise : WithdrawalPromise
 withdrawal-promise s j calls m from name next e = record {
-  hazard = hazard;
-  stood = under;
+  hazard = found .0;
+  stood = found .1;
   called = called;
   before = before;
   after = after;
   levels = levels;
   shown = λ side low right left rightAfter leftAfter p q.
-      same-shown (writeJob old) (writeJob new) old new (before .is-accepted) (after .is-accepted) h (unnamed hazard) levels side low right left rightAfter leftAfter
+      same-shown (writeJob old) (writeJob new) old new (before .is-accepted) (after .is-accepted) h (unnamed (found .0)) levels side low right left rightAfter leftAfter
       (scheduled-planned m old before side _ p) (scheduled-planned next new after side _ q);
-  nothing-alters = λ side u room. after .schedule side room ∙ plans side u room ∙ sym (before .schedule side room);
+  nothing-alters = λ side u room. after .planned side room ∙ plans side u room ∙ sym (before .planned side room);
 }
   where
     h : Header
     h = j .header
+
+    past : List NamedHazard
+    past = addedSince h calls
 
     old : Job
     old = jobAfter h calls
@@ -182,14 +149,8 @@ withdrawal-promise s j calls m from name next e = record {
     new : Job
     new = jobAfter h (thenWithdrawn calls name)
 
-    found : (p : NamedHazard) × StandsUnder name (addedSince h calls) p
+    found : (p : NamedHazard) × StandsUnder name past p
     found = under-name h _ m (standing-promise s j calls m from) name (was-standing s j calls m from name next e)
-
-    hazard : NamedHazard
-    hazard = found .0
-
-    under : StandsUnder name (addedSince h calls) hazard
-    under = found .1
 
     called : CallsFrom s j (thenWithdrawn calls name) next
     called = still-from s j calls m from name next e
@@ -200,12 +161,11 @@ withdrawal-promise s j calls m from name next e = record {
     after : AnswersAs next new
     after = answers s j (thenWithdrawn calls name) next called
 
-    levels : SameBeyond h (unnamed hazard) (jobLevel old) (jobLevel new)
-    levels =
-        subst (λ (l : List NamedHazard). SameBeyond h (unnamed hazard) (jobLevel old) (jobLevel (madeFrom h (map unnamed l)))) (sym (added-without h calls name))
-        (without-levels h (addedSince h calls) name hazard under (accepted-fits (writeJob old) old (before .is-accepted)))
+    same : new ≡ madeFrom h (map unnamed (without name past))
+    same = ap (λ (l : List NamedHazard). madeFrom h (map unnamed l)) (added-without h calls name)
 
-    plans : (side : ℕ) → Unaltered h (unnamed hazard) side → (room : ℕ) → plan (writeJob new) side room ≡ plan (writeJob old) side room
-    plans side u room =
-        let same : new ≡ madeFrom h (map unnamed (without name (addedSince h calls))) = ap (λ (l : List NamedHazard). madeFrom h (map unnamed l)) (added-without h calls name) in
-        without-plans h (addedSince h calls) name hazard under (writeJob old) (writeJob new) (before .is-accepted) (after .is-accepted ∙ ap accepted same) side u room
+    levels : SameBeyond h (unnamed (found .0)) (jobLevel old) (jobLevel new)
+    levels = rw same (without-levels h past name (found .0) (found .1) (accepted-fits (writeJob old) old (before .is-accepted)))
+
+    plans : (side : ℕ) → Unaltered h (unnamed (found .0)) side → (room : ℕ) → plan (writeJob new) side room ≡ plan (writeJob old) side room
+    plans = without-plans h past name (found .0) (found .1) (writeJob old) (writeJob new) (before .is-accepted) (after .is-accepted ∙ ap accepted same)

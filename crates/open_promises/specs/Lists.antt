@@ -4,12 +4,14 @@
 use Prim.Native.Nat.{ℕ, _≤_}
 use mathlib.Core.Path.{_≡_}
 use mathlib.Core.Logic.{_↔_}
-use mathlib.Core.Bool.{Bool, true, false, _||_, not}
-use mathlib.Core.List.{List, [], _∷_, _++_, map, List·Memᴰ}
+use mathlib.Core.Bool.{Bool, true, false, not}
+use mathlib.Core.List.{List, [], _∷_, _++_, map, foldl, List·Memᴰ}
 use lib.ListN.{length}
 use lib.Dec.{leb, eqb}
 use Rattle.refusal.specs.Choice.{if_then_else_}
-use Rattle.refusal.specs.Answer.{accepted, _>>=_, unless-refuse, isAccepted}
+use Rattle.refusal.specs.Answer.{Answer, accepted, _>>=_, isAccepted}
+use Rattle.refusal.specs.Refusal.{unless-refuse}
+use Rattle.refusal.specs.declared.Refusal.the-variants as Row
 use Rattle.job.specs.declared.Header.{Header}
 use Rattle.job.specs.declared.Hazard.{Hazard}
 use Rattle.job.specs.declared.NamedHazard.{NamedHazard}
@@ -18,8 +20,8 @@ use Rattle.job.specs.Job.{Job, named, unnamed}
 use Rattle.job.specs.Writing.{writeJob}
 use Rattle.planning.specs.Envelope.{acceptJob}
 use Rattle.schedule.specs.Plan.{plan}
-use Rattle.open_memory.specs.Memory.{mostStanding, greatestName, standing, laidOut, madeFrom, stands, isFull, without, admit}
-use Rattle.open_job.specs.Open.{memoryAfter, replied}
+use Rattle.open_memory.specs.Memory.{mostStanding, greatestName, standing, laidOut, madeFrom, stands, without, admit}
+use Rattle.open_job.specs.Open.{testAdd, memoryAfter, replied}
 use Rattle.kept_states.specs.declared.KeptState.{KeptState}
 use Rattle.kept_states.specs.declared.OpenStates.{OpenStates}
 use Rattle.kept_states.specs.States.{greatestStateNumber, nothingKept, keptFrom, stateOf, isUsed, keptStates, keptUnder, areOpenStates, openStates, addIn, withdrawIn, scheduleIn, keepIn, returnIn}
@@ -52,7 +54,7 @@ pub data Kept (A : Type 0) : Type 0 where
 
 -- The state now, and what is kept under each number. A state is of any kind: the hazards that stand, or the edits that count.
 pub record States (A : Type 0) : Type 0 where
-  pub now : A
+  pub present : A
   pub kept : (number : ℕ) → Kept A
 
 module _ {A : Type 0} where
@@ -62,61 +64,49 @@ module _ {A : Type 0} where
 
   -- "Opening empties all eight."
   abbrev pub opened : A → States A
-  opened a = record { now = a; kept = λ number. nothing }
-
-  -- "Keeping under a used number replaces it." Above 7 it is refused, and "a refused call alters nothing".
-  unfoldable pub keptAs : (number : ℕ) → States A → States A
-  keptAs number s = if leb number greatestStateNumber then record { now = s .now; kept = λ k. if eqb number k then state (s .now) else s .kept k } else s
+  opened a = record { present = a; kept = λ number. nothing }
 
   -- "After a return, the open job is as when that state was last kept ..; other kept states are untouched." Where nothing is kept it is
   -- refused; above 7 nothing is ever kept.
   abbrev pub returnedTo : Kept A → States A → States A
   returnedTo nothing s = s
-  returnedTo (state a) s = record { now = a; kept = s .kept }
+  returnedTo (state a) s = record { present = a; kept = s .kept }
 
-  -- The states after a call, where `next` says what an edit makes of the state now; and after a list of calls.
+  -- The states after a call, where `next` says what an edit makes of the state now. "Keeping under a used number replaces it." Above 7 it is
+  -- refused, and "a refused call alters nothing".
   unfoldable pub statesAfter : (next : A → Edit → A) → States A → Call → States A
-  statesAfter next s (edit e) = record { now = next (s .now) e; kept = s .kept }
+  statesAfter next s (edit e) = record { present = next (s .present) e; kept = s .kept }
   statesAfter next s (schedule side room) = s
-  statesAfter next s (keepAs number) = keptAs number s
+  statesAfter next s (keepAs number) =
+      if leb number greatestStateNumber then record { present = s .present; kept = λ k. if eqb number k then state (s .present) else s .kept k } else s
   statesAfter next s (returnTo number) = returnedTo (s .kept number) s
 
-  unfoldable pub statesAfterAll : (next : A → Edit → A) → States A → List Call → States A
-  statesAfterAll next s [] = s
-  statesAfterAll next s (c ∷ cs) = statesAfterAll next (statesAfter next s c) cs
-
--- The hazards that stand after an edit, where those in `past` stood before it. An add is refused where its name stands, where 256 stand and
--- where its hazard is refused; "a refused call alters nothing".
-unfoldable pub standAfter : Header → (past : List NamedHazard) → Edit → List NamedHazard
-standAfter h past (add name z) = if stands name past || isFull past || not (isAccepted (admit h name z)) then past else past ++ named name z ∷ []
-standAfter h past (withdraw name) = without name past
+-- The hazards that stand after an edit, where those in `past` stood before it and `test` says whether an add is refused; "a refused call
+-- alters nothing".
+unfoldable pub standAfter : (test : List NamedHazard → (name : ℕ) → Hazard → Answer (Unit {0})) → (past : List NamedHazard) → Edit → List NamedHazard
+standAfter test past (add name z) = if isAccepted (test past name z) then past ++ named name z ∷ [] else past
+standAfter test past (withdraw name) = without name past
 
 -- "The hazards added and not withdrawn since", after a list of calls from an empty job: "after a return, the hazards that stood when its
 -- state was last kept count as those".
 abbrev pub hazardsAfter : Header → List Call → States (List NamedHazard)
-hazardsAfter h calls = statesAfterAll (standAfter h) (opened []) calls
+hazardsAfter h calls = foldl (statesAfter (standAfter (testAdd h))) (opened []) calls
 
 abbrev pub addedSince : Header → List Call → List NamedHazard
-addedSince h calls = hazardsAfter h calls .now
+addedSince h calls = hazardsAfter h calls .present
 
 -- The same, by the edits that count.
 
 -- The edits that count after a list of calls: those made; after a return, those that counted when its state was last kept.
 abbrev pub editsThatCount : List Call → List Edit
-editsThatCount calls = statesAfterAll (λ (edits : List Edit) (e : Edit). edits ++ e ∷ []) (opened []) calls .now
-
-unfoldable pub standAfterAll : Header → (past : List NamedHazard) → List Edit → List NamedHazard
-standAfterAll h past [] = past
-standAfterAll h past (e ∷ es) = standAfterAll h (standAfter h past e) es
+editsThatCount calls = foldl (statesAfter (λ (edits : List Edit) (e : Edit). edits ++ e ∷ [])) (opened []) calls .present
 
 -- One of these edits added the hazard and was not refused, and none of the later ones withdraws its name.
 pub record Added (h : Header) (past : List NamedHazard) (edits : List Edit) (p : NamedHazard) : Type 0 where
   pub before : List Edit
   pub since : List Edit
   pub split : edits ≡ before ++ add (p .name) (unnamed p) ∷ since
-  pub fresh : stands (p .name) (standAfterAll h past before) ≡ false
-  pub room : isFull (standAfterAll h past before) ≡ false
-  pub admitted : isAccepted (admit h (p .name) (unnamed p)) ≡ true
+  pub not-refused : isAccepted (testAdd h (foldl (standAfter (testAdd h)) past before) (p .name) (unnamed p)) ≡ true
   pub not-withdrawn : List·Memᴰ (withdraw (p .name)) since → ⊥
 
 -- A hazard stands exactly if it was added so.
@@ -131,17 +121,13 @@ CountPromise =
 
 -- In the memory
 
--- The memory after a call, and after a list of calls.
+-- The memory after a call.
 unfoldable pub afterCall : OpenStates → Call → OpenStates
 afterCall m (edit (add name z)) = memoryAfter (addIn m name z) m
 afterCall m (edit (withdraw name)) = memoryAfter (withdrawIn m name) m
 afterCall m (schedule side room) = m
 afterCall m (keepAs number) = memoryAfter (keepIn m number) m
 afterCall m (returnTo number) = memoryAfter (returnIn m number) m
-
-unfoldable pub afterCalls : OpenStates → List Call → OpenStates
-afterCalls m [] = m
-afterCalls m (c ∷ cs) = afterCalls (afterCall m c) cs
 
 -- A "list of these calls from an empty job with an accepted header", its adds with such names: its bytes s, the job j that they are, and the
 -- memory after the opening, whatever that held before, and after the calls.
@@ -150,20 +136,20 @@ pub record CallsFrom (s : List ℕ) (j : Job) (calls : List Call) (m : OpenState
   pub empty : j .hazards ≡ []
   pub nameable : (e : Edit) → List·Memᴰ (edit e) calls → Nameable e
   pub before : OpenStates
-  pub memory : m ≡ afterCalls (memoryAfter (openStates s) before) calls
+  pub memory : m ≡ foldl afterCall (memoryAfter (openStates s) before) calls
 
 -- The memory answers as a job: the job is accepted, and the schedule call's whole reply, the overhangs too, is plan's for it.
 pub record AnswersAs (m : OpenStates) (j : Job) : Type 0 where
   pub is-accepted : acceptJob (writeJob j) ≡ accepted j
-  pub schedule : (side room : ℕ) → scheduleIn m side room ≡ plan (writeJob j) side room
+  pub planned : (side room : ℕ) → scheduleIn m side room ≡ plan (writeJob j) side room
 
 -- "The schedule equals that of a job made from the hazards added and not withdrawn since", whatever the hazards' order.
+abbrev pub SchedulesAs : Header → (past : List NamedHazard) → OpenStates → Type 0
+SchedulesAs h past m = (zs : List Hazard) → length zs ≤ mostStanding → ((z : Hazard) → List·Memᴰ z zs ↔ List·Memᴰ z (map unnamed past)) → AnswersAs m (madeFrom h zs)
+
 -- "The promise for lists of calls now includes keep and return."
 abbrev pub SchedulePromise : Type 0
-SchedulePromise =
-    (s : List ℕ) (j : Job) (calls : List Call) (m : OpenStates) → CallsFrom s j calls m
-    → (zs : List Hazard) → length zs ≤ mostStanding → ((z : Hazard) → List·Memᴰ z zs ↔ List·Memᴰ z (map unnamed (addedSince (j .header) calls)))
-    → AnswersAs m (madeFrom (j .header) zs)
+SchedulePromise = (s : List ℕ) (j : Job) (calls : List Call) (m : OpenStates) → CallsFrom s j calls m → SchedulesAs (j .header) (addedSince (j .header) calls) m
 
 -- Those hazards stand in the state a.
 pub record Holds (h : Header) (past : List NamedHazard) (a : StoredJob) : Type 0 where
@@ -182,27 +168,29 @@ HoldsKept h (state past) k = (isUsed k ≡ true) × Holds h past (stateOf h k)
 -- next return 13 exactly where nothing is kept.
 pub record Standing (h : Header) (s : States (List NamedHazard)) (m : OpenStates) : Type 0 where
   pub is-open : areOpenStates m ≡ true
-  pub state-now : Holds h (s .now) (m .now)
+  pub state-now : Holds h (s .present) (m .now)
   pub states-kept : (number : ℕ) → HoldsKept h (s .kept number) (keptUnder m number)
-  pub next-add : (name : ℕ) (z : Hazard) → replied (addIn m name z) ≡ (unless-refuse (not (stands name (s .now))) 12 name >>= λ _. unless-refuse (not (isFull (s .now))) 15 0 >>= λ _. admit h name z >>= λ _. accepted 0)
-  pub next-withdrawal : (name : ℕ) → replied (withdrawIn m name) ≡ (unless-refuse (stands name (s .now)) 12 name >>= λ _. accepted 0)
-  pub next-keep : (number : ℕ) → replied (keepIn m number) ≡ (unless-refuse (leb number greatestStateNumber) 13 0 >>= λ _. accepted 0)
-  pub next-return : (number : ℕ) → replied (returnIn m number) ≡ (unless-refuse (isKept (s .kept number)) 13 0 >>= λ _. accepted 0)
+  pub next-add : (name : ℕ) (z : Hazard) → replied (addIn m name z) ≡ replied (testAdd h (s .present) name z)
+  pub next-withdrawal : (name : ℕ) → replied (withdrawIn m name) ≡ replied (unless-refuse (stands name (s .present)) (Row.Name name))
+  pub next-keep : (number : ℕ) → replied (keepIn m number) ≡ replied (unless-refuse (leb number greatestStateNumber) Row.State)
+  pub next-return : (number : ℕ) → replied (returnIn m number) ≡ replied (unless-refuse (isKept (s .kept number)) Row.State)
 
 abbrev pub StandingPromise : Type 0
 StandingPromise = (s : List ℕ) (j : Job) (calls : List Call) (m : OpenStates) → CallsFrom s j calls m → Standing (j .header) (hazardsAfter (j .header) calls) m
 
 -- "A withdrawn name can be added again": the add is refused by its hazard alone.
 abbrev pub AgainPromise : Type 0
-AgainPromise =
-    (m next : OpenStates) (name : ℕ) → withdrawIn m name ≡ accepted next
-    → (z : Hazard) → replied (addIn next name z) ≡ (admit (m .now .header) name z >>= λ _. accepted 0)
+AgainPromise = (m next : OpenStates) (name : ℕ) → withdrawIn m name ≡ accepted next → (z : Hazard) → replied (addIn next name z) ≡ replied (admit (m .now .header) name z)
 
--- "Room left by a withdrawal is used again": by an add of any name. It is refused 12 by its name or by its hazard, never 15.
+-- The tests of an add but for room: 12 by its name, then its hazard's. So it is tested where there is room, and so it was before request 12.
+abbrev pub testNameAndHazard : Header → List NamedHazard → (name : ℕ) → Hazard → Answer (Unit {0})
+testNameAndHazard h ps name z = unless-refuse (not (stands name ps)) (Row.Name name) >>= λ _. admit h name z
+
+-- "Room left by a withdrawal is used again": by an add of any name.
 abbrev pub RoomPromise : Type 0
 RoomPromise =
     (m next : OpenStates) (name : ℕ) → withdrawIn m name ≡ accepted next
-    → (other : ℕ) (z : Hazard) → replied (addIn next other z) ≡ (unless-refuse (not (stands other (standing (next .now)))) 12 other >>= λ _. admit (m .now .header) other z >>= λ _. accepted 0)
+    → (other : ℕ) (z : Hazard) → replied (addIn next other z) ≡ replied (testNameAndHazard (m .now .header) (standing (next .now)) other z)
 
 -- "After a return, the open job is as when that state was last kept, whichever adds and withdrawals came between": all of it, the
 -- header and the zeros behind the hazards too.

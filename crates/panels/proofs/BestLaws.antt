@@ -10,7 +10,7 @@ use lib.ListN.{getD}
 use lib.Dec.{leb}
 use borrow.Author.Tests.{le-leb, lt-leb, leb-true, leb-false}
 use Rattle.refusal.specs.Choice.{if_then_else_}
-use Rattle.refusal.proofs.TestLaws.{decided, not-both}
+use Rattle.refusal.proofs.TestLaws.{decided, not-both, impossible}
 use Rattle.panels.specs.Layout.{covers, overrun, Found, none, found, judged, better, best}
 use Rattle.panels.specs.Promised.{FirstSmallest, NoneCovers}
 
@@ -47,7 +47,7 @@ module _ (lengths : List ℕ) (run : ℕ) where
 
   -- None exactly if no layout of the list covers.
   found-not-none : {o : ℕ} {c : List ℕ} {A : Type 0} → found o c ≡ none → A
-  found-not-none e = absurd (let z : _≡_ {A = ℕ} 0 1 = cc in omega arith)
+  found-not-none e = impossible cc
 
   better-is-none : (a b : Found) → better a b ≡ none → (a ≡ none) × (b ≡ none)
   better-is-none none b e = (refl, e)
@@ -115,8 +115,8 @@ module _ (lengths : List ℕ) (run : ℕ) where
           before zero i h = g h
           before (suc i) h k = f .first i (omega arith) k
 
-      now : (covers lengths run x ≡ true) → ((l : List ℕ) → List·Memᴰ l xs → covers lengths run l ≡ true → overrun lengths run x ≤ overrun lengths run l) → FirstSmallest lengths run (x ∷ xs) (overrun lengths run x) x
-      now h g = record {
+      at-once : (covers lengths run x ≡ true) → ((l : List ℕ) → List·Memᴰ l xs → covers lengths run l ≡ true → overrun lengths run x ≤ overrun lengths run l) → FirstSmallest lengths run (x ∷ xs) (overrun lengths run x) x
+      at-once h g = record {
         place = 0;
         among = omega arith;
         there = refl;
@@ -135,7 +135,7 @@ module _ (lengths : List ℕ) (run : ℕ) where
           let s = found-same q in
           subst (λ (y : ℕ). FirstSmallest lengths run (x ∷ xs) y c) (s .0)
           (subst (λ (y : List ℕ). FirstSmallest lengths run (x ∷ xs) (overrun lengths run x) y) (s .1)
-          (now h (λ y k w. let a = leb-true (overrun lengths run x) p l in let b = f .smallest y k w in omega arith)))
+          (at-once h (λ y k w. let a = leb-true (overrun lengths run x) p l in let b = f .smallest y k w in omega arith)))
       both h p m f false l q =
           let s = found-same q in
           subst (λ (y : ℕ). FirstSmallest lengths run (x ∷ xs) y c) (s .0)
@@ -148,7 +148,7 @@ module _ (lengths : List ℕ) (run : ℕ) where
           let s = found-same (sym (ap (λ (j : Found). better j (best lengths run xs)) (judged-covers x h) ∙ ap (better (found (overrun lengths run x) x)) q) ∙ e) in
           subst (λ (y : ℕ). FirstSmallest lengths run (x ∷ xs) y c) (s .0)
           (subst (λ (y : List ℕ). FirstSmallest lengths run (x ∷ xs) (overrun lengths run x) y) (s .1)
-          (now h (λ y k w. absurd (not-both w (none-short xs q y k)))))
+          (at-once h (λ y k w. absurd (not-both w (none-short xs q y k)))))
       go (inl h) (found p m) q r =
           both h p m (r p m q) (leb (overrun lengths run x) p) refl
           (sym (ap (λ (j : Found). better j (best lengths run xs)) (judged-covers x h) ∙ ap (better (found (overrun lengths run x) x)) q) ∙ e)

@@ -2,6 +2,7 @@
 pub mod PlaceLaws
 pub mod BestLaws
 pub mod FloorLaws
+pub mod RefusedLaws
 pub mod PanelLaws
 pub mod WorkedLaws
 -- Steps of the code.

@@ -1,24 +1,26 @@
--- What the call promises, in the paper's words: for every accepted call, and when one is refused.
+-- What the call promises of every call that is not refused, in the paper's words.
 -- Assumes nothing.
 use Prim.Native.Nat.{ℕ, zero, suc, _-_, _^_, _≤_, _<_, min}
 use native.Mathlib.Omega.{arith}
 use native.Mathlib.Nat.{dvd-zero}
 use mathlib.Core.Path.{_≡_, refl, sym, ap, _∙_, subst}
-use mathlib.Core.Logic.{_↔_, _⊎_, inl, inr}
-use mathlib.Core.Bool.{Bool, true, false, _||_, not}
+use mathlib.Core.Logic.{_↔_}
+use mathlib.Core.Bool.{Bool, true, false, not}
 use mathlib.Core.List.{List, [], _∷_, List·Memᴰ}
 use lib.ListN.{length, take, drop, getD, replicate, length-take, take-append-drop}
 use lib.Seq.{take-all, take-take, getD-take}
-use lib.Dec.{ltb, eqb, leb}
-use borrow.Author.Tests.{ltb-true, ltb-false, lt-ltb, le-ltb, eqb-true, eqb-false, eq-eqb, ne-eqb, le-leb, leb-false, not-true}
-use Rattle.refusal.specs.Answer.{accepted, refused, unless-refuse, _>>=_}
-use Rattle.refusal.specs.Choice.{if_then_else_, someOf}
+use lib.Dec.{leb}
+use borrow.Author.Tests.{le-leb, leb-false, not-true}
+use Rattle.refusal.specs.Answer.{accepted}
+use Rattle.refusal.specs.Refusal.{unless-refuse}
+use Rattle.refusal.specs.declared.Refusal.the-variants as Row
+use Rattle.refusal.specs.Choice.{if_then_else_}
 use Rattle.refusal.proofs.AnswerLaws.{bound, tested}
 use Rattle.refusal.proofs.EachLaws.{getD-member}
-use Rattle.refusal.proofs.TestLaws.{or-cases, or-left, or-right, not-both, Passing, any-intro, any-elim, decided}
 use Rattle.panels.specs.Layout.{IsLayout, zeroToFifteen, eachBefore, layouts, tried, total, covers, overrun, Found, none, found, judged, better, best}
-use Rattle.panels.specs.Panels.{Panels, outOfRange, gcd, multipleFrom, floor, panelsFor}
+use Rattle.panels.specs.Panels.{Panels, gcd, multipleFrom, floor, panelsFor}
 use Rattle.panels.specs.Promised.{Yard, Limit, FirstSmallest, NoneCovers, NoWorse, FloorOf}
+use Rattle.panels.proofs.RefusedLaws.{unfit, unlimited, fit-yard, fit-limit}
 use Rattle.panels.proofs.PlaceLaws.{layouts-number, layouts-exactly}
 use Rattle.panels.proofs.BestLaws.{best-append, best-first, none-exactly}
 use Rattle.panels.proofs.FloorLaws.{gcd-some, multiple-least, floor-distance, floor-under}
@@ -31,124 +33,19 @@ pub record Taken (lengths : List ℕ) (run limit : ℕ) (p : Panels) : Type 0 wh
   pub tries-is : p .tries ≡ length (tried lengths limit)
   pub floor-is : p .floor ≡ floor lengths run
 
-or-false-left : (a b : Bool) → (a || b) ≡ false → a ≡ false
-or-false-left true b e = e
-or-false-left false b e = refl
-
-or-false-right : (a b : Bool) → (a || b) ≡ false → b ≡ false
-or-false-right true b e = absurd (not-both refl e)
-or-false-right false b e = e
-
-none-out : (ls : List ℕ) → someOf outOfRange ls ≡ false → (l : ℕ) → List·Memᴰ l ls → (1 ≤ l) × (l ≤ 20000)
-none-out ls e l m = go (decided (outOfRange l))
-  where
-    go : ((ltb l 1 || ltb 20000 l) ≡ true) ⊎ ((ltb l 1 || ltb 20000 l) ≡ false) → (1 ≤ l) × (l ≤ 20000)
-    go (inl t) = absurd (not-both (any-intro outOfRange m t) e)
-    go (inr f) = (ltb-false l 1 (or-false-left (ltb l 1) (ltb 20000 l) f), ltb-false 20000 l (or-false-right (ltb l 1) (ltb 20000 l) f))
-
-pub yard : (ls : List ℕ) → 1 ≤ length ls → length ls ≤ 4 → someOf outOfRange ls ≡ false → Yard ls
-yard ls some four all = record {
-  proper = record { some = some; each = λ l m. none-out ls all l m .0 };
-  four = four;
-  to = λ l m. none-out ls all l m .1;
-}
-
--- The tests of 16 and 17 as facts.
-abbrev unfit : (ls : List ℕ) → Bool
-unfit ls = eqb (length ls) 0 || ltb 4 (length ls) || someOf outOfRange ls
-
-abbrev unlimited : (limit : ℕ) → Bool
-unlimited limit = eqb limit 0 || ltb 65536 limit
-
-fit-yard : (ls : List ℕ) → unfit ls ≡ false → Yard ls
-fit-yard ls e =
-    let front = or-false-left (eqb (length ls) 0 || ltb 4 (length ls)) (someOf outOfRange ls) e in
-    let some = eqb-false (length ls) 0 (or-false-left (eqb (length ls) 0) (ltb 4 (length ls)) front) in
-    let four = ltb-false 4 (length ls) (or-false-right (eqb (length ls) 0) (ltb 4 (length ls)) front) in
-    yard ls (omega arith) four (or-false-right (eqb (length ls) 0 || ltb 4 (length ls)) (someOf outOfRange ls) e)
-
-fit-limit : (limit : ℕ) → unlimited limit ≡ false → Limit limit
-fit-limit limit e =
-    let low = eqb-false limit 0 (or-false-left (eqb limit 0) (ltb 65536 limit) e) in
-    record { low = omega arith; top = ltb-false 65536 limit (or-false-right (eqb limit 0) (ltb 65536 limit) e) }
-
 pub taken : (lengths : List ℕ) (run limit : ℕ) (p : Panels) → panelsFor lengths run limit ≡ accepted p → Taken lengths run limit p
 unfolding panelsFor
 taken ls run limit p e =
-    let b1 = bound (unless-refuse (not (unfit ls)) 16 0) _ p e in
-    let b2 = bound (unless-refuse (not (unlimited limit)) 17 0) _ p (b1 .rest) in
+    let b1 = bound (unless-refuse (not (unfit ls)) Row.Lengths) _ p e in
+    let b2 = bound (unless-refuse (not (unlimited limit)) Row.Tries) _ p (b1 .rest) in
     let same : record { best = best ls run (tried ls limit); tries = length (tried ls limit); floor = floor ls run } ≡ p = cc in
     record {
-      yard = fit-yard ls (not-true (unfit ls) (tested (not (unfit ls)) 16 0 _ (b1 .taken)));
-      limit-is = fit-limit limit (not-true (unlimited limit) (tested (not (unlimited limit)) 17 0 _ (b2 .taken)));
+      yard = fit-yard ls (not-true (unfit ls) (tested (not (unfit ls)) Row.Lengths _ (b1 .taken)));
+      limit-is = fit-limit limit (not-true (unlimited limit) (tested (not (unlimited limit)) Row.Tries _ (b2 .taken)));
       best-is = sym (ap (λ (q : Panels). q .best) same);
       tries-is = sym (ap (λ (q : Panels). q .tries) same);
       floor-is = sym (ap (λ (q : Panels). q .floor) same);
     }
-
--- "No length, over four, or one out of range is 16, tested first; a limit of 0 or above 65,536 is 17, next": exactly then.
-sixteen-only : (t u : Bool) (p : Panels) → (unless-refuse (not t) 16 0 >>= λ _. unless-refuse (not u) 17 0 >>= λ _. accepted p) ≡ refused 16 0 → t ≡ true
-sixteen-only true u p e = refl
-sixteen-only false true p e = let z : _≡_ {A = ℕ} 17 16 = cc in absurd (omega arith)
-sixteen-only false false p e = let z : _≡_ {A = ℕ} 0 1 = cc in absurd (omega arith)
-
-seventeen-only : (t u : Bool) (p : Panels) → (unless-refuse (not t) 16 0 >>= λ _. unless-refuse (not u) 17 0 >>= λ _. accepted p) ≡ refused 17 0 → (t ≡ false) × (u ≡ true)
-seventeen-only true u p e = let z : _≡_ {A = ℕ} 16 17 = cc in absurd (omega arith)
-seventeen-only false true p e = (refl, refl)
-seventeen-only false false p e = let z : _≡_ {A = ℕ} 0 1 = cc in absurd (omega arith)
-
-yard-fit : (ls : List ℕ) → Yard ls → unfit ls ≡ false
-yard-fit ls y =
-    let some = y .proper .some in
-    rw (ne-eqb (length ls) 0 (λ e. omega arith), le-ltb 4 (length ls) (y .four)) (all (decided (someOf outOfRange ls)))
-  where
-    all : (someOf outOfRange ls ≡ true) ⊎ (someOf outOfRange ls ≡ false) → someOf outOfRange ls ≡ false
-    all (inr e) = e
-    all (inl e) =
-        let w = any-elim outOfRange ls e in
-        absurd (not-both (w .passes) (let l = y .proper .each (w .one) (w .member) in rw (le-ltb (w .one) 1 l, le-ltb 20000 (w .one) (y .to (w .one) (w .member)))))
-
-module _ (ls : List ℕ) (run limit : ℕ) where
-  pub sixteen-exactly : (panelsFor ls run limit ≡ refused 16 0) ↔ ((length ls ≡ 0) ⊎ ((4 < length ls) ⊎ Passing outOfRange ls))
-  unfolding panelsFor
-  sixteen-exactly = ((λ e. to (sixteen-only (unfit ls) (unlimited limit) _ e)), from)
-    where
-      last : ((eqb (length ls) 0 || ltb 4 (length ls)) ≡ true) ⊎ (someOf outOfRange ls ≡ true) → (length ls ≡ 0) ⊎ ((4 < length ls) ⊎ Passing outOfRange ls)
-      last (inr p) = inr (inr (any-elim outOfRange ls p))
-      last (inl p) = first (or-cases (eqb (length ls) 0) (ltb 4 (length ls)) p)
-        where
-          first : (eqb (length ls) 0 ≡ true) ⊎ (ltb 4 (length ls) ≡ true) → (length ls ≡ 0) ⊎ ((4 < length ls) ⊎ Passing outOfRange ls)
-          first (inl q) = inl (eqb-true (length ls) 0 q)
-          first (inr q) = inr (inl (ltb-true 4 (length ls) q))
-
-      to : unfit ls ≡ true → (length ls ≡ 0) ⊎ ((4 < length ls) ⊎ Passing outOfRange ls)
-      to e = last (or-cases (eqb (length ls) 0 || ltb 4 (length ls)) (someOf outOfRange ls) e)
-
-      test : (length ls ≡ 0) ⊎ ((4 < length ls) ⊎ Passing outOfRange ls) → unfit ls ≡ true
-      test (inl e) = or-left (someOf outOfRange ls) (or-left (ltb 4 (length ls)) (eq-eqb (length ls) 0 e))
-      test (inr (inl h)) = or-left (someOf outOfRange ls) (or-right (eqb (length ls) 0) (lt-ltb 4 (length ls) h))
-      test (inr (inr w)) = or-right (eqb (length ls) 0 || ltb 4 (length ls)) (any-intro outOfRange (w .member) (w .passes))
-
-      from : (length ls ≡ 0) ⊎ ((4 < length ls) ⊎ Passing outOfRange ls) → panelsFor ls run limit ≡ refused 16 0
-      from h = rw (test h)
-
-  pub seventeen-exactly : (panelsFor ls run limit ≡ refused 17 0) ↔ (Yard ls × ((limit ≡ 0) ⊎ (65536 < limit)))
-  unfolding panelsFor
-  seventeen-exactly =
-      ((λ e. let w = seventeen-only (unfit ls) (unlimited limit) _ e in (fit-yard ls (w .0), to (or-cases (eqb limit 0) (ltb 65536 limit) (w .1)))), (λ h. rw (yard-fit ls (h .0), test (h .1))))
-    where
-      to : (eqb limit 0 ≡ true) ⊎ (ltb 65536 limit ≡ true) → (limit ≡ 0) ⊎ (65536 < limit)
-      to (inl q) = inl (eqb-true limit 0 q)
-      to (inr q) = inr (ltb-true 65536 limit q)
-
-      test : (limit ≡ 0) ⊎ (65536 < limit) → unlimited limit ≡ true
-      test (inl e) = or-left (ltb 65536 limit) (eq-eqb limit 0 e)
-      test (inr h) = or-right (eqb limit 0) (lt-ltb 65536 limit h)
-
-  -- Every other call is answered.
-  pub answered : Yard ls → Limit limit → panelsFor ls run limit ≡ accepted (record { best = best ls run (tried ls limit); tries = length (tried ls limit); floor = floor ls run })
-  unfolding panelsFor
-  answered y l = let low = l .low in rw (yard-fit ls y, ne-eqb limit 0 (λ e. omega arith), le-ltb 65536 limit (l .top))
 
 -- One call.
 module _ (lengths : List ℕ) (run limit : ℕ) (p : Panels) (e : panelsFor lengths run limit ≡ accepted p) where

@@ -3,7 +3,7 @@
 use Prim.Native.Nat.{ℕ, _^_, _≤_, _<_, min}
 use native.Mathlib.Omega.{arith}
 use native.Mathlib.Decide.{decLe}
-use mathlib.Core.Path.{_≡_, sym, ap, _∙_}
+use mathlib.Core.Path.{_≡_, sym, ap, _∙_, refl}
 use mathlib.Core.Logic.{inl, inr}
 use mathlib.Core.Bool.{true, false}
 use mathlib.Core.List.{List, []}
@@ -19,23 +19,23 @@ use Rattle.panels.specs.Promised.{Yard, Limit}
 use Rattle.panels.specs.Reply.{placesOf, repliedBest, replied}
 use Rattle.panels.specs.Steps.{layoutAt, layoutsFrom, foundAt, Searched}
 use Rattle.panels.proofs.PlaceLaws.{layouts-from, layouts-taken, layouts-number, from-length}
-use Rattle.panels.proofs.PanelLaws.{sixteen-exactly, seventeen-exactly, answered}
+use Rattle.panels.proofs.RefusedLaws.{sixteen-exactly, seventeen-exactly, answered}
 
 module _ (ls : List ℕ) (run limit : ℕ) where
   pub none-given : length ls ≡ 0 → panelsFor ls run limit ≡ refused 16 0
-  none-given e = sixteen-exactly ls run limit .1 (inl e)
+  none-given e = sixteen-exactly ls run limit 0 .1 (refl, inl e)
 
   pub over-four : 4 < length ls → panelsFor ls run limit ≡ refused 16 0
-  over-four h = sixteen-exactly ls run limit .1 (inr (inl h))
+  over-four h = sixteen-exactly ls run limit 0 .1 (refl, inr (inl h))
 
   pub one-out : someOf outOfRange ls ≡ true → panelsFor ls run limit ≡ refused 16 0
-  one-out e = sixteen-exactly ls run limit .1 (inr (inr (any-elim outOfRange ls e)))
+  one-out e = sixteen-exactly ls run limit 0 .1 (refl, inr (inr (any-elim outOfRange ls e)))
 
   pub no-tries : Yard ls → limit ≡ 0 → panelsFor ls run limit ≡ refused 17 0
-  no-tries y e = seventeen-exactly ls run limit .1 (y, inl e)
+  no-tries y e = seventeen-exactly ls run limit 0 .1 (refl, y, inl e)
 
   pub too-many : Yard ls → 65536 < limit → panelsFor ls run limit ≡ refused 17 0
-  too-many y h = seventeen-exactly ls run limit .1 (y, inr h)
+  too-many y h = seventeen-exactly ls run limit 0 .1 (refl, y, inr h)
 
 -- What is tried, by places.
 tried-from : (ls : List ℕ) (limit : ℕ) → tried ls limit ≡ layoutsFrom (length ls) 0 (min limit (16 ^ length ls))

@@ -6,7 +6,9 @@ use mathlib.Core.List.{List, [], _∷_}
 use lib.ListN.{length}
 use lib.Dec.{ltb, eqb}
 use Rattle.refusal.specs.Choice.{if_then_else_, someOf, allOf}
-use Rattle.refusal.specs.Answer.{Answer, accepted, _>>=_, unless-refuse}
+use Rattle.refusal.specs.Answer.{Answer, accepted, _>>=_}
+use Rattle.refusal.specs.Refusal.{unless-refuse}
+use Rattle.refusal.specs.declared.Refusal.the-variants as Row
 use Rattle.panels.specs.Layout.{Found, tried, best}
 
 -- The floor
@@ -52,7 +54,7 @@ outOfRange l = ltb l 1 || ltb 20000 l
 -- "No length, over four, or one out of range is 16, tested first; a limit of 0 or above 65,536 is 17, next." Both return 0.
 unfoldable pub panelsFor : (lengths : List ℕ) (run limit : ℕ) → Answer Panels
 panelsFor lengths run limit =
-    unless-refuse (not (eqb (length lengths) 0 || ltb mostLengths (length lengths) || someOf outOfRange lengths)) 16 0 >>= λ _.
-    unless-refuse (not (eqb limit 0 || ltb 65536 limit)) 17 0 >>= λ _.
+    unless-refuse (not (eqb (length lengths) 0 || ltb mostLengths (length lengths) || someOf outOfRange lengths)) Row.Lengths >>= λ _.
+    unless-refuse (not (eqb limit 0 || ltb 65536 limit)) Row.Tries >>= λ _.
     let those = tried lengths limit in
     accepted (record { best = best lengths run those; tries = length those; floor = floor lengths run })

@@ -21,7 +21,8 @@ use Rattle.job.specs.declared.Hazard.{Hazard}
 use Rattle.job.specs.declared.NamedHazard.{NamedHazard}
 use Rattle.job.specs.declared.StoredJob.{StoredJob}
 use Rattle.job.specs.Job.{unnamed, jobOf}
-use Rattle.job.proofs.JobLaws.{HazardFits, JobFits}
+use Rattle.job.specs.Fits.{HazardFits, JobFits}
+use Rattle.job.proofs.RangeLaws.{header-bounds}
 use Rattle.runs.specs.declared.Stretch.{Stretch}
 use Rattle.runs.specs.declared.Envelopes.{Envelopes}
 use Rattle.runs.proofs.StoredLaws.{noStretch, column-more, columns-stored}
@@ -106,6 +107,7 @@ next-stored es e h = cc (length-append es (e ∷ []), column-more 256 (λ x. x .
 -- Behind the hazards before an index: the envelopes taken are stored, with their greatest overhangs, and what is left to do gives the answer.
 pub record SoFar (job : StoredJob) (side : ℕ) (envelopes : Envelopes) (overhangs : Overhangs) (index : ℕ) : Type 0 where
   pub within : index ≤ job .header .count
+  pub most : job .header .count ≤ 256
   pub few : envelopes .count ≤ index
   pub start-places : length (envelopes .starts) ≡ 256
   pub end-places : length (envelopes .ends) ≡ 256
@@ -131,6 +133,7 @@ module _ (job : StoredJob) (side : ℕ) (fits : JobFits (jobOf job)) where
   unfolding sideFrom testedEnvelopes
   none-yet e = record {
     within = omega arith;
+    most = header-bounds (job .header) (fits .header) .count;
     few = rw e (omega arith);
     start-places = rw e refl;
     end-places = rw e refl;
@@ -154,9 +157,10 @@ module _ (job : StoredJob) (side : ℕ) (fits : JobFits (jobOf job)) where
         → SoFar job side (withNext envelopes e) new (i + 1)
     hazard-taken e o new p q =
         let number : length (so .taken) ≡ envelopes .count = sym (ap (λ (es : Envelopes). es .count) (so .whole)) in
-        let room : length (so .taken) < 256 = omega (arith, so .few, fits .header .count) in
+        let room : length (so .taken) < 256 = omega (arith, so .few, so .most) in
         record {
           within = omega arith;
+          most = so .most;
           few = omega (arith, so .few);
           start-places = rw length-set (so .start-places);
           end-places = rw length-set (so .end-places);
@@ -170,6 +174,7 @@ module _ (job : StoredJob) (side : ℕ) (fits : JobFits (jobOf job)) where
     hazard-left-out p =
         record {
           within = omega arith;
+          most = so .most;
           few = omega (arith, so .few);
           start-places = so .start-places;
           end-places = so .end-places;

@@ -19,20 +19,23 @@ use Rattle.job.specs.declared.StoredJob.{StoredJob}
 use Rattle.job.specs.declared.read.JobRead.{JobRead}
 use Rattle.job.specs.Job.{Job, unnamed, jobOf, readJob}
 use Rattle.job.specs.Reply.{jobAnswer}
-use Rattle.job.proofs.JobLaws.{JobFits}
+use Rattle.job.specs.Fits.{JobFits}
+use Rattle.job.proofs.RangeLaws.{header-bounds}
 use Rattle.planning.specs.Envelope.{standsNear, testHazard, testHazards, acceptJobBy, acceptJob}
 use Rattle.planning.proofs.AcceptLaws.{inside, stored}
+use Rattle.refusal.proofs.TestLaws.{impossible}
 
 -- The tests
 
 -- Behind the hazards before an index: what is left to test gives the answer.
 pub record TestsLeft (job : StoredJob) (index : ℕ) : Type 0 where
   pub within : index ≤ job .header .count
+  pub most : job .header .count ≤ 256
   pub same : testHazards (job .header) index (drop index (jobOf job .hazards)) ≡ testHazards (job .header) 0 (jobOf job .hazards)
 
 module _ (job : StoredJob) (fits : JobFits (jobOf job)) where
   pub tests-start : TestsLeft job 0
-  tests-start = record { within = omega arith; same = refl }
+  tests-start = record { within = omega arith; most = header-bounds (job .header) (fits .header) .count; same = refl }
 
   module _ {i : ℕ} (left : TestsLeft job i) (d : NamedHazard) (l : i < job .header .count) where
     turned : (testHazard (job .header) i (unnamed (getD (job .hazards) i d)) >>= λ _. testHazards (job .header) (i + 1) (drop (i + 1) (jobOf job .hazards))) ≡ testHazards (job .header) 0 (jobOf job .hazards)
@@ -45,7 +48,7 @@ module _ (job : StoredJob) (fits : JobFits (jobOf job)) where
 
     pub tests-next : standsNear (job .header) (unnamed (getD (job .hazards) i d)) ≡ false → TestsLeft job (i + 1)
     unfolding testHazard
-    tests-next e = record { within = omega arith; same = rw e at turned }
+    tests-next e = record { within = omega arith; most = left .most; same = rw e at turned }
 
     pub tests-refused : standsNear (job .header) (unnamed (getD (job .hazards) i d)) ≡ true → refused 5 i ≡ testHazards (job .header) 0 (jobOf job .hazards)
     unfolding testHazard
@@ -65,8 +68,8 @@ accept-read s {j} o e t = rw e (go o (testHazards (j .header) 0 (j .hazards)) t)
   where
     go : (q : Outcome) (a : Answer (Unit {0})) → outcome {A = Unit {0}} q tt ≡ a → outcome q j ≡ (a >>= λ _. accepted j)
     go Done (accepted u) p = refl
-    go Done (refused k v) p = absurd (let z : _≡_ {A = ℕ} 0 1 = cc in omega arith)
-    go (Refused x) (accepted u) p = absurd (let z : _≡_ {A = ℕ} 0 1 = cc in omega arith)
+    go Done (refused k v) p = impossible cc
+    go (Refused x) (accepted u) p = impossible cc
     go (Refused x) (refused k v) p = cc
 
 pub accept-unread : (s : List ℕ) (x : Refusal) → readJob s ≡ refusal x → refusal x ≡ acceptJob s

@@ -4,7 +4,7 @@ use Prim.Native.Nat.{ℕ, _+_}
 use native.Mathlib.Omega.{arith}
 use mathlib.Core.Path.{_≡_, refl, ap, _∙_}
 use mathlib.Core.Logic.{_↔_}
-use mathlib.Core.Bool.{Bool, true, false, _&&_, not}
+use mathlib.Core.Bool.{true, _&&_, not}
 use mathlib.Core.List.{List, [], _∷_, _++_, append-nil, List·Memᴰ, List·Memᴰ·head, List·Memᴰ·tail}
 use lib.ListN.{length}
 use lib.Dec.{ltb}
@@ -19,16 +19,12 @@ use Rattle.job.proofs.WritingLaws.{Bytes, job-written, job-is-written}
 use Rattle.planning.specs.Envelope.{reached, standsNear, testHazard, testHazards, acceptJobBy, acceptJob}
 use Rattle.planning.specs.Rows.{Passed}
 use Rattle.planning.proofs.EnvelopeLaws.{AcceptedFits, accepted-fits}
-
--- Where a reached hazard does not fail the test, 5 is not returned.
-not-failed : (r t : Bool) → (r ≡ true → t ≡ false) → not (r && t) ≡ true
-not-failed true t h = rw (h refl)
-not-failed false t h = refl
+use Rattle.refusal.proofs.TestLaws.{not-and-intro}
 
 pub hazard-passes : (h : Header) (i : ℕ) (z : Hazard) → Passed h z → testHazard h i z ≡ accepted tt
 unfolding testHazard standsNear
 hazard-passes h i z p =
-    let five : not (reached h z && ltb (z .near) (h .offset + h .deflection)) ≡ true = not-failed (reached h z) _ (λ r. le-ltb _ _ (p .clear r)) in
+    let five : not (reached h z && ltb (z .near) (h .offset + h .deflection)) ≡ true = not-and-intro (reached h z) _ (λ r. le-ltb _ _ (p .clear r)) in
     rw five
 
 -- The tests go on behind hazards that pass.

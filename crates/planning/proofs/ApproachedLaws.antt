@@ -8,14 +8,17 @@ use mathlib.Core.List.{List·Memᴰ}
 use lib.ListN.{length, getD}
 use lib.Dec.{ltb}
 use borrow.Author.Tests.{lt-ltb, le-ltb}
-use Rattle.refusal.specs.Answer.{Answer, accepted, refused, _>>=_, unless-refuse}
+use Rattle.refusal.specs.Answer.{Answer, accepted, refused, _>>=_}
+use Rattle.refusal.specs.Refusal.{unless-refuse}
+use Rattle.refusal.specs.declared.Refusal.the-variants as Row
 use Rattle.refusal.proofs.EachLaws.{getD-member}
 use Rattle.job.specs.declared.Header.{Header}
 use Rattle.job.specs.declared.Hazard.{Hazard}
 use Rattle.job.specs.declared.StoredJob.{StoredJob}
 use Rattle.job.specs.Job.{Job, unnamed, jobOf}
 use Rattle.job.specs.Reply.{unused}
-use Rattle.job.proofs.JobLaws.{HeaderFits, HazardFits}
+use Rattle.job.specs.Fits.{HeaderFits, HazardFits}
+use Rattle.job.proofs.RangeLaws.{hazard-bounds}
 use Rattle.planning.specs.Approached.{hazardAt, adjacentReaches, approachedHazard}
 use Rattle.planning.proofs.ReachLaws.{reached-near}
 use Rattle.planning.proofs.EnvelopeLaws.{AcceptedFits}
@@ -41,7 +44,7 @@ module _ (j : Job) (i : ℕ) where
       none : Answer Hazard
       none = refused 14 0
 
-      go : (there : Bool) → (unless-refuse there 14 0 >>= λ _. none) ≡ none
+      go : (there : Bool) → (unless-refuse there Row.Hazard >>= λ _. none) ≡ none
       go true = refl
       go false = refl
 
@@ -59,11 +62,11 @@ module _ (j : Job) (fits : AcceptedFits j) (i : ℕ) (l : i < length (j .hazards
 
   -- "Adjacent traffic reaches the hazard if n < C."
   pub reach-test : adjacentReaches (j .header) (hazardAt j i) ≡ ltb (hazardAt j i .near) (j .header .zone)
-  reach-test = adjacent-reaches (j .header) (hazardAt j i) (own-fits .side)
+  reach-test = adjacent-reaches (j .header) (hazardAt j i) (hazard-bounds (j .header) (hazardAt j i) own-fits .side)
 
   pub approached-fits : hazardAt j i .near < j .header .zone → ApproachedFits (j .header) (hazardAt j i)
   approached-fits r =
-      let reach = reached-near (j .header) (hazardAt j i) (own-fits .side) ∙ lt-ltb _ _ r in
+      let reach = reached-near (j .header) (hazardAt j i) (hazard-bounds (j .header) (hazardAt j i) own-fits .side) ∙ lt-ltb _ _ r in
       record { header = fits .fits .header; hazard = own-fits; reach = r; clear = fits .passed (hazardAt j i) member .clear reach }
 
 -- And as it is stored.

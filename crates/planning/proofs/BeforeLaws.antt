@@ -1,7 +1,7 @@
 -- Planning before document 02's requests 4 and 8. Bytes whose first number is not 2 were read and tested before request 8 as before request 4,
 -- and so were their envelopes: "Kind 1 acts as panel length 1." And before request 8 the tests said what they say now, or 6.
 -- Assumes nothing.
-use Prim.Native.Nat.{ℕ, zero, suc, _+_, _-_, _≤_, _<_}
+use Prim.Native.Nat.{ℕ, zero, suc, _+_, _-_, _<_}
 use native.Mathlib.Omega.{arith}
 use native.Mathlib.Decide.{ℕ-discrete}
 use mathlib.Core.Path.{_≡_, refl, sym, ap, _∙_}
@@ -12,7 +12,9 @@ use lib.ListN.{length, getD}
 use lib.Dec.{leb, eqb}
 use borrow.Author.Tests.{lt-leb, ne-eqb}
 use Rattle.refusal.specs.Choice.{if_then_else_}
-use Rattle.refusal.specs.Answer.{Answer, accepted, refused, _>>=_, unless-refuse}
+use Rattle.refusal.specs.Answer.{Answer, accepted, refused, _>>=_}
+use Rattle.refusal.specs.Refusal.{unless-refuse}
+use Rattle.refusal.specs.declared.Refusal.the-variants as Row
 use Rattle.refusal.proofs.AnswerLaws.{bound}
 use Rattle.refusal.proofs.EachLaws.{cons-each}
 use Rattle.refusal.specs.Limits.{limits}
@@ -22,41 +24,43 @@ use Rattle.approach.specs.Panel.{raisedLength}
 use Rattle.approach.proofs.PanelLaws.{raised-length-one}
 use Rattle.job.specs.declared.Header.{Header}
 use Rattle.job.specs.declared.Hazard.{Hazard}
-use Rattle.job.specs.Job.{Job, Range, within, _to_, sharedRangesBy, headerRangesBy, nextInHeader, Fields, readFieldsBy, readFields, moreNumbers, readHeaderBy, readHeader, headerOf, readHazards, readRestBy, readRest, readJobBy, readJob}
-use Rattle.job.proofs.JobLaws.{fields-in, fields-kept, within-high}
+use Rattle.job.specs.Job.{Job, Range, within, _to_, sharedRangesBy, headerRangesBy, nextInHeader, Fields, readFieldsBy, readFields, moreNumbers, readHeaderBy, readHeader, headerOf, readHazards, readRestBy, readRest, readJobBy, readJob, outsideHeader}
+use Rattle.job.proofs.RangeLaws.{ranges-high}
+use Rattle.job.proofs.JobLaws.{fields-in}
 use Rattle.planning.specs.Envelope.{Traffic, forward, opposite, runout, reaches, reachOf, offsetOf, lengthening, envelope, envelopes, testHazard, testHazards}
 use Rattle.planning.specs.Before.{leavesRoad, testHazardsBefore, acceptBefore, envelopesBefore, NotKindTwo, nextBefore, readHeaderBefore, headerBefore, readJobBefore, lengtheningBefore}
+use Rattle.refusal.specs.declared.Refusal.{Refusal}
 
 -- Reading
 
 -- Two tables that agree behind the first number.
-fields-alike : (a b : List ℕ → Range) (number : ℕ) (valueOf : List ℕ → ℕ) (x : ℕ) → ((g : List ℕ) → a (x ∷ g) ≡ b (x ∷ g)) → (k : ℕ) (g s : List ℕ) (at : ℕ)
-    → readFields a number valueOf k (x ∷ g) s at ≡ readFields b number valueOf k (x ∷ g) s at
+fields-alike : (a b : List ℕ → Range) (outside : List ℕ → Refusal) (x : ℕ) → ((g : List ℕ) → a (x ∷ g) ≡ b (x ∷ g)) → (k : ℕ) (g s : List ℕ) (at : ℕ)
+    → readFields a outside k (x ∷ g) s at ≡ readFields b outside k (x ∷ g) s at
 unfolding readFieldsBy
-fields-alike a b number valueOf x same zero g s at = refl
-fields-alike a b number valueOf x same (suc k) g s at = go (numberAt s at) (fields-alike a b number valueOf x same k)
+fields-alike a b outside x same zero g s at = refl
+fields-alike a b outside x same (suc k) g s at = go (numberAt s at) (fields-alike a b outside x same k)
   where
     Later : Type 0
-    Later = (l t : List ℕ) (i : ℕ) → readFields a number valueOf k (x ∷ l) t i ≡ readFields b number valueOf k (x ∷ l) t i
+    Later = (l t : List ℕ) (i : ℕ) → readFields a outside k (x ∷ l) t i ≡ readFields b outside k (x ∷ l) t i
 
     test : (t : Bool) (y : Reading) → Later
-        → (unless-refuse t number (valueOf (x ∷ g)) >>= λ _. readFields a number valueOf k (x ∷ (g ++ y .value ∷ [])) s (y .next))
-        ≡ (unless-refuse t number (valueOf (x ∷ g)) >>= λ _. readFields b number valueOf k (x ∷ (g ++ y .value ∷ [])) s (y .next))
+        → (unless-refuse t (outside (x ∷ g)) >>= λ _. readFields a outside k (x ∷ (g ++ y .value ∷ [])) s (y .next))
+        ≡ (unless-refuse t (outside (x ∷ g)) >>= λ _. readFields b outside k (x ∷ (g ++ y .value ∷ [])) s (y .next))
     test true y later = later (g ++ y .value ∷ []) s (y .next)
     test false y later = refl
 
     go : (r : Answer Reading) → Later
-        → (r >>= λ y. unless-refuse (within (a (x ∷ g)) (y .value)) number (valueOf (x ∷ g)) >>= λ _. readFields a number valueOf k (x ∷ (g ++ y .value ∷ [])) s (y .next))
-        ≡ (r >>= λ y. unless-refuse (within (b (x ∷ g)) (y .value)) number (valueOf (x ∷ g)) >>= λ _. readFields b number valueOf k (x ∷ (g ++ y .value ∷ [])) s (y .next))
+        → (r >>= λ y. unless-refuse (within (a (x ∷ g)) (y .value)) (outside (x ∷ g)) >>= λ _. readFields a outside k (x ∷ (g ++ y .value ∷ [])) s (y .next))
+        ≡ (r >>= λ y. unless-refuse (within (b (x ∷ g)) (y .value)) (outside (x ∷ g)) >>= λ _. readFields b outside k (x ∷ (g ++ y .value ∷ [])) s (y .next))
     go (accepted y) later = rw (same g) (test (within (b (x ∷ g)) (y .value)) y later)
     go (refused n v) later = refl
 
 -- The first number of a group, and the others.
-fields-first : (rangeOf : List ℕ → Range) (number : ℕ) (valueOf : List ℕ → ℕ) (k : ℕ) (s : List ℕ) (at : ℕ)
-    → readFields rangeOf number valueOf (suc k) [] s at
-    ≡ (numberAt s at >>= λ x. unless-refuse (within (rangeOf []) (x .value)) number (valueOf []) >>= λ _. readFields rangeOf number valueOf k (x .value ∷ []) s (x .next))
+fields-first : (rangeOf : List ℕ → Range) (outside : List ℕ → Refusal) (k : ℕ) (s : List ℕ) (at : ℕ)
+    → readFields rangeOf outside (suc k) [] s at
+    ≡ (numberAt s at >>= λ x. unless-refuse (within (rangeOf []) (x .value)) (outside []) >>= λ _. readFields rangeOf outside k (x .value ∷ []) s (x .next))
 unfolding readFieldsBy
-fields-first rangeOf number valueOf k s at = refl
+fields-first rangeOf outside k s at = refl
 
 -- A number that is no kind, by either range.
 outside : (high x : ℕ) → (x ≡ 0) ⊎ (high < x) → within (1 to high) x ≡ false
@@ -73,38 +77,38 @@ module _ (s : List ℕ) (plain : NotKindTwo s) where
       go (no z) (no two) = inr (omega arith)
 
   -- A header of kind 1, behind its first number.
-  behind-kind : (at : ℕ) → readFields nextInHeader 3 (λ got. length got + 1) 13 (1 ∷ []) s at ≡ readFields nextBefore 3 (λ got. length got + 1) 13 (1 ∷ []) s at
+  behind-kind : (at : ℕ) → readFields nextInHeader outsideHeader 13 (1 ∷ []) s at ≡ readFields nextBefore outsideHeader 13 (1 ∷ []) s at
   unfolding headerRangesBy sharedRangesBy
-  behind-kind at = fields-alike nextInHeader nextBefore 3 (λ got. length got + 1) 1 (λ g. refl) 13 [] s at
+  behind-kind at = fields-alike nextInHeader nextBefore outsideHeader 1 (λ g. refl) 13 [] s at
 
   abbrev further : Fields → Answer Fields
-  further f = readFields nextInHeader 3 (λ got. length got + 1) (moreNumbers (f .numbers)) (f .numbers) s (f .next)
+  further f = readFields nextInHeader outsideHeader (moreNumbers (f .numbers)) (f .numbers) s (f .next)
 
   -- No number follows its fourteen.
-  no-more : (n : ℕ) (a : Answer Fields) → readFields nextInHeader 3 (λ got. length got + 1) 13 (1 ∷ []) s n ≡ a → (a >>= λ f. further f) ≡ a
+  no-more : (n : ℕ) (a : Answer Fields) → readFields nextInHeader outsideHeader 13 (1 ∷ []) s n ≡ a → (a >>= λ f. further f) ≡ a
   unfolding readFieldsBy
   no-more n (accepted f) e =
-      let kind = fields-kept nextInHeader 13 (1 ∷ []) (f .numbers) (fields-in limits nextInHeader 3 (λ got. length got + 1) 13 (1 ∷ []) s n f e) 0 (omega arith) in
+      let kind : getD (f .numbers) 0 0 ≡ 1 = ap (λ (l : List ℕ). getD l 0 0) (fields-in limits nextInHeader outsideHeader 13 (1 ∷ []) s n f e .whole) in
       rw kind
   no-more n (refused k v) e = refl
 
   pub header-alike : readHeader s ≡ readHeaderBefore s
   unfolding readHeaderBy readHeaderBefore headerRangesBy sharedRangesBy
   header-alike =
-      ap (λ (a : Answer Fields). a >>= λ f. further f) (fields-first nextInHeader 3 (λ got. length got + 1) 13 s 0) ∙ go (numberAt s 0) refl
-      ∙ sym (fields-first nextBefore 3 (λ got. length got + 1) 13 s 0)
+      ap (λ (a : Answer Fields). a >>= λ f. further f) (fields-first nextInHeader outsideHeader 13 s 0) ∙ go (numberAt s 0) refl
+      ∙ sym (fields-first nextBefore outsideHeader 13 s 0)
     where
       kinds : (x n : ℕ) → numberAt s 0 ≡ accepted (record { value = x; next = n }) → Dec (x ≡ 1)
-          → ((unless-refuse (within (1 to 2) x) 3 1 >>= λ _. readFields nextInHeader 3 (λ got. length got + 1) 13 (x ∷ []) s n) >>= λ f. further f)
-          ≡ (unless-refuse (within (1 to 1) x) 3 1 >>= λ _. readFields nextBefore 3 (λ got. length got + 1) 13 (x ∷ []) s n)
-      kinds x n e (yes one) = rw one (no-more n (readFields nextInHeader 3 (λ got. length got + 1) 13 (1 ∷ []) s n) refl ∙ behind-kind n)
+          → ((unless-refuse (within (1 to 2) x) (Row.HeaderRange 1) >>= λ _. readFields nextInHeader outsideHeader 13 (x ∷ []) s n) >>= λ f. further f)
+          ≡ (unless-refuse (within (1 to 1) x) (Row.HeaderRange 1) >>= λ _. readFields nextBefore outsideHeader 13 (x ∷ []) s n)
+      kinds x n e (yes one) = rw one (no-more n (readFields nextInHeader outsideHeader 13 (1 ∷ []) s n) refl ∙ behind-kind n)
       kinds x n e (no other) =
           let w = no-kind x n e other in
           rw (outside 2 x w, outside 1 x (⊎-elim inl (λ (l : 2 < x). inr (omega arith)) w))
 
       go : (a : Answer Reading) → numberAt s 0 ≡ a
-          → ((a >>= λ x. unless-refuse (within (1 to 2) (x .value)) 3 1 >>= λ _. readFields nextInHeader 3 (λ got. length got + 1) 13 (x .value ∷ []) s (x .next)) >>= λ f. further f)
-          ≡ (a >>= λ x. unless-refuse (within (1 to 1) (x .value)) 3 1 >>= λ _. readFields nextBefore 3 (λ got. length got + 1) 13 (x .value ∷ []) s (x .next))
+          → ((a >>= λ x. unless-refuse (within (1 to 2) (x .value)) (Row.HeaderRange 1) >>= λ _. readFields nextInHeader outsideHeader 13 (x .value ∷ []) s (x .next)) >>= λ f. further f)
+          ≡ (a >>= λ x. unless-refuse (within (1 to 1) (x .value)) (Row.HeaderRange 1) >>= λ _. readFields nextBefore outsideHeader 13 (x .value ∷ []) s (x .next))
       go (accepted x) e = kinds (x .value) (x .next) e (ℕ-discrete (x .value) 1)
       go (refused k v) e = refl
 
@@ -112,10 +116,9 @@ module _ (s : List ℕ) (plain : NotKindTwo s) where
   pub first-number : (f : Fields) → readHeader s ≡ accepted f → eqb (getD (f .numbers) 0 0) 2 ≡ false
   unfolding readHeaderBefore headerRangesBy sharedRangesBy
   first-number f e =
-      let in14 = fields-in limits nextBefore 3 (λ got. length got + 1) 14 [] s 0 f (sym header-alike ∙ e) in
-      let kind = fields-kept nextBefore 13 (in14 .0 ∷ []) (f .numbers) (in14 .2) 0 (omega arith) in
-      let one : in14 .0 ≤ 1 = within-high (1 to 1) (in14 .0) (in14 .1) in
-      ne-eqb (getD (f .numbers) 0 0) 2 (λ two. omega arith)
+      let in14 = fields-in limits nextBefore outsideHeader 14 [] s 0 f (sym header-alike ∙ e) in
+      let kind = ranges-high nextBefore (in14 .own) (in14 .fit) 0 (omega (arith, in14 .size)) in
+      ne-eqb (getD (f .numbers) 0 0) 2 (λ two. omega (arith, ap (λ (l : List ℕ). getD l 0 0) (in14 .whole)))
 
   pub read-alike : readJob s ≡ readJobBefore s
   unfolding readJobBy readJobBefore
@@ -157,7 +160,7 @@ module _ (s : List ℕ) (plain : NotKindTwo s) where
       let b1 = bound (readHeaderBefore s) _ j (sym (read-alike s plain) ∙ e) in
       let h = headerBefore (b1 .first .numbers) in
       let b2 = bound (readHazards h (h .count) [] s (b1 .first .next)) _ j (b1 .rest) in
-      let b3 = bound (unless-refuse (leb (length s) (b2 .first .next)) 7 (b2 .first .next)) _ j (b2 .rest) in
+      let b3 = bound (unless-refuse (leb (length s) (b2 .first .next)) (Row.LeftOver (b2 .first .next))) _ j (b2 .rest) in
       let same : record { header = h; hazards = b2 .first .list } ≡ j = let z = b3 .rest in cc in
       sym (ap (λ (i : Job). i .header .panel) same)
 

@@ -4,21 +4,23 @@ use Prim.Native.Nat.{ℕ, suc, _+_, _≤_, _<_}
 use native.Mathlib.Omega.{arith}
 use mathlib.Core.Path.{_≡_, refl, sym, subst, ap, _∙_}
 use mathlib.Core.Logic.{_⊎_, inl, inr, _↔_}
-use mathlib.Core.Bool.{Bool, true, false, _&&_, _||_, not, false≢true}
+use mathlib.Core.Bool.{Bool, true, false, _&&_, _||_}
 use mathlib.Core.List.{List, [], _∷_, Memᴰ·map, Memᴰ·of-map, List·Memᴰ, List·Memᴰ·head, List·Memᴰ·tail, List·Memᴰ·cases-cons, List·Memᴰ·not-nil}
 use lib.ListN.{length, length-map}
 use lib.Dec.{eqb}
-use borrow.Author.Tests.{ltb-false, eqb-true, eq-eqb, not-true}
+use borrow.Author.Tests.{ltb-false, eqb-true, eq-eqb}
 use Rattle.refusal.specs.Choice.{if_then_else_}
 use Rattle.refusal.specs.Answer.{accepted}
-use Rattle.refusal.proofs.TestLaws.{and-left, and-right, and-intro, or-left, or-right}
+use Rattle.refusal.proofs.TestLaws.{and-left, and-right, and-intro, or-left, or-right, not-and}
 use Rattle.refusal.proofs.AnswerLaws.{bound, tested}
 use Rattle.refusal.proofs.EachLaws.{cons-each}
 use Rattle.approach.specs.Approach.{Domain}
 use Rattle.job.specs.declared.Header.{Header}
 use Rattle.job.specs.declared.Hazard.{Hazard}
 use Rattle.job.specs.Job.{Job, readJob}
-use Rattle.job.proofs.JobLaws.{HazardFits, JobFits, job-fits}
+use Rattle.job.specs.Fits.{HazardFits, JobFits}
+use Rattle.job.proofs.RangeLaws.{header-bounds, hazard-bounds}
+use Rattle.job.proofs.JobLaws.{job-fits}
 use Rattle.runs.specs.declared.Stretch.{Stretch}
 use Rattle.runs.specs.Level.{Has}
 use Rattle.runs.specs.RunList.{lastStation}
@@ -28,15 +30,11 @@ use Rattle.planning.specs.Reply.{Cuts, cutsOf, testedEnvelopes}
 use Rattle.planning.specs.Overhang.{SideHazard}
 use Rattle.planning.specs.Rows.{Passed}
 use Rattle.planning.proofs.ReachLaws.{reaching-domain}
-
--- A failed conjunction.
-not-and : (a b : Bool) → not (a && b) ≡ true → a ≡ true → b ≡ false
-not-and true b h p = not-true b h
-not-and false b h p = absurd (false≢true p)
+use Rattle.refusal.specs.declared.Refusal.the-variants as Row
 
 pub hazard-passed : (h : Header) (i : ℕ) (z : Hazard) (u : Unit {0}) → testHazard h i z ≡ accepted u → Passed h z
 unfolding testHazard standsNear
-hazard-passed h i z u e = record { clear = λ r. ltb-false _ _ (not-and (reached h z) _ (tested _ 5 i _ e) r) }
+hazard-passed h i z u e = record { clear = λ r. ltb-false _ _ (not-and (reached h z) _ (tested _ (Row.NearBarrier i) _ e) r) }
 
 pub hazards-passed : (h : Header) (i : ℕ) (zs : List Hazard) (u : Unit {0}) → testHazards h i zs ≡ accepted u → (z : Hazard) → List·Memᴰ z zs → Passed h z
 unfolding testHazards
@@ -75,7 +73,7 @@ pub record LiesOnRoad (h : Header) (e : Stretch) : Type 0 where
 
 cut-lies : (h : Header) (z : Hazard) → HazardFits h z → LiesOnRoad h (cutEnvelope h z)
 unfolding cutEnvelope cutToRoad envelope
-cut-lies h z f = record { begins = omega arith; long = omega (arith, f .long, f .begins, f .ends); ends = omega arith }
+cut-lies h z f = let bounds = hazard-bounds h z f in record { begins = omega arith; long = omega (arith, bounds .long, bounds .begins, bounds .ends); ends = omega arith }
 
 -- The envelopes of a side, not cut, as members.
 record FromHazard (h : Header) (side : ℕ) (zs : List Hazard) (e : Stretch) : Type 0 where
@@ -149,16 +147,16 @@ module _ (j : Job) (side : ℕ) (fits : AcceptedFits j) where
   unfolding cutEnvelope cutToRoad envelope
   side-levelled e m =
       let w = from-cut j side e m in
-      let f = fits .fits .hazards .each (w .hazard) (w .own .member) in
-      rw (w .is) (f .level-low, f .level-top)
+      let bounds = hazard-bounds (j .header) (w .hazard) (fits .fits .hazards .each (w .hazard) (w .own .member)) in
+      rw (w .is) (bounds .level-low, bounds .level-top)
 
   pub side-ends : EndsBy lastStation (sideEnvelopes j side)
-  side-ends e m = omega (arith, side-lies e m .ends, fits .fits .header .road-end)
+  side-ends e m = omega (arith, side-lies e m .ends, header-bounds (j .header) (fits .fits .header) .road-end)
 
   pub side-count : length (sideEnvelopes j side) ≤ 256
   side-count =
       let same : length (sideEnvelopes j side) ≡ length (envelopes (j .header) side (j .hazards)) = length-map (envelopes (j .header) side (j .hazards)) (cutToRoad (j .header)) in
-      omega (arith, same, envelopes-length (j .header) side (j .hazards), fits .fits .hazards .count, fits .fits .header .count)
+      omega (arith, same, envelopes-length (j .header) side (j .hazards), fits .fits .hazards .count, header-bounds (j .header) (fits .fits .header) .count)
 
 -- A traffic that reaches a hazard of an accepted job asks for a length in the formula's domain.
 module _ (j : Job) (fits : AcceptedFits j) (z : Hazard) (m : List·Memᴰ z (j .hazards)) (t : Traffic) (r : reaches (j .header) z t ≡ true) where

@@ -15,8 +15,9 @@ use Rattle.approach.proofs.ApproachLaws.{divisor-some}
 use Rattle.approach.proofs.PanelLaws.{raised-length-below}
 use Rattle.job.specs.declared.Hazard.{Hazard}
 use Rattle.job.specs.Job.{Job}
+use Rattle.job.proofs.RangeLaws.{header-bounds, hazard-bounds}
 use Rattle.runs.specs.Level.{Has}
-use Rattle.runs.proofs.GapLaws.{required-covers}
+use Rattle.runs.proofs.LeastLaws.{required-covers}
 use Rattle.planning.specs.Envelope.{Traffic, forward, opposite, runout, reaches, reached, reachOf, offsetOf, lengthening, envelope, cutToRoad, cutEnvelope, OnRoad, Upstream, BelowApproach, Asked, beside, upstream, sideEnvelopes}
 use Rattle.planning.specs.Overhang.{SideHazard}
 use Rattle.planning.specs.Required.{jobLevel}
@@ -31,7 +32,7 @@ module _ (j : Job) (fits : AcceptedFits j) (z : Hazard) (m : List·Memᴰ z (j .
   -- A distance below the approach length in whole panels is below the lengthening, and no other is.
   nearer : (t : Traffic) → reaches (j .header) z t ≡ true → (d : ℕ) → BelowApproach (j .header) z t d → d < lengthening (j .header) z t
   unfolding lengthening
-  nearer t r d below = rw r (raised-length-below _ _ _ _ _ _ _ (fits .fits .header .panel-low) (divisor-some _ _ _ _ _ _ (domain-of j fits z m t r)) d .1 below)
+  nearer t r d below = rw r (raised-length-below _ _ _ _ _ _ _ (header-bounds (j .header) (fits .fits .header) .panel-low) (divisor-some _ _ _ _ _ _ (domain-of j fits z m t r)) d .1 below)
 
   lengthened : (t : Traffic) (d : ℕ) → d < lengthening (j .header) z t → (reaches (j .header) z t ≡ true) × BelowApproach (j .header) z t d
   unfolding lengthening
@@ -40,14 +41,14 @@ module _ (j : Job) (fits : AcceptedFits j) (z : Hazard) (m : List·Memᴰ z (j .
       go : (b : Bool) → reaches (j .header) z t ≡ b
           → d < (if b then raisedLength (j .header .panel) (j .header .along) (j .header .across) (j .header .straight) (runout (j .header) t) (reachOf (j .header) z t) (offsetOf (j .header) z t) else 0)
           → (reaches (j .header) z t ≡ true) × BelowApproach (j .header) z t d
-      go true r k = (r, raised-length-below _ _ _ _ _ _ _ (fits .fits .header .panel-low) (divisor-some _ _ _ _ _ _ (domain-of j fits z m t r)) d .0 k)
+      go true r k = (r, raised-length-below _ _ _ _ _ _ _ (header-bounds (j .header) (fits .fits .header) .panel-low) (divisor-some _ _ _ _ _ _ (domain-of j fits z m t r)) d .0 k)
       go false r k = absurd (omega arith)
 
   -- A station upstream by less than the lengthening is in the envelope.
   upstream-has : (t : Traffic) (d x : ℕ) → Upstream t z d x → d < lengthening (j .header) z t → Has (envelope (j .header) z) x
   unfolding envelope
-  upstream-has forward d x u l = let long = fits .fits .hazards .each z m .long in (omega arith, omega arith)
-  upstream-has opposite d x u l = let long = fits .fits .hazards .each z m .long in (omega arith, omega arith)
+  upstream-has forward d x u l = let long = hazard-bounds (j .header) z (fits .fits .hazards .each z m) .long in (omega arith, omega arith)
+  upstream-has opposite d x u l = let long = hazard-bounds (j .header) z (fits .fits .hazards .each z m) .long in (omega arith, omega arith)
 
   -- "A reached hazard's envelope is [s, e), lengthened by each reaching traffic's approach length at the end that it approaches."
   pub envelope-exactly : (t : ℕ) → Has (envelope (j .header) z) t ↔ Asked (j .header) z t

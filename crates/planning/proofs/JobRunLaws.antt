@@ -11,11 +11,13 @@ use Rattle.refusal.proofs.AnswerLaws.{bound}
 use Rattle.job.specs.declared.Header.{Header}
 use Rattle.job.specs.declared.Hazard.{Hazard}
 use Rattle.job.specs.Job.{Job}
-use Rattle.job.proofs.JobLaws.{HazardFits}
+use Rattle.job.specs.Fits.{HazardFits}
+use Rattle.job.proofs.RangeLaws.{hazard-bounds}
 use Rattle.runs.specs.declared.Stretch.{Stretch}
 use Rattle.runs.specs.RunList.{isRunList}
 use Rattle.runs.specs.Required.{requiredRuns, endPoints, runsBetween}
-use Rattle.runs.proofs.RequiredLaws.{RunsOf, required-runs, required-run-list}
+use Rattle.runs.proofs.RunsOfLaws.{RunsOf}
+use Rattle.runs.proofs.RequiredLaws.{required-runs, required-run-list}
 use Rattle.planning.specs.Envelope.{envelopes, sideEnvelopes, acceptJob}
 use Rattle.planning.specs.Required.{jobLevel, jobRuns}
 use Rattle.planning.specs.Reply.{acceptedRuns}
@@ -43,7 +45,7 @@ none-above : (h : Header) (side : ℕ) (zs : List Hazard) → 1 < side → ((z :
 unfolding envelopes
 none-above h side [] above fit = refl
 none-above h side (z ∷ zs) above fit =
-    let low = fit z (List·Memᴰ·head refl) .side in
+    let low = hazard-bounds h z (fit z (List·Memᴰ·head refl)) .side in
     rw (ne-eqb (z .side) side (λ e. omega arith)) (none-above h side zs above (λ y m. fit y (List·Memᴰ·tail m)))
 
 -- So a side above 1 has the job's refusal, or no runs.

@@ -1,6 +1,6 @@
 -- Jobs under two limits: a job that narrower limits read is accepted, or refused, alike, and its runs keep within the earlier limits.
 -- Assumes nothing.
-use Prim.Native.Nat.{ℕ, _≤_}
+use Prim.Native.Nat.{ℕ}
 use native.Mathlib.Omega.{arith}
 use mathlib.Core.Path.{_≡_, ap, _∙_}
 use mathlib.Core.Bool.{true}

@@ -16,7 +16,8 @@ use Rattle.approach.specs.Panel.{LeastMultiple, raisedLength}
 use Rattle.approach.proofs.PanelLaws.{raised-least, raised-length-fits}
 use Rattle.job.specs.declared.Header.{Header}
 use Rattle.job.specs.declared.Hazard.{Hazard}
-use Rattle.job.proofs.JobLaws.{HeaderFits, HazardFits}
+use Rattle.job.specs.Fits.{HeaderFits, HazardFits}
+use Rattle.job.proofs.RangeLaws.{header-bounds, hazard-bounds}
 use Rattle.planning.specs.Envelope.{Traffic, forward, opposite, present, adjacent, runout, farther, reaches, reached, reachOf, offsetOf, lengthening}
 
 -- The paper's sentences
@@ -73,12 +74,12 @@ reached-near h z s = same-test (reached h z) (ltb (z .near) (h .zone)) to from
 
 -- A traffic is present where its runout length is above 0.
 pub present-runout : (h : Header) → HeaderFits h → (t : Traffic) → present h t ≡ ltb 0 (runout h t)
-present-runout h f forward = sym (lt-ltb 0 (h .forward) (f .forward-low))
+present-runout h f forward = sym (lt-ltb 0 (h .forward) (header-bounds h f .forward-low))
 present-runout h f opposite = refl
 
 pub runout-top : (h : Header) → HeaderFits h → (t : Traffic) → runout h t ≤ 200000
-runout-top h f forward = f .forward-top
-runout-top h f opposite = f .opposite-top
+runout-top h f forward = header-bounds h f .forward-top
+runout-top h f opposite = header-bounds h f .opposite-top
 
 pub farther-top : (h : Header) → HeaderFits h → (side : ℕ) (t : Traffic) → farther h side t ≤ h .way
 unfolding farther
@@ -94,16 +95,17 @@ module _ (h : Header) (z : Hazard) (hf : HeaderFits h) (zf : HazardFits h z) (cl
   pub reaching-domain : reaches h z t ≡ true → Domain (h .along) (h .across) (h .straight) (runout h t) (reachOf h z t) (offsetOf h z t)
   unfolding reaches reachOf offsetOf
   reaching-domain r =
+      let bounds = header-bounds h hf in
       let runs : ltb 0 (runout h t) ≡ true = sym (present-runout h hf t) ∙ and-left (present h t) _ r in
       record {
-        along-low = hf .along-low;
-        along-top = hf .along-top;
-        across-top = hf .across-top;
-        straight-top = hf .straight-top;
+        along-low = bounds .along-low;
+        along-top = bounds .along-top;
+        across-top = bounds .across-top;
+        straight-top = bounds .straight-top;
         runout-low = ltb-true 0 (runout h t) runs;
         runout-top = runout-top h hf t;
-        reach-top = omega (arith, hf .clear-top);
-        offset-below = omega (arith, in-zone h z t r, hf .deflection-low, zf .offsets);
+        reach-top = omega (arith, bounds .clear-top);
+        offset-below = omega (arith, in-zone h z t r, bounds .deflection-low, hazard-bounds h z zf .offsets);
       }
 
   -- Its lengthening is the length that the approach crate promises.
@@ -114,7 +116,7 @@ module _ (h : Header) (z : Hazard) (hf : HeaderFits h) (zf : HazardFits h z) (cl
   -- "Each approach length is raised to the least multiple of it that is not smaller."
   pub reaching-raised : reaches h z t ≡ true → LeastMultiple (h .panel) (approachLength (h .along) (h .across) (h .straight) (runout h t) (reachOf h z t) (offsetOf h z t)) (lengthening h z t)
   unfolding lengthening raisedLength
-  reaching-raised r = rw r (raised-least _ _ (hf .panel-low))
+  reaching-raised r = rw r (raised-least _ _ (header-bounds h hf .panel-low))
 
   pub lengthening-top : lengthening h z t < 210000
   unfolding lengthening
@@ -122,7 +124,7 @@ module _ (h : Header) (z : Hazard) (hf : HeaderFits h) (zf : HazardFits h z) (cl
     where
       go : (b : Bool) → (b ≡ true → Domain (h .along) (h .across) (h .straight) (runout h t) (reachOf h z t) (offsetOf h z t))
           → (if b then raisedLength (h .panel) (h .along) (h .across) (h .straight) (runout h t) (reachOf h z t) (offsetOf h z t) else 0) < 210000
-      go true d = raised-length-fits _ _ _ _ _ _ _ (hf .panel-low) (d refl) (hf .panel-top)
+      go true d = raised-length-fits _ _ _ _ _ _ _ (header-bounds h hf .panel-low) (d refl) (header-bounds h hf .panel-top)
       go false d = omega arith
 
   -- The length asked for with a traffic's own numbers.

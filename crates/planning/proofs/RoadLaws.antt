@@ -16,7 +16,7 @@ use Rattle.job.specs.Job.{Job}
 use Rattle.runs.specs.declared.Stretch.{Stretch}
 use Rattle.runs.specs.Level.{Has}
 use Rattle.runs.specs.RunList.{IsRun}
-use Rattle.runs.proofs.RequiredLaws.{member→run}
+use Rattle.runs.proofs.RunsOfLaws.{member→run}
 use Rattle.runs.proofs.LevelLaws.{Joined, covered, bridged, level→joined}
 use Rattle.planning.specs.Envelope.{forward, opposite, reached, lengthening, envelope, envelopes, cutToRoad, sideEnvelopes, overhang, noOverhang, greater, overhangs, sideOverhangs, OnRoad}
 use Rattle.planning.specs.Required.{jobLevel, jobRuns}

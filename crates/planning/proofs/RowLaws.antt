@@ -10,11 +10,11 @@ use mathlib.Core.List.{List, [], _∷_, List·Memᴰ·not-nil}
 use lib.ListN.{length}
 use lib.Dec.{ltb}
 use borrow.Author.Tests.{ltb-true, lt-ltb}
-use Rattle.refusal.specs.Answer.{Answer, accepted, refused, _>>=_, unless-refuse}
-use Rattle.refusal.specs.Refusal.{numberOf, valueOf, refusal}
+use Rattle.refusal.specs.Answer.{Answer, accepted, refused, _>>=_}
+use Rattle.refusal.specs.Refusal.{unless-refuse, numberOf, valueOf, refusal}
+use Rattle.refusal.specs.declared.Refusal.the-variants as Row
 use Rattle.refusal.specs.declared.Refusal.{Refusal}
 use Rattle.refusal.specs.declared.Refusal.the-variants.{Ended, Malformed, HeaderRange, HazardRange, NearBarrier, LeftOver, Argument, Room, Schedule, Ranges, Name, State, Full, Lengths, Tries}
-use Rattle.refusal.specs.declared.Refusal.the-variants as Refusal
 use Rattle.refusal.proofs.EachLaws.{cons-each}
 use Rattle.job.specs.declared.Header.{Header}
 use Rattle.job.specs.declared.Hazard.{Hazard}
@@ -26,15 +26,16 @@ use Rattle.planning.specs.Envelope.{reached, standsNear, testHazard, tes
 use Rattle.planning.specs.Rows.{Near, Passed, FirstNear, FirstNearOf, JobRow}
 use Rattle.planning.proofs.EnvelopeLaws.{hazard-passed}
 use Rattle.planning.proofs.AcceptedLaws.{hazards-pass}
+use Rattle.refusal.proofs.TestLaws.{impossible}
 
 test-exactly : (h : Header) (i n v : ℕ) (z : Hazard) → (testHazard h i z ≡ refused n v) ↔ ((n ≡ 5) × (v ≡ i) × Near h z)
 unfolding testHazard standsNear
 test-exactly h i n v z = (λ e. to _ _ refl refl e, λ w. back (w .2) ∙ ap₂ refused (sym (w .0)) (sym (w .1)))
   where
-    to : (r near : Bool) → reached h z ≡ r → ltb (z .near) (h .offset + h .deflection) ≡ near → unless-refuse (not (r && near)) 5 i ≡ refused n v → (n ≡ 5) × (v ≡ i) × Near h z
+    to : (r near : Bool) → reached h z ≡ r → ltb (z .near) (h .offset + h .deflection) ≡ near → unless-refuse (not (r && near)) (Row.NearBarrier i) ≡ refused n v → (n ≡ 5) × (v ≡ i) × Near h z
     to true true p q e = ((cc), (cc), record { reach = p; near = ltb-true _ _ q })
-    to true false p q e = absurd (let w : _≡_ {A = ℕ} 0 1 = cc in omega arith)
-    to false near p q e = absurd (let w : _≡_ {A = ℕ} 0 1 = cc in omega arith)
+    to true false p q e = impossible cc
+    to false near p q e = impossible cc
 
     back : Near h z → testHazard h i z ≡ refused 5 i
     back f = simp (f .reach, lt-ltb (z .near) (h .offset + h .deflection) (f .near))
@@ -49,7 +50,7 @@ first-refused h zs i v f =
 
 refused-first : (h : Header) (zs : List Hazard) (i n v : ℕ) → testHazards h i zs ≡ refused n v → (n ≡ 5) × ((k : ℕ) × (v ≡ i + k) × FirstNear h zs k)
 unfolding testHazards
-refused-first h [] i n v e = absurd (let w : _≡_ {A = ℕ} 0 1 = cc in omega arith)
+refused-first h [] i n v e = impossible cc
 refused-first h (z ∷ zs) i n v e = go (testHazard h i z) refl e (refused-first h zs (i + 1) n v)
   where
     later : Passed h z → (n ≡ 5) × ((k : ℕ) × (v ≡ i + 1 + k) × FirstNear h zs k) → (n ≡ 5) × ((k : ℕ) × (v ≡ i + k) × FirstNear h (z ∷ zs) k)
@@ -85,7 +86,7 @@ module _ (s : List ℕ) where
   job-exactly n v = (to (readJob s) refl, back)
     where
       tests : (j : Job) (a : Answer (Unit {0})) → (a >>= λ _. accepted j) ≡ refused n v → a ≡ refused n v
-      tests j (accepted u) e = absurd (let w : _≡_ {A = ℕ} 0 1 = cc in omega arith)
+      tests j (accepted u) e = impossible cc
       tests j (refused m w) e = ap₂ refused (cc) (cc)
 
       to : (a : Answer Job) → readJob s ≡ a → (a >>= λ j. testHazards (j .header) 0 (j .hazards) >>= λ _. accepted j) ≡ refused n v → (readJob s ≡ refused n v) ⊎ ((n ≡ 5) × FirstNearOf s v)
@@ -125,7 +126,7 @@ refused-exactly s r b = rows r
     rows Ranges = reading Ranges (omega arith)
     rows (Name name) = reading (Name name) (omega arith)
     rows State = reading State (omega arith)
-    rows Refusal.Hazard = reading Refusal.Hazard (omega arith)
+    rows Row.Hazard = reading Row.Hazard (omega arith)
     rows Full = reading Full (omega arith)
     rows Lengths = reading Lengths (omega arith)
     rows Tries = reading Tries (omega arith)

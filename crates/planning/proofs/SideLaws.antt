@@ -2,7 +2,7 @@
 -- Assumes nothing.
 use Prim.Native.Nat.{ℕ}
 use native.Mathlib.Omega.{arith}
-use mathlib.Core.Path.{_≡_, refl, sym, ap, _∙_}
+use mathlib.Core.Path.{_≡_, refl, sym, _∙_}
 use mathlib.Core.List.{List}
 use Rattle.refusal.specs.Answer.{Answer, accepted, refused, _>>=_}
 use Rattle.refusal.specs.Refusal.{refusal, outcome}
@@ -10,7 +10,7 @@ use Rattle.refusal.specs.declared.Refusal.{Refusal}
 use Rattle.refusal.specs.declared.Outcome.{Outcome}
 use Rattle.refusal.specs.declared.Outcome.the-variants.{Done, Refused}
 use Rattle.job.specs.Job.{Job, readJob}
-use Rattle.job.proofs.JobLaws.{JobFits}
+use Rattle.job.specs.Fits.{JobFits}
 use Rattle.runs.specs.RunList.{envelopesOf}
 use Rattle.runs.specs.Stored.{StoredEnvelopes}
 use Rattle.runs.specs.Required.{requiredRuns}
@@ -21,6 +21,7 @@ use Rattle.planning.specs.Reply.{Cuts, cutsOf, testedEnvelopes, testedRu
 use Rattle.planning.specs.declared.accept.SideEnvelopes.{SideEnvelopes}
 use Rattle.planning.proofs.EnvelopeLaws.{tested-fit}
 use Rattle.planning.proofs.AcceptLaws.{Replies}
+use Rattle.refusal.proofs.TestLaws.{impossible}
 
 -- The runs of a tested job are those of its envelopes.
 runs-tested : (j : Job) (side : ℕ) → testedRuns j side ≡ (testedEnvelopes j side >>= λ c. accepted (requiredRuns (c .envelopes) (j .header .continuity)))
@@ -62,7 +63,7 @@ module _ (j : Job) (side : ℕ) (r : SideEnvelopes) (reply : Replies r (testedEn
     where
       go : (o : Outcome) → outcome o beside ≡ accepted c → o ≡ Done
       go Done p = refl
-      go (Refused x) p = absurd (let w : _≡_ {A = ℕ} 0 1 = cc in omega arith)
+      go (Refused x) p = impossible cc
 
   pub stored-envelopes : JobFits j → r .outcome ≡ Done → StoredEnvelopes (r .envelopes)
   stored-envelopes fits e =

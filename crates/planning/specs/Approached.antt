@@ -5,7 +5,9 @@ use mathlib.Core.Bool.{Bool}
 use mathlib.Core.List.{[]}
 use lib.ListN.{length, getD}
 use lib.Dec.{ltb}
-use Rattle.refusal.specs.Answer.{Answer, accepted, _>>=_, unless-refuse}
+use Rattle.refusal.specs.Answer.{Answer, accepted, _>>=_}
+use Rattle.refusal.specs.Refusal.{unless-refuse}
+use Rattle.refusal.specs.declared.Refusal.the-variants as Row
 use Rattle.job.specs.declared.Header.{Header}
 use Rattle.job.specs.declared.Hazard.{Hazard}
 use Rattle.job.specs.Job.{Job, hazardOf}
@@ -21,6 +23,6 @@ adjacentReaches h z = reaches h z (adjacentTraffic h (z .side))
 -- "14, no such hazard or adjacent traffic doesn't reach it." It returns 0.
 unfoldable pub approachedHazard : Job → (index : ℕ) → Answer Hazard
 approachedHazard j i =
-    unless-refuse (ltb i (length (j .hazards))) 14 0 >>= λ _.
-    unless-refuse (adjacentReaches (j .header) (hazardAt j i)) 14 0 >>= λ _.
+    unless-refuse (ltb i (length (j .hazards))) Row.Hazard >>= λ _.
+    unless-refuse (adjacentReaches (j .header) (hazardAt j i)) Row.Hazard >>= λ _.
     accepted (hazardAt j i)

@@ -4,17 +4,17 @@
 -- Assumes nothing.
 use Prim.Native.Nat.{ℕ, _+_, _-_}
 use mathlib.Core.Path.{_≡_}
-use mathlib.Core.Bool.{Bool, false, _&&_, _||_, not}
+use mathlib.Core.Bool.{Bool, false, _&&_, _||_}
 use mathlib.Core.List.{List, [], _∷_, List·Memᴰ}
 use lib.ListN.{length, getD, drop}
 use lib.Dec.{ltb, eqb}
 use Rattle.refusal.specs.Choice.{if_then_else_}
-use Rattle.refusal.specs.Answer.{Answer, accepted, _>>=_, unless-refuse}
+use Rattle.refusal.specs.Answer.{Answer, accepted, refused, _>>=_}
 use Rattle.number.specs.Number.{numberAt}
 use Rattle.approach.specs.Approach.{approachLength}
 use Rattle.job.specs.declared.Header.{Header}
 use Rattle.job.specs.declared.Hazard.{Hazard}
-use Rattle.job.specs.Job.{Job, Range, _to_, headerRanges, Fields, readFields, headerWith, readRest}
+use Rattle.job.specs.Job.{Job, Range, _to_, headerRanges, Fields, readFields, headerWith, readRest, outsideHeader}
 use Rattle.runs.specs.declared.Stretch.{Stretch}
 use Rattle.planning.specs.Envelope.{Traffic, forward, opposite, runout, reaches, reached, reachOf, offsetOf, lengthening, testHazard}
 
@@ -28,10 +28,10 @@ Lengthening = Header → Hazard → Traffic → ℕ
 unfoldable pub leavesRoad : Lengthening → Header → Hazard → Bool
 leavesRoad by h z = reached h z && (ltb (z .start) (h .begin + by h z forward) || ltb (h .end) (z .end + by h z opposite))
 
--- "Hazards in order, both sides, 5 before 6." Both return the hazard index.
+-- "Hazards in order, both sides, 5 before 6." Both return the hazard index. The table has no row 6 any more.
 unfoldable pub testHazardsBefore : Lengthening → Header → (index : ℕ) → List Hazard → Answer (Unit {0})
 testHazardsBefore by h i [] = accepted tt
-testHazardsBefore by h i (z ∷ zs) = testHazard h i z >>= λ _. unless-refuse (not (leavesRoad by h z)) 6 i >>= λ _. testHazardsBefore by h (i + 1) zs
+testHazardsBefore by h i (z ∷ zs) = testHazard h i z >>= λ _. if leavesRoad by h z then refused 6 i else testHazardsBefore by h (i + 1) zs
 
 unfoldable pub acceptBefore : Lengthening → Answer Job → Answer Job
 acceptBefore by read = read >>= λ j. testHazardsBefore by (j .header) 0 (j .hazards) >>= λ _. accepted j
@@ -60,7 +60,7 @@ abbrev pub nextBefore : (got : List ℕ) → Range
 nextBefore got = getD (1 to 1 ∷ drop 1 (headerRanges 1 (getD got 1 0))) (length got) (0 to 0)
 
 unfoldable pub readHeaderBefore : (s : List ℕ) → Answer Fields
-readHeaderBefore s = readFields nextBefore 3 (λ got. length got + 1) 14 [] s 0
+readHeaderBefore s = readFields nextBefore outsideHeader 14 [] s 0
 
 -- There was no panel length; 1 stands in its place, and nothing below looks at it.
 abbrev pub headerBefore : List ℕ → Header

@@ -6,7 +6,9 @@ use mathlib.Core.Bool.{Bool, true, _&&_, _||_, not}
 use mathlib.Core.List.{List, [], _∷_, map}
 use lib.Dec.{ltb, eqb}
 use Rattle.refusal.specs.Choice.{if_then_else_}
-use Rattle.refusal.specs.Answer.{Answer, accepted, _>>=_, unless-refuse}
+use Rattle.refusal.specs.Answer.{Answer, accepted, _>>=_}
+use Rattle.refusal.specs.Refusal.{unless-refuse}
+use Rattle.refusal.specs.declared.Refusal.the-variants as Row
 use Rattle.refusal.specs.Limits.{Limits, limits}
 use Rattle.approach.specs.Panel.{raisedLength, BelowRaised}
 use Rattle.job.specs.declared.Header.{Header}
@@ -141,7 +143,7 @@ standsNear h z = reached h z && ltb (z .near) (h .offset + h .deflection)
 
 -- It returns the hazard index.
 unfoldable pub testHazard : Header → (index : ℕ) → Hazard → Answer (Unit {0})
-testHazard h i z = unless-refuse (not (standsNear h z)) 5 i
+testHazard h i z = unless-refuse (not (standsNear h z)) (Row.NearBarrier i)
 
 -- "Hazards in order, both sides."
 unfoldable pub testHazards : Header → (index : ℕ) → List Hazard → Answer (Unit {0})

@@ -8,7 +8,7 @@ use lib.ListN.{length}
 use Rattle.refusal.specs.Answer.{accepted}
 use Rattle.refusal.specs.declared.Refusal.{Refusal}
 use Rattle.refusal.specs.declared.Refusal.the-variants.{Ended, Malformed, HeaderRange, HazardRange, NearBarrier, LeftOver, Argument, Room, Schedule, Ranges, Name, State, Full, Lengths, Tries}
-use Rattle.refusal.specs.declared.Refusal.the-variants as Refusal
+use Rattle.refusal.specs.declared.Refusal.the-variants as Row
 use Rattle.job.specs.declared.Header.{Header}
 use Rattle.job.specs.declared.Hazard.{Hazard}
 use Rattle.job.specs.Job.{Job, readJob}
@@ -52,7 +52,7 @@ JobRow Schedule s = ⊥
 JobRow Ranges s = ⊥
 JobRow (Name name) s = ⊥
 JobRow State s = ⊥
-JobRow Refusal.Hazard s = ⊥
+JobRow Row.Hazard s = ⊥
 JobRow Full s = ⊥
 JobRow Lengths s = ⊥
 JobRow Tries s = ⊥

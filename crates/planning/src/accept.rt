@@ -13,7 +13,7 @@ ghost use Prim.Native.Nat.{max};
 ghost use Rattle.refusal.specs.Stored.{acceptedOr};
 ghost use Rattle.refusal.specs.declared.Outcome.the-variants.{Refused};
 ghost use Rattle.job.specs.Job.{jobOf};
-ghost use Rattle.job.proofs.JobLaws.{JobFits};
+ghost use Rattle.job.specs.Fits.{JobFits};
 ghost use Rattle.planning.specs.Envelope.{greater};
 ghost use Rattle.planning.specs.Reply.{noCuts, testedEnvelopes, storedEnvelopes, storedCuts, sideAnswer};
 

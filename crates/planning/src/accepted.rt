@@ -11,7 +11,7 @@ ghost use Rattle.refusal.specs.Refusal.{outcome};
 ghost use Rattle.refusal.specs.Stored.{acceptedOr};
 ghost use Rattle.job.specs.Job.{jobOf, readJob};
 ghost use Rattle.job.specs.Reply.{noJob, storedJob, jobAnswer};
-ghost use Rattle.job.proofs.JobLaws.{JobFits};
+ghost use Rattle.job.specs.Fits.{JobFits};
 ghost use Rattle.planning.specs.Envelope.{testHazards, acceptJob};
 
 // Hazards in order: refusal 5 of the first that stands too near.

@@ -7,7 +7,7 @@ use refusal::Refusal;
 use runs::Stretch;
 ghost use mathlib.Core.Path.{_≡_};
 ghost use Prim.Native.Nat.{_+_, _-_, _≤_, _<_, min};
-ghost use Rattle.job.proofs.JobLaws.{HeaderFits, HazardFits};
+ghost use Rattle.job.specs.Fits.{HeaderFits, HazardFits};
 ghost use Rattle.planning.specs.Envelope.{adjacent, adjacentTraffic, runout, farther, lengthening, cutEnvelope, overhang};
 ghost use Rattle.planning.specs.Reply.{trafficOf, hazardAnswer, testedHazard};
 

@@ -2,7 +2,7 @@
 use job::Hazard;
 use job::Header;
 ghost use mathlib.Core.Path.{_≡_};
-ghost use Rattle.job.proofs.JobLaws.{HeaderFits, HazardFits};
+ghost use Rattle.job.specs.Fits.{HeaderFits, HazardFits};
 ghost use Rattle.planning.specs.Envelope.{standsNear};
 
 // A hazard that is reached, which it is if its near offset lies in the clear zone, and stands nearer than barrier offset and deflection allow.

@@ -7,7 +7,7 @@ ghost use mathlib.Core.Path.{_≡_};
 ghost use mathlib.Core.List.{[]};
 ghost use Rattle.refusal.specs.Stored.{acceptedOr};
 ghost use Rattle.job.specs.Job.{jobOf};
-ghost use Rattle.job.proofs.JobLaws.{JobFits};
+ghost use Rattle.job.specs.Fits.{JobFits};
 ghost use Rattle.runs.specs.Stored.{storedRuns};
 ghost use Rattle.planning.specs.Reply.{testedRuns, acceptedRuns, runsAnswer};
 

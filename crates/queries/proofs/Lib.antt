@@ -1,7 +1,9 @@
 pub mod WalkLaws
 pub mod StepLaws
+pub mod OverlapLaws
 pub mod QuantityLaws
 pub mod PlaceLaws
+pub mod SingleLaws
 pub mod RangeLaws
 pub mod QuantitiesLaws
 pub mod SumLaws

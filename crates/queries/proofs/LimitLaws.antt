@@ -1,13 +1,15 @@
 -- The queries before document 02's request 11: a schedule that was the writing of a run list under the earlier limits gives the same replies.
 -- Assumes nothing.
-use Prim.Native.Nat.{ℕ, _+_, _≤_}
+use Prim.Native.Nat.{ℕ, _+_}
 use native.Mathlib.Omega.{arith}
 use mathlib.Core.Path.{_≡_, refl, sym, ap, ap₂, _∙_}
 use mathlib.Core.List.{List, [], _∷_, List·Memᴰ·head, List·Memᴰ·tail}
 use lib.ListN.{length}
 use lib.Dec.{leb}
 use Rattle.refusal.specs.Choice.{if_then_else_}
-use Rattle.refusal.specs.Answer.{Answer, accepted, _>>=_, unless-refuse}
+use Rattle.refusal.specs.Answer.{Answer, accepted, _>>=_}
+use Rattle.refusal.specs.Refusal.{unless-refuse}
+use Rattle.refusal.specs.declared.Refusal.the-variants as Row
 use Rattle.refusal.specs.Limits.{earlier}
 use Rattle.refusal.proofs.LimitLaws.{limits-wider}
 use Rattle.number.specs.Number.{writeNumber}
@@ -54,4 +56,4 @@ module _ (w : List ℕ) (rs : List Stretch) (e : readScheduleBy earlier w ≡ ac
 
   pub lookup-before : (right left : List ℕ) (side t : ℕ) → asked side right left ≡ w → lookup right left side t ≡ lookupBy earlier right left side t
   unfolding lookupBy
-  lookup-before right left side t same = ap (λ (a : Answer Found). unless-refuse (leb side 1) 8 0 >>= λ _. a) (rw same (place-before t))
+  lookup-before right left side t same = ap (λ (a : Answer Found). unless-refuse (leb side 1) Row.Argument >>= λ _. a) (rw same (place-before t))

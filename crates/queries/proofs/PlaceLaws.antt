@@ -10,20 +10,24 @@ use lib.Dec.{leb, ltb, eqb}
 use borrow.Author.Tests.{le-leb, lt-leb, lt-ltb, le-ltb}
 use denote.Ref.{RefT, now}
 use Rattle.refusal.specs.Choice.{if_then_else_}
-use Rattle.refusal.specs.Answer.{Answer, accepted, refused, unless-refuse}
+use Rattle.refusal.specs.Answer.{Answer, accepted, refused}
+use Rattle.refusal.specs.Refusal.{unless-refuse}
+use Rattle.refusal.specs.declared.Refusal.the-variants as Row
 use Rattle.refusal.proofs.AnswerLaws.{bound}
 use Rattle.number.specs.Number.{Reading, writeNumber}
-use Rattle.number.proofs.NumberLaws.{Bytes, small-length}
+use Rattle.number.proofs.ByteLaws.{Bytes}
+use Rattle.number.proofs.WriteLaws.{small-length}
 use Rattle.runs.specs.declared.Stretch.{Stretch}
 use Rattle.runs.proofs.RunLaws.{Rising}
-use Rattle.schedule.specs.Schedule.{writeRecordBy, writeRecord, writeRecordsBy, writeRecords, writeScheduleBy, readSchedule}
-use Rattle.queries.specs.Walk.{headAt, Passed, recordAt, walkRecords}
+use Rattle.schedule.specs.Schedule.{writeRecordBy, writeRecord, writeRecordsBy, writeRecords, writeScheduleBy, ReadRun, readSchedule}
+use Rattle.queries.specs.Walk.{headAt, recordAt}
 use Rattle.queries.specs.Lookup.{Part, Found, found, nowhere, findRecordBy, findRecord, placeInBy, placeIn, asked, lookupBy, lookup, partOf}
 use Rattle.queries.specs.Place.{IsPart, between}
 use Rattle.queries.specs.Query.{soFar, orLater}
-use Rattle.schedule.proofs.ScheduleLaws.{schedule-read}
+use Rattle.schedule.proofs.ScheduleLaws.{or-ten, record-stands, schedule-read}
 use Rattle.queries.proofs.QuantityLaws.{read-rising}
-use Rattle.queries.proofs.StepLaws.{thenRuns, walk-start, walk-passed, record-read, record-length, head-length}
+use Rattle.queries.proofs.StepLaws.{Rest, walk-start, head-length, record-follows, walk-passed, walk-over}
+use Rattle.refusal.proofs.TestLaws.{impossible}
 
 pub so-far : (from to reached t : ℕ) → t < reached → soFar from to reached t ≡ found (between from to)
 so-far from to reached t h = rw (lt-ltb t reached h)
@@ -35,36 +39,28 @@ so-far-none from to reached t h = rw (le-ltb t reached h)
 abbrev pub finding : (from to reached e at t : ℕ) → List Stretch → Found
 finding from to reached e at t rs = orLater (soFar from to reached t) (findRecord e at rs t)
 
--- Behind the last run: what was found.
-pub finding-over : (from to reached e at t : ℕ) → finding from to reached e at t [] ≡ soFar from to reached t
-unfolding findRecordBy
-finding-over from to reached e at t = go (soFar from to reached t)
-  where
-    go : (f : Found) → orLater f nowhere ≡ f
-    go (found p) = refl
-    go nowhere = refl
+-- Between two records, where the record is among all runs is what was found so far, or what the runs from here on have.
+abbrev pub Sought : (s : List ℕ) (t from to reached k e v at : ℕ) → Type 0
+Sought s t from to reached k e v at = Rest s (λ rs. findRecord 0 (length (writeNumber (length rs))) rs t) k e v at (finding from to reached e at t)
 
-pub place-start : (s : List ℕ) (t : ℕ) (n : Reading) → Bytes s → headAt s ≡ accepted n → placeIn s t ≡ thenRuns (walkRecords (n .value) 0 0 s (n .next)) (finding 0 0 0 0 (n .next) t)
-unfolding placeInBy
+pub place-start : (s : List ℕ) (t : ℕ) (n : Reading) → Bytes s → headAt s ≡ accepted n → Sought s t 0 0 0 (n .value) 0 0 (n .next)
 place-start s t n b h =
-    walk-start (λ rs. findRecord 0 (length (writeNumber (length rs))) rs t) (finding 0 0 0 0 (n .next) t) s n h
-    (λ rs e. rw (so-far-none 0 0 0 t (omega arith)) (ap (λ (i : ℕ). findRecord 0 i rs t) (head-length s n rs b h e)))
+    walk-start s n h (λ rs. findRecord 0 (length (writeNumber (length rs))) rs t) (finding 0 0 0 0 (n .next) t)
+    (λ rs e. rw (so-far-none 0 0 0 t (omega arith)) (ap (λ (i : ℕ). findRecord 0 i rs t) (head-length s n h rs b e)))
 
 -- A turn of the walk: a run that starts behind the station does not have it, nor does any that ended before this one starts.
-module _ (t from to reached k e v : ℕ) (s : List ℕ) (at : ℕ) (p : Passed) (b : Bytes s) (some : 0 < k) (r : recordAt e v s at ≡ accepted p) where
+module _ (s : List ℕ) (t from to reached k e v at : ℕ) (p : ReadRun) (b : Bytes s) (some : 0 < k) (r : recordAt e v s at ≡ accepted p) (w : Sought s t from to reached k e v at) where
   abbrev pub Turn : (from′ to′ reached′ : ℕ) → Type 0
-  Turn from′ to′ reached′ =
-      thenRuns (walkRecords k e v s at) (finding from to reached e at t)
-      ≡ thenRuns (walkRecords (k - 1) (p .run .end) (p .run .level) s (p .next)) (finding from′ to′ reached′ (p .run .end) (p .next) t)
+  Turn from′ to′ reached′ = Sought s t from′ to′ reached′ (k - 1) (p .run .end) (p .run .level) (p .next)
 
-  size : (p .next ≡ at + length (writeRecord e (p .run))) × (at < p .next)
-  size = record-length e v s at p b (record-read e v s at p r)
+  next : p .next ≡ at + length (writeRecord e (p .run))
+  next = record-stands s b e v at p (or-ten _ p r) .next
 
   turned : (from′ to′ reached′ : ℕ)
       → ((rs : List Stretch) → finding from to reached e at t (p .run ∷ rs) ≡ orLater (soFar from′ to′ reached′ t) (findRecord (p .run .end) (at + length (writeRecord e (p .run))) rs t))
       → Turn from′ to′ reached′
-  turned from′ to′ reached′ same = walk-passed (finding from to reached e at t) (finding from′ to′ reached′ (p .run .end) (p .next) t) k e v s at p some r
-      (λ rs. same rs ∙ ap (λ (i : ℕ). orLater (soFar from′ to′ reached′ t) (findRecord (p .run .end) i rs t)) (sym (size .0)))
+  turned from′ to′ reached′ same = walk-passed w p (finding from′ to′ reached′ (p .run .end) (p .next) t) some r
+      (λ rs. same rs ∙ ap (λ (i : ℕ). orLater (soFar from′ to′ reached′ t) (findRecord (p .run .end) i rs t)) (sym next))
 
   pub passed-by : t < p .run .start → Turn from to reached
   unfolding findRecordBy
@@ -73,8 +69,8 @@ module _ (t from to reached k e v : ℕ) (s : List ℕ) (at : ℕ) (p : Passed) 
   pub passed-here : reached ≤ e → p .run .start ≤ t → Turn at (p .next) (p .run .end)
   unfolding findRecordBy
   passed-here before h =
-      let none = so-far-none from to reached t (omega (arith, record-read e v s at p r .next-run .after)) in
-      let long : p .next - at ≡ length (writeRecord e (p .run)) = omega (arith, size .0) in
+      let none = so-far-none from to reached t (omega (arith, record-follows e v s at p r .after)) in
+      let long : p .next - at ≡ length (writeRecord e (p .run)) = omega (arith, next) in
       turned at (p .next) (p .run .end) (λ rs. rw (none, le-leb (p .run .start) t h, long) (go rs (ltb t (p .run .end))))
     where
       go : (rs : List Stretch) (c : Bool) → let n = length (writeRecord e (p .run)) in let rest = findRecord (p .run .end) (at + n) rs t in
@@ -82,15 +78,20 @@ module _ (t from to reached k e v : ℕ) (s : List ℕ) (at : ℕ) (p : Passed) 
       go rs true = refl
       go rs false = refl
 
+-- Behind the last record: what was found.
+pub place-over : (s : List ℕ) (t from to reached k e v at : ℕ) → Sought s t from to reached k e v at → k ≡ 0 → at ≡ length s → accepted (soFar from to reached t) ≡ placeIn s t
+unfolding placeInBy findRecordBy
+place-over s t from to reached k e v at w none over = go (soFar from to reached t) ∙ walk-over w none over
+  where
+    go : (f : Found) → accepted f ≡ accepted (orLater f nowhere)
+    go (found p) = refl
+    go nowhere = refl
+
 -- By side
 module _ (right left : List ℕ) (side t : ℕ) where
-  pub lookup-right : side ≡ 0 → lookup right left side t ≡ placeIn right t
+  pub lookup-side : side ≤ 1 → (s : List ℕ) → asked side right left ≡ s → lookup right left side t ≡ placeIn s t
   unfolding lookupBy
-  lookup-right e = rw e
-
-  pub lookup-left : side ≡ 1 → lookup right left side t ≡ placeIn left t
-  unfolding lookupBy
-  lookup-left e = rw e
+  lookup-side h s e = rw (le-leb side 1 h, e)
 
   pub lookup-argument : 1 < side → lookup right left side t ≡ refused 8 0
   unfolding lookupBy
@@ -106,7 +107,7 @@ pub record Within (i n : ℕ) (p : Part) : Type 0 where
 
 find-within : (e v i : ℕ) (rs : List Stretch) (t : ℕ) (p : Part) → Rising e v rs → findRecord e i rs t ≡ found p → Within i (i + length (writeRecords e rs)) p
 unfolding findRecordBy writeRecordsBy writeRecordBy
-find-within e v i [] t p up q = let z : _≡_ {A = ℕ} 0 1 = cc in absurd (omega arith)
+find-within e v i [] t p up q = impossible cc
 find-within e v i (r ∷ rs) t p up q = go (leb (r .start) t && ltb t (r .end)) q (find-within (r .end) (r .level) (i + length (writeRecord e r)) rs t p (up .1))
   where
     all : length (writeRecord e r ++ writeRecords (r .end) rs) ≡ length (writeRecord e r) + length (writeRecords (r .end) rs)
@@ -130,13 +131,13 @@ place-within s t p b e =
     let rs = f .first in
     let w = schedule-read s rs b (f .taken) in
     let is : findRecord 0 (length (writeNumber (length rs))) rs t ≡ found p = cc in
-    let i = find-within 0 0 (length (writeNumber (length rs))) rs t p (read-rising s rs b (f .taken)) is in
+    let i = find-within 0 0 (length (writeNumber (length rs))) rs t p (read-rising s rs (f .taken)) is in
     record { some = i .some; after = omega arith; ends = omega (arith, i .ends, ap length (w .1), length-append (writeNumber (length rs)) (writeRecords 0 rs)) }
 
 -- The place that lookup finds is within the schedule of the side asked for.
 pub lookup-within : (right left : List ℕ) (side t : ℕ) (p : Part) → Bytes right → Bytes left → lookup right left side t ≡ accepted (found p) → Within 0 (length (asked side right left)) p
 unfolding lookupBy
-lookup-within right left side t p br bl e = place-within (asked side right left) t p (go (eqb side 1)) (bound (unless-refuse (leb side 1) 8 0) _ (found p) e .rest)
+lookup-within right left side t p br bl e = place-within (asked side right left) t p (go (eqb side 1)) (bound (unless-refuse (leb side 1) Row.Argument) _ (found p) e .rest)
   where
     go : (b : Bool) → Bytes (if b then left else right)
     go true = bl

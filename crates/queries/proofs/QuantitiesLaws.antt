@@ -4,18 +4,18 @@ use Prim.Native.Nat.{ℕ, zero, suc, _≤_, _<_}
 use native.Mathlib.Omega.{arith}
 use mathlib.Core.Path.{_≡_, refl, ap, _∙_}
 use mathlib.Core.Logic.{_↔_}
-use mathlib.Core.Bool.{Bool, true, false, _&&_}
+use mathlib.Core.Bool.{true, _&&_}
 use mathlib.Core.List.{List, [], _∷_, map}
 use lib.ListN.{length, getD}
 use lib.Dec.{leb}
-use borrow.Author.Tests.{le-leb, lt-leb, leb-true}
-use Rattle.refusal.specs.Answer.{accepted, refused, _>>=_, unless-refuse}
-use Rattle.refusal.proofs.TestLaws.{and-left, and-right, and-intro}
+use borrow.Author.Tests.{le-leb, lt-leb}
+use Rattle.refusal.specs.Answer.{accepted, refused}
 use Rattle.runs.specs.declared.Stretch.{Stretch}
 use Rattle.runs.specs.RunList.{shownLevel}
 use Rattle.schedule.specs.Schedule.{readSchedule}
 use Rattle.queries.specs.Quantity.{millimetres}
 use Rattle.queries.specs.Ranges.{Range, rangesOf, areRanges, mostRanges, Counted, quantitiesBy, quantities}
+use Rattle.queries.proofs.QuantityLaws.{level-tested, argument-refused}
 use Rattle.queries.proofs.RangeLaws.{rangeAt, ranges-at, WholeRanges, whole-ranges}
 
 -- The quantity of one range in runs.
@@ -39,11 +39,7 @@ abbrev pub AllRanged : (level : ℕ) (numbers : List ℕ) → Type 0
 AllRanged level numbers = (1 ≤ level) × (level ≤ 6) × WholeRanges numbers
 
 pub all-ranged : (v : ℕ) (l : List ℕ) → ((leb 1 v && leb v 6 && areRanges l) ≡ true) ↔ AllRanged v l
-all-ranged v l = (
-  λ t. let first = and-left (leb 1 v && leb v 6) (areRanges l) t in
-      (leb-true 1 v (and-left (leb 1 v) (leb v 6) first), leb-true v 6 (and-right (leb 1 v) (leb v 6) first), whole-ranges l .0 (and-right (leb 1 v && leb v 6) (areRanges l) t)),
-  λ h. and-intro (and-intro (le-leb 1 v (h .0)) (le-leb v 6 (h .1))) (whole-ranges l .1 (h .2)),
-)
+all-ranged v l = level-tested v (areRanges l) (whole-ranges l)
 
 -- What the call comes to
 
@@ -56,12 +52,7 @@ module _ (s : List ℕ) (v : ℕ) (l : List ℕ) where
 
   pub quantities-argument : (AllRanged v l → ⊥) → quantities s v l ≡ refused 8 0
   unfolding quantitiesBy
-  quantities-argument n = go (leb 1 v && leb v 6 && areRanges l) refl
-    where
-      go : (b : Bool) → (leb 1 v && leb v 6 && areRanges l) ≡ b → (unless-refuse b 8 0 >>= λ _. unless-refuse (leb (length (rangesOf l)) mostRanges) 11 0 >>= λ _. readSchedule s >>= λ rs.
-          accepted (counted rs v (rangesOf l))) ≡ refused 8 0
-      go true e = absurd (n (all-ranged v l .0 e))
-      go false e = refl
+  quantities-argument n = argument-refused (leb 1 v && leb v 6 && areRanges l) _ (all-ranged v l .0) n
 
   pub quantities-many : AllRanged v l → mostRanges < length (rangesOf l) → quantities s v l ≡ refused 11 0
   unfolding quantitiesBy

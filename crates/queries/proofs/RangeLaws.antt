@@ -12,7 +12,7 @@ use lib.Seq.{drop-cons, getD-append-add}
 use lib.Dec.{leb}
 use borrow.Author.Tests.{le-leb, lt-leb, leb-true}
 use Rattle.refusal.proofs.TestLaws.{and-left, and-right, and-intro}
-use Rattle.runs.proofs.SweptLaws.{zeros}
+use Rattle.runs.proofs.IndexLaws.{zeros}
 use Rattle.queries.specs.Ranges.{Range, rangesOf, areRanges, mostRanges, placesOf}
 
 -- One after the other

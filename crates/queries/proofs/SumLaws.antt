@@ -3,26 +3,26 @@
 use Prim.Native.Nat.{ℕ, _+_, _-_, _*_, _/_, _≤_, _<_}
 use native.Mathlib.Omega.{arith}
 use native.Mathlib.Decide.{decLt, ℕ-discrete}
-use mathlib.Core.Path.{_≡_, refl, sym, ap, ap₂, _∙_}
+use mathlib.Core.Path.{_≡_, refl, sym, ap, _∙_}
 use mathlib.Core.List.{List, map}
 use lib.ListN.{length, getD, set, replicate, length-map}
 use lib.Seq.{ext-getD, getD-set-same, getD-set-other}
 use borrow.Author.Tests.{eq-eqb, ne-eqb}
-use Rattle.refusal.specs.Answer.{Answer, accepted, refused, _>>=_}
+use Rattle.refusal.specs.Answer.{Answer, accepted, refused}
+use Rattle.refusal.proofs.TestLaws.{impossible}
 use Rattle.number.specs.Number.{Reading}
-use Rattle.number.proofs.NumberLaws.{Bytes}
 use Rattle.runs.specs.declared.Stretch.{Stretch}
 use Rattle.runs.specs.RunList.{lastStation}
 use Rattle.runs.proofs.RunLaws.{Next}
-use Rattle.runs.proofs.SweptLaws.{zeros}
-use Rattle.schedule.specs.Schedule.{readSchedule}
-use Rattle.queries.specs.Walk.{Passed, headAt, recordAt, walkRecords, overlap, overlapAt, overlaps, overlapSum}
+use Rattle.runs.proofs.IndexLaws.{zeros}
+use Rattle.schedule.specs.Schedule.{ReadRun, readSchedule}
+use Rattle.queries.specs.Walk.{headAt, recordAt, overlap, overlapAt, overlaps, overlapSum}
 use Rattle.queries.specs.Ranges.{mostRanges, rangesOf, quantities, placesOf, replied}
 use Rattle.queries.specs.Sums.{Sums, Grown, runCount, Tallied}
 use Rattle.queries.specs.declared.quantities.Tally.the-variants as Tally
-use Rattle.queries.proofs.StepLaws.{thenRuns, walk-passed, walk-start, head-refused, walk-refused, walk-over, walk-left-over}
-use Rattle.queries.proofs.QuantityLaws.{millimetres-overlaps}
-use Rattle.queries.proofs.QuantityLaws.{sum-turn, overlap-most, read-rising}
+use Rattle.queries.proofs.StepLaws.{thenRuns, runs-refused, Rest, head-refused, walk-start, record-follows, walk-passed, walk-refused, walk-over, walk-left-over}
+use Rattle.queries.proofs.OverlapLaws.{millimetres-overlaps, overlap-most, Summed, summed-start, summed-turn, summed-over}
+use Rattle.queries.proofs.QuantityLaws.{read-rising}
 use Rattle.queries.proofs.RangeLaws.{rangeAt, ranges-count, places-count, places-in, places-behind}
 use Rattle.queries.proofs.QuantitiesLaws.{AllRanged, priced, priced-at, quantities-none, quantities-accepted}
 
@@ -60,35 +60,32 @@ sums-none numbers h = record { few = h; places = refl; fit = λ i. omega (arith,
 
 -- What a walk knows between two records: the sums are at most the last run's end, those behind the ranges are 0, and the answers are what was
 -- found so far and what the rest of the walk finds.
-pub record Between (s : List ℕ) (level : ℕ) (numbers sums : List ℕ) (count records at end last : ℕ) : Type 0 where
+pub record Tallying (s : List ℕ) (level : ℕ) (numbers sums : List ℕ) (count records at end last : ℕ) : Type 0 where
   pub kept : Sums numbers sums end
   pub ends : end ≤ lastStation
   pub behind : (i : ℕ) → length numbers / 2 ≤ i → getD sums i 0 ≡ 0
   pub within : records ≤ count
-  pub counts : runCount s ≡ thenRuns (walkRecords (count - records) end last s at) (λ rs. records + length rs)
-  pub ranges : (i : ℕ) → i < length numbers / 2
-      → let p = getD numbers (2 * i) 0 in let q = getD numbers (2 * i + 1) 0 in
-      overlapSum s level p q ≡ thenRuns (walkRecords (count - records) end last s at) (λ rs. getD sums i 0 + overlaps rs level p q)
+  pub counts : Rest s (λ rs. length rs) (count - records) end last at (λ rs. records + length rs)
+  pub ranges : (i : ℕ) → i < length numbers / 2 → Summed s level (getD numbers (2 * i) 0) (getD numbers (2 * i + 1) 0) (getD sums i 0) (count - records) end last at
 
-pub between-start : (s : List ℕ) (level : ℕ) (numbers sums : List ℕ) (n : Reading) → headAt s ≡ accepted n → Sums numbers sums 0
-    → Between s level numbers sums (n .value) 0 (n .next) 0 0
-unfolding runCount overlapSum
-between-start s level numbers sums n h z =
+pub tallying-start : (s : List ℕ) (level : ℕ) (numbers sums : List ℕ) (n : Reading) → headAt s ≡ accepted n → Sums numbers sums 0
+    → Tallying s level numbers sums (n .value) 0 (n .next) 0 0
+tallying-start s level numbers sums n h z =
     let all : n .value - 0 ≡ n .value = omega arith in
     record {
       kept = z;
       ends = omega arith;
       behind = λ i w. omega (arith, z .fit i);
       within = omega arith;
-      counts = rw all (walk-start (λ rs. length rs) (λ rs. 0 + length rs) s n h (λ rs e. omega arith));
-      ranges = λ i w. rw all (walk-start (λ rs. overlaps rs level _ _) (λ rs. getD sums i 0 + overlaps rs level _ _) s n h (λ rs e. omega (arith, z .fit i)));
+      counts = rw all (walk-start s n h (λ rs. length rs) (λ rs. 0 + length rs) (λ rs e. omega arith));
+      ranges = λ i w. rw all (summed-start s level _ _ (getD sums i 0) n (omega (arith, z .fit i)) h);
     }
 
-pub between-turn : (s : List ℕ) (level : ℕ) (numbers sums sums′ : List ℕ) (count records at end last : ℕ) (p : Passed)
-    → records < count → recordAt end last s at ≡ accepted p → Next end last (p .run) → Grown numbers (overlapAt (p .run) level) sums sums′
-    → Between s level numbers sums count records at end last
-    → Between s level numbers sums′ count (records + 1) (p .next) (p .run .end) (p .run .level)
-between-turn s level numbers sums sums′ count records at end last p some read next grown b =
+pub tallying-turn : (s : List ℕ) (level : ℕ) (numbers sums sums′ : List ℕ) (count records at end last : ℕ) (p : ReadRun)
+    → records < count → recordAt end last s at ≡ accepted p → Grown numbers (overlapAt (p .run) level) sums sums′
+    → Tallying s level numbers sums count records at end last
+    → Tallying s level numbers sums′ count (records + 1) (p .next) (p .run .end) (p .run .level)
+tallying-turn s level numbers sums sums′ count records at end last p some read grown b =
     let one-less : count - (records + 1) ≡ count - records - 1 = omega arith in
     let more : 0 < count - records = omega arith in
     record {
@@ -100,10 +97,13 @@ between-turn s level numbers sums sums′ count records at end last p some read 
       ends = next .ends;
       behind = λ i h. grown .behind i h ∙ b .behind i h;
       within = omega arith;
-      counts = b .counts ∙ rw one-less (walk-passed (λ rs. records + length rs) (λ rs. records + 1 + length rs) (count - records) end last s at p more read (λ rs. omega arith));
-      ranges = λ i h. b .ranges i h ∙ rw one-less (sum-turn level _ _ (getD sums i 0) (getD sums′ i 0) (count - records) end last s at p more read (grown .ranges i h));
+      counts = rw one-less (walk-passed (b .counts) p (λ rs. records + 1 + length rs) more read (λ rs. omega arith));
+      ranges = λ i h. rw one-less (summed-turn s level _ _ (getD sums i 0) (getD sums′ i 0) p (b .ranges i h) more read (grown .ranges i h));
     }
   where
+    next : Next end last (p .run)
+    next = record-follows end last s at p read
+
     fits : (i : ℕ) → Dec (i < length numbers / 2) → getD sums′ i 0 ≤ p .run .end
     fits i (yes h) = omega (arith, grown .ranges i h, b .kept .fit i, overlap-most end last (p .run) next level (getD numbers (2 * i) 0) (getD numbers (2 * i + 1) 0))
     fits i (no h) = omega (arith, grown .behind i (omega arith), b .kept .fit i, next .after, next .long)
@@ -117,44 +117,32 @@ tallied-bad s level numbers sums most e z behind = record { count = rw e; places
 pub tallied-head : (s : List ℕ) (level : ℕ) (numbers sums : List ℕ) → headAt s ≡ refused 10 0 → Sums numbers sums 0 → Tallied s level numbers sums Tally.Bad
 tallied-head s level numbers sums e z = tallied-bad s level numbers sums 0 (head-refused s e) z (λ i h. omega (arith, z .fit i))
 
-module _ (s : List ℕ) (level : ℕ) (numbers sums : List ℕ) (count records at end last : ℕ) (b : Between s level numbers sums count records at end last) where
+module _ (s : List ℕ) (level : ℕ) (numbers sums : List ℕ) (count records at end last : ℕ) (b : Tallying s level numbers sums count records at end last) where
   -- What is left of a walk is refused, so the schedule is.
-  rest-refused : walkRecords (count - records) end last s at ≡ refused 10 0 → Tallied s level numbers sums Tally.Bad
-  unfolding runCount
-  rest-refused e = tallied-bad s level numbers sums end (go (readSchedule s) refl (rw e at (b .counts))) (b .kept) (b .behind)
-    where
-      go : (a : Answer (List Stretch)) → readSchedule s ≡ a → thenRuns a (λ rs. length rs) ≡ refused 10 0 → readSchedule s ≡ refused 10 0
-      go (accepted rs) p q = let z : _≡_ {A = ℕ} 0 1 = cc in absurd (omega arith)
-      go (refused x y) p q = let k : x ≡ 10 = cc in let v : y ≡ 0 = cc in p ∙ ap₂ refused k v
+  rest-refused : refused 10 0 ≡ thenRuns (readSchedule s) (λ rs. length rs) → Tallied s level numbers sums Tally.Bad
+  rest-refused e = tallied-bad s level numbers sums end (runs-refused (readSchedule s) (λ rs. length rs) 10 0 (sym e)) (b .kept) (b .behind)
 
   pub tallied-record : records < count → recordAt end last s at ≡ refused 10 0 → Tallied s level numbers sums Tally.Bad
-  tallied-record some e = rest-refused (walk-refused (count - records) end last s at (omega arith) e)
+  tallied-record some e = rest-refused (walk-refused (b .counts) (omega arith) e)
 
   pub tallied-left-over : count ≤ records → (at ≡ length s → ⊥) → Tallied s level numbers sums Tally.Bad
-  tallied-left-over all n = let none : count - records ≡ 0 = omega arith in rest-refused (rw none (walk-left-over end last s at n))
+  tallied-left-over all n = rest-refused (walk-left-over (b .counts) (omega arith) n)
 
   pub tallied-over : count ≤ records → at ≡ length s → Tallied s level numbers sums (Tally.Over records)
-  unfolding overlaps
-  tallied-over all over =
-      let none : count - records ≡ 0 = omega arith in
-      let walked = walk-over end last s at over in
-      record {
-        count = sym (b .counts ∙ rw (none, walked) (ap accepted (omega arith)));
-        places = b .kept .places;
-        ranges = λ i h. sym (b .ranges i h ∙ rw (none, walked) (ap accepted (omega arith)));
-        behind = b .behind;
-      }
+  unfolding runCount
+  tallied-over all over = record {
+    count = ap accepted (let e : records ≡ records + 0 = omega arith in e) ∙ walk-over (b .counts) (omega arith) over;
+    places = b .kept .places;
+    ranges = λ i h. summed-over s level _ _ (b .ranges i h) (omega arith) over;
+    behind = b .behind;
+  }
 
 -- The sums are the quantities
 
-module _ (s : List ℕ) (v : ℕ) (l sums : List ℕ) (b : Bytes s) (a : AllRanged v l) (few : length (rangesOf l) ≤ mostRanges) where
+module _ (s : List ℕ) (v : ℕ) (l sums : List ℕ) (a : AllRanged v l) (few : length (rangesOf l) ≤ mostRanges) where
   pub quantities-bad : Tallied s v l sums Tally.Bad → replied (quantities s v l) ≡ replied (refused 10 0)
   unfolding runCount
-  quantities-bad w = ap replied (go (readSchedule s) refl (w .count))
-    where
-      go : (r : Answer (List Stretch)) → readSchedule s ≡ r → refused 10 0 ≡ (r >>= λ rs. accepted (length rs)) → quantities s v l ≡ refused 10 0
-      go (accepted rs) e q = let z : _≡_ {A = ℕ} 0 1 = cc in absurd (omega arith)
-      go (refused x y) e q = let k : x ≡ 10 = cc in let z : y ≡ 0 = cc in quantities-none s v l a few (e ∙ ap₂ refused k z)
+  quantities-bad w = ap replied (quantities-none s v l a few (runs-refused (readSchedule s) (λ rs. length rs) 10 0 (sym (w .count))))
 
   sums-priced : (rs : List Stretch) → readSchedule s ≡ accepted rs → (n : ℕ) → Tallied s v l sums (Tally.Over n) → sums ≡ placesOf (map (priced rs v) (rangesOf l))
   unfolding overlapSum
@@ -170,7 +158,7 @@ module _ (s : List ℕ) (v : ℕ) (l sums : List ℕ) (b : Bytes s) (a : AllRang
       sum-at i h =
           let q = rw e at (w .ranges i (omega (arith, ranges-count l))) in
           let same : getD sums i 0 ≡ overlaps rs v (rangeAt l i .p) (rangeAt l i .q) = cc in
-          same ∙ sym (millimetres-overlaps rs (read-rising s rs b e) v (rangeAt l i .p) (rangeAt l i .q) (a .0) (a .2 .ordered i h))
+          same ∙ sym (millimetres-overlaps rs (read-rising s rs e) v (rangeAt l i .p) (rangeAt l i .q) (a .0) (a .2 .ordered i h))
 
       at : (i : ℕ) → Dec (i < length (rangesOf l)) → getD sums i 0 ≡ getD (placesOf got) i 0
       at i (yes h) = sum-at i h ∙ sym (places-in got i (omega (arith, got-length)) ∙ priced-at (priced rs v) l i h)
@@ -180,8 +168,8 @@ module _ (s : List ℕ) (v : ℕ) (l sums : List ℕ) (b : Bytes s) (a : AllRang
   unfolding runCount replied
   quantities-over n w = go (readSchedule s) refl (w .count)
     where
-      go : (r : Answer (List Stretch)) → readSchedule s ≡ r → accepted n ≡ (r >>= λ rs. accepted (length rs)) → replied (quantities s v l) ≡ record { answer = accepted tt; records = n; places = sums }
+      go : (r : Answer (List Stretch)) → readSchedule s ≡ r → accepted n ≡ thenRuns r (λ rs. length rs) → replied (quantities s v l) ≡ record { answer = accepted tt; records = n; places = sums }
       go (accepted rs) e q =
           let same : n ≡ length rs = cc in
           ap replied (quantities-accepted s v l a few rs e) ∙ rw (same, sums-priced rs e n w)
-      go (refused x y) e q = let z : _≡_ {A = ℕ} 0 1 = cc in absurd (omega arith)
+      go (refused x y) e q = impossible cc

@@ -6,8 +6,9 @@ use mathlib.Core.List.{List, [], _∷_, _++_, List·Memᴰ}
 use lib.ListN.{length, drop, take}
 use lib.Dec.{leb, eqb}
 use Rattle.refusal.specs.Choice.{if_then_else_}
-use Rattle.refusal.specs.Answer.{Answer, accepted, refused, _>>=_, unless-refuse}
-use Rattle.refusal.specs.Refusal.{refusal}
+use Rattle.refusal.specs.Answer.{Answer, accepted, refused, _>>=_}
+use Rattle.refusal.specs.Refusal.{unless-refuse, refusal}
+use Rattle.refusal.specs.declared.Refusal.the-variants as Row
 use Rattle.refusal.specs.Limits.{Limits, limits}
 use Rattle.number.specs.Number.{writeNumberBy}
 use Rattle.runs.specs.declared.Stretch.{Stretch}
@@ -51,7 +52,7 @@ asked side right left = if eqb side 1 then left else right
 -- Where the record is, in the schedule of the side asked for: "8, then 10, of the asked side's schedule".
 unfoldable pub lookupBy : Limits → (right left : List ℕ) (side t : ℕ) → Answer Found
 lookupBy L right left side t =
-    unless-refuse (leb side 1) 8 0 >>= λ _.
+    unless-refuse (leb side 1) Row.Argument >>= λ _.
     placeInBy L (asked side right left) t
 
 abbrev pub lookup : (right left : List ℕ) (side t : ℕ) → Answer Found

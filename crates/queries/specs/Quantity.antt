@@ -4,8 +4,9 @@ use Prim.Native.Nat.{ℕ, _-_}
 use mathlib.Core.Bool.{_&&_}
 use mathlib.Core.List.{List}
 use lib.Dec.{leb, eqb}
-use Rattle.refusal.specs.Answer.{Answer, accepted, _>>=_, unless-refuse}
-use Rattle.refusal.specs.Refusal.{refusal}
+use Rattle.refusal.specs.Answer.{Answer, accepted, _>>=_}
+use Rattle.refusal.specs.Refusal.{unless-refuse, refusal}
+use Rattle.refusal.specs.declared.Refusal.the-variants as Row
 use Rattle.refusal.specs.Limits.{Limits, limits}
 use Rattle.runs.specs.RunList.{shownLevel}
 use Rattle.runs.specs.Count.{countFrom}
@@ -20,7 +21,7 @@ millimetres f level p q = countFrom (λ (t : ℕ). eqb (f t) level) p (q - p)
 -- "8, then 10."
 unfoldable pub quantityBy : Limits → (s : List ℕ) (level p q : ℕ) → Answer ℕ
 quantityBy L s level p q =
-    unless-refuse (leb 1 level && leb level 6 && leb p q) 8 0 >>= λ _.
+    unless-refuse (leb 1 level && leb level 6 && leb p q) Row.Argument >>= λ _.
     readScheduleBy L s >>= λ rs.
     accepted (millimetres (shownLevel rs) level p q)
 

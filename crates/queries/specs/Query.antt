@@ -3,7 +3,9 @@
 use Prim.Native.Nat.{ℕ}
 use lib.Dec.{ltb}
 use Rattle.refusal.specs.Choice.{if_then_else_}
-use Rattle.refusal.specs.Answer.{Answer, accepted, refused}
+use Rattle.refusal.specs.Answer.{Answer, accepted}
+use Rattle.refusal.specs.Refusal.{refusal}
+use Rattle.refusal.specs.declared.Refusal.the-variants as Row
 use Rattle.queries.specs.Lookup.{Found, found, nowhere}
 use Rattle.queries.specs.Place.{between}
 use Rattle.queries.specs.declared.query.Walked.{Walked}
@@ -11,7 +13,7 @@ use Rattle.queries.specs.declared.query.Walked.the-variants as Walked
 
 abbrev pub sumReply : Walked → Answer ℕ
 sumReply (Walked.Over sum from to reached) = accepted sum
-sumReply Walked.Bad = refused 10 0
+sumReply Walked.Bad = refusal Row.Schedule
 
 -- The place found so far in a walk: that of the last record which starts at t or before it, where its run reaches beyond t; and then
 -- what is found behind it.
@@ -24,4 +26,4 @@ orLater nowhere later = later
 
 abbrev pub placeReply : (t : ℕ) → Walked → Answer Found
 placeReply t (Walked.Over sum from to reached) = accepted (soFar from to reached t)
-placeReply t Walked.Bad = refused 10 0
+placeReply t Walked.Bad = refusal Row.Schedule

@@ -5,8 +5,9 @@ use mathlib.Core.Bool.{Bool, true, false, _&&_}
 use mathlib.Core.List.{List, [], _∷_, map}
 use lib.ListN.{length}
 use lib.Dec.{leb}
-use Rattle.refusal.specs.Answer.{Answer, accepted, refused, _>>=_, unless-refuse}
-use Rattle.refusal.specs.Refusal.{outcome}
+use Rattle.refusal.specs.Answer.{Answer, accepted, refused, _>>=_}
+use Rattle.refusal.specs.Refusal.{unless-refuse, outcome}
+use Rattle.refusal.specs.declared.Refusal.the-variants as Row
 use Rattle.refusal.specs.Stored.{padded}
 use Rattle.refusal.specs.Limits.{Limits, limits}
 use Rattle.runs.specs.RunList.{shownLevel}
@@ -43,8 +44,8 @@ pub record Counted : Type 0 where
 -- "More than 64 ranges is 11, after 8 and before 10." "That count equals the schedule's run count. Each quantity is what the single call gives."
 unfoldable pub quantitiesBy : Limits → (s : List ℕ) (level : ℕ) (numbers : List ℕ) → Answer Counted
 quantitiesBy L s level numbers =
-    unless-refuse (leb 1 level && leb level 6 && areRanges numbers) 8 0 >>= λ _.
-    unless-refuse (leb (length (rangesOf numbers)) mostRanges) 11 0 >>= λ _.
+    unless-refuse (leb 1 level && leb level 6 && areRanges numbers) Row.Argument >>= λ _.
+    unless-refuse (leb (length (rangesOf numbers)) mostRanges) Row.Ranges >>= λ _.
     readScheduleBy L s >>= λ rs.
     accepted (record { records = length rs; quantities = map (λ z. millimetres (shownLevel rs) level (z .p) (z .q)) (rangesOf numbers) })
 

@@ -1,4 +1,5 @@
 pub mod TestLaws
+pub mod OrderLaws
 pub mod AnswerLaws
 pub mod RowLaws
 pub mod EachLaws

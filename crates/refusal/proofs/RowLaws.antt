@@ -1,6 +1,6 @@
 -- No two refusals have the same number and value, and none has number 6.
 -- Assumes nothing.
-use Prim.Native.Nat.{ℕ}
+use Prim.Native.Nat.{ℕ, _≤_}
 use native.Mathlib.Omega.{arith}
 use mathlib.Core.Logic.{_≢_}
 use mathlib.Core.Path.{_≡_, refl, sym, ap₂, _∙_}
@@ -36,21 +36,28 @@ row-back Tries = refl
 pub same-row : (r q : Refusal) → numberOf r ≡ numberOf q → valueOf r ≡ valueOf q → r ≡ q
 same-row r q n v = sym (row-back r) ∙ ap₂ rowAt n v ∙ row-back q
 
+-- A row has a number, and not 6.
+row-number : (r : Refusal) → (1 ≤ numberOf r) × (numberOf r ≢ 6)
+row-number (Ended at) = (omega arith, omega arith)
+row-number (Malformed at) = (omega arith, omega arith)
+row-number (HeaderRange number) = (omega arith, omega arith)
+row-number (HazardRange index) = (omega arith, omega arith)
+row-number (NearBarrier index) = (omega arith, omega arith)
+row-number (LeftOver at) = (omega arith, omega arith)
+row-number Argument = (omega arith, omega arith)
+row-number (Room needed) = (omega arith, omega arith)
+row-number Schedule = (omega arith, omega arith)
+row-number Ranges = (omega arith, omega arith)
+row-number (Name name) = (omega arith, omega arith)
+row-number State = (omega arith, omega arith)
+row-number Hazard = (omega arith, omega arith)
+row-number Full = (omega arith, omega arith)
+row-number Lengths = (omega arith, omega arith)
+row-number Tries = (omega arith, omega arith)
+
+pub some-number : (r : Refusal) → 1 ≤ numberOf r
+some-number r = row-number r .0
+
 -- Document 02, request 8: "number 6 no longer occurs anywhere".
 pub no-six : (r : Refusal) → numberOf r ≢ 6
-no-six (Ended at) = omega arith
-no-six (Malformed at) = omega arith
-no-six (HeaderRange number) = omega arith
-no-six (HazardRange index) = omega arith
-no-six (NearBarrier index) = omega arith
-no-six (LeftOver at) = omega arith
-no-six Argument = omega arith
-no-six (Room needed) = omega arith
-no-six Schedule = omega arith
-no-six Ranges = omega arith
-no-six (Name name) = omega arith
-no-six State = omega arith
-no-six Hazard = omega arith
-no-six Full = omega arith
-no-six Lengths = omega arith
-no-six Tries = omega arith
+no-six r = row-number r .1

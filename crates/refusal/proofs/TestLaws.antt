@@ -1,10 +1,17 @@
--- Tests as facts: `&&`, `||`, `any` and `keep`.
+-- Tests as facts: `&&`, `||`, `someOf` and `keep`.
 -- Assumes nothing.
+use Prim.Native.Nat.{ℕ}
+use native.Mathlib.Omega.{arith}
 use mathlib.Core.Path.{_≡_, refl, sym, subst, _∙_}
 use mathlib.Core.Logic.{_⊎_, inl, inr}
-use mathlib.Core.Bool.{Bool, true, false, _&&_, _||_, false≢true}
+use mathlib.Core.Bool.{Bool, true, false, _&&_, _||_, not, false≢true}
+use borrow.Author.Tests.{not-true}
 use mathlib.Core.List.{List, [], _∷_, List·Memᴰ, List·Memᴰ·head, List·Memᴰ·tail, List·Memᴰ·cases-cons, List·Memᴰ·not-nil}
 use Rattle.refusal.specs.Choice.{if_then_else_, someOf, keep}
+
+-- Facts that contradict each other, of whatever data: `cc` finds 0 ≡ 1 in them.
+pub impossible : {C : Type 0} → _≡_ {A = ℕ} 0 1 → C
+impossible e = absurd (omega arith)
 
 pub and-left : (a b : Bool) → a && b ≡ true → a ≡ true
 and-left true b e = refl
@@ -28,6 +35,10 @@ pub or-right : (a : Bool) {b : Bool} → b ≡ true → a || b ≡ true
 or-right true p = refl
 or-right false p = p
 
+pub or-false : (a b : Bool) → a || b ≡ false → (a ≡ false) × (b ≡ false)
+or-false true b e = absurd (false≢true (sym e))
+or-false false b e = (refl, e)
+
 -- a test is true or false
 pub decided : (b : Bool) → (b ≡ true) ⊎ (b ≡ false)
 decided true = inl refl
@@ -35,6 +46,15 @@ decided false = inr refl
 
 pub not-both : {b : Bool} → b ≡ true → b ≡ false → ⊥
 not-both p q = false≢true (sym q ∙ p)
+
+-- a failed conjunction
+pub not-and : (a b : Bool) → not (a && b) ≡ true → a ≡ true → b ≡ false
+not-and true b h p = not-true b h
+not-and false b h p = absurd (false≢true p)
+
+pub not-and-intro : (a b : Bool) → (a ≡ true → b ≡ false) → not (a && b) ≡ true
+not-and-intro true b h = rw (h refl)
+not-and-intro false b h = refl
 
 module _ {A : Type 0} where
   -- an element of a list that passes a test

@@ -15,11 +15,6 @@ module _ {A B : Type 0} where
   accepted a >>= f = f a
   refused k v >>= f = refused k v
 
--- Refuse unless the test passes.
-abbrev pub unless-refuse : Bool → (number value : ℕ) → Answer (Unit {0})
-unless-refuse true k v = accepted tt
-unless-refuse false k v = refused k v
-
 abbrev pub isAccepted : {A : Type 0} → Answer A → Bool
 isAccepted (accepted a) = true
 isAccepted (refused k v) = false

@@ -14,7 +14,7 @@ use Rattle.refusal.specs.declared.Refusal.{Refusal}
 use Rattle.refusal.specs.declared.Outcome.{Outcome}
 use Rattle.refusal.specs.declared.Outcome.the-variants.{Done, Refused}
 use Rattle.number.specs.Number.{placed}
-use Rattle.number.proofs.NumberLaws.{placed-fits, placed-length}
+use Rattle.number.proofs.PlaceLaws.{placed-fits, placed-length}
 use Rattle.job.specs.Job.{Job}
 use Rattle.runs.specs.RunList.{isRunList, runsOf}
 use Rattle.planning.specs.declared.side.SideRuns.{SideRuns}
@@ -28,11 +28,12 @@ use Rattle.report.specs.Text.{refusedLine, runsReport, reportOf, reporte
 use Rattle.report.specs.Writing.{Written}
 use Rattle.report.specs.Printing.{mostText, printing, textAfter}
 use Rattle.report.proofs.ReportLaws.{report-fits}
+use Rattle.refusal.proofs.TestLaws.{impossible}
 
 -- A value beside an outcome that is an accepted answer.
 beside : {A : Type 0} (o : Outcome) (a b : A) → outcome o a ≡ accepted b → a ≡ b
 beside Done a b e = cc
-beside (Refused x) a b e = absurd (let z : _≡_ {A = ℕ} 0 1 = cc in omega arith)
+beside (Refused x) a b e = impossible cc
 
 -- The runs that were answered are those of the report.
 pub record Sides (s : List ℕ) (right left : SideRuns) : Type 0 where
@@ -88,7 +89,7 @@ module _ (s text : List ℕ) (room : mostText ≤ length text) where
 
   pub never-short : printing s text ≡ Short → ⊥
   unfolding printing
-  never-short e = let f : Printed (length (reported s)) ≡ Short = rw (le-leb mostText (length text) room) at e in let z : _≡_ {A = ℕ} 0 1 = cc in omega arith
+  never-short e = let f : Printed (length (reported s)) ≡ Short = rw (le-leb mostText (length text) room) at e in impossible cc
 
   text-placed : textAfter s text ≡ placed text 0 (reported s)
   unfolding textAfter

@@ -7,7 +7,7 @@ use mathlib.Core.Path.{_≡_, refl, sym, ap, _∙_}
 use mathlib.Core.List.{List, [], _∷_, _++_, append-assoc, append-nil}
 use lib.ListN.{length, take, drop, getD, set, length-append, take-append-drop}
 use lib.Seq.{take-suc, length-take-le}
-use Rattle.number.proofs.NumberLaws.{placed-append, placed-length, placed-none, placed-sets}
+use Rattle.number.proofs.PlaceLaws.{placed-append, placed-length, placed-none, placed-sets}
 use Rattle.report.specs.Text.{field, fields}
 use Rattle.report.specs.Writing.{Written}
 

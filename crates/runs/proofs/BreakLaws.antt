@@ -1,20 +1,21 @@
 -- Laws of break points: cutting, setting a level from a station on, the runs between them.
 -- Assumes nothing.
-use Prim.Native.Nat.{ℕ, suc, _≤_, _<_}
+use Prim.Native.Nat.{ℕ, suc, _+_, _-_, _≤_, _<_}
 use native.Mathlib.Omega.{arith}
-use native.Mathlib.Decide.{decLe, decLt}
-use mathlib.Core.Path.{_≡_, refl, sym, subst, _∙_}
+use native.Mathlib.Decide.{decLe}
+use mathlib.Core.Path.{_≡_, refl, sym, subst, ap, _∙_}
 use mathlib.Core.Logic.{_≢_}
 use mathlib.Core.Bool.{Bool, true, false}
 use mathlib.Core.List.{List, [], _∷_, _++_, append-assoc, append-nil}
+use lib.ListN.{length}
 use lib.Dec.{ltb, leb, eqb}
 use borrow.Author.Tests.{ltb-true, ltb-false, leb-true, leb-false, le-ltb, lt-leb, le-leb, eqb-true, eqb-false}
 use Rattle.refusal.specs.Choice.{if_then_else_}
 use Rattle.runs.specs.declared.Stretch.{Stretch}
-use Rattle.runs.specs.RunList.{lastStation, shownLevel}
+use Rattle.runs.specs.RunList.{lastStation}
 use Rattle.runs.specs.Breaks.{Break, levelAt, levelOf, Shape, cut, setFrom, runsBelow}
-use Rattle.runs.proofs.RunLaws.{Next, Rising, rising-from, shown-in, shown-after, shown-zero, shown-nothing}
-use Rattle.runs.proofs.RequiredLaws.{RunsOf}
+use Rattle.runs.proofs.RunLaws.{Next, shown-nothing}
+use Rattle.runs.proofs.RunsOfLaws.{RunsOf, RunsFrom, runs-cons, runs-skip, runs-all}
 
 -- The level at t, by where t lies from the last break point.
 module _ (b : Break) (bs : List Break) (t : ℕ) where
@@ -36,7 +37,7 @@ unfolding levelAt
 level-on u t [] s h = refl
 level-on u t (b ∷ bs) s h = at-last b bs t (omega (arith, s .0))
 
-pub cut-shape : (u t : ℕ) (bs : List Break) → Shape u bs → Shape t (cut t bs)
+cut-shape : (u t : ℕ) (bs : List Break) → Shape u bs → Shape t (cut t bs)
 unfolding cut
 cut-shape u t [] s = tt
 cut-shape u t (b ∷ bs) s = go (leb t (b .start)) refl (cut-shape (b .start) t bs (s .2))
@@ -45,7 +46,7 @@ cut-shape u t (b ∷ bs) s = go (leb t (b .start)) refl (cut-shape (b .start) t 
     go true e r = r
     go false e r = (leb-false _ _ e, s .1, s .2)
 
-pub cut-level : (t u : ℕ) (bs : List Break) → u < t → levelAt (cut t bs) u ≡ levelAt bs u
+cut-level : (t u : ℕ) (bs : List Break) → u < t → levelAt (cut t bs) u ≡ levelAt bs u
 unfolding cut
 cut-level t u [] h = refl
 cut-level t u (b ∷ bs) h = go (leb t (b .start)) refl (cut-level t u bs h)
@@ -81,51 +82,58 @@ module _ (t v : ℕ) (bs : List Break) where
       (λ e. level-on t u (cut t bs) (cut-shape w t bs s) (omega arith) ∙ e)
       (λ n. at-last (record { start = t; level = v }) (cut t bs) u h)
 
--- The runs of break points, before those of a list.
-onto : List Break → (e : ℕ) → List Stretch → List Stretch
-onto [] e rs = rs
-onto (b ∷ bs) e rs = onto bs (b .start) (if ltb 0 (b .level) then record { start = b .start; end = e; level = b .level } ∷ rs else rs)
+  set-length : length (setFrom t v bs) ≤ length (cut t bs) + 1
+  set-length = set-step (λ (p : List Break). length p ≤ length (cut t bs) + 1) (λ e. omega arith) (λ n. omega arith)
 
-onto-below : (bs : List Break) (e : ℕ) (rs : List Stretch) → onto bs e rs ≡ runsBelow e bs ++ rs
-unfolding onto runsBelow
-onto-below [] e rs = refl
-onto-below (b ∷ bs) e rs = go (ltb 0 (b .level)) (onto-below bs (b .start))
+cut-shorter : (t : ℕ) (bs : List Break) → length (cut t bs) ≤ length bs
+unfolding cut
+cut-shorter t [] = omega arith
+cut-shorter t (b ∷ bs) = go (leb t (b .start)) (cut-shorter t bs)
   where
-    r : Stretch
-    r = record { start = b .start; end = e; level = b .level }
+    go : (c : Bool) → length (cut t bs) ≤ length bs → length (if c then cut t bs else b ∷ bs) ≤ suc (length bs)
+    go true r = omega arith
+    go false r = omega arith
 
-    go : (c : Bool) → ((ss : List Stretch) → onto bs (b .start) ss ≡ runsBelow (b .start) bs ++ ss)
-        → onto bs (b .start) (if c then r ∷ rs else rs) ≡ (if c then runsBelow (b .start) bs ++ r ∷ [] else runsBelow (b .start) bs) ++ rs
-    go true i = i (r ∷ rs) ∙ sym (append-assoc (runsBelow (b .start) bs) (r ∷ []) rs)
-    go false i = i rs
+-- Setting a level adds a break point at most; none where the level has fallen below it from then on.
+pub set-more : (t v : ℕ) (bs : List Break) → length (setFrom t v bs) ≤ length bs + 1
+set-more t v bs = omega (arith, set-length t v bs, cut-shorter t bs)
+
+pub set-cuts : (t v : ℕ) (bs : List Break) → v ≤ levelAt bs (t - 1) → levelOf bs < v → length (setFrom t v bs) ≤ length bs
+unfolding cut
+set-cuts t v [] p q = absurd (omega (arith, level-on 0 (t - 1) [] tt (omega arith)))
+set-cuts t v (b ∷ bs) p q = go (decLe t (b .start))
+  where
+    go : Dec (t ≤ b .start) → length (setFrom t v (b ∷ bs)) ≤ suc (length bs)
+    go (yes h) =
+        let e : cut t (b ∷ bs) ≡ cut t bs = rw (le-leb t (b .start) h) in
+        omega (arith, set-length t v (b ∷ bs), ap length e, cut-shorter t bs)
+    go (no h) = absurd (omega (arith, at-last b bs (t - 1) (omega arith)))
 
 module _ (f : ℕ → ℕ) (top : (t : ℕ) → f t ≤ 6) where
-  onto-runs : (bs : List Break) (e : ℕ) (rs : List Stretch) → e ≤ lastStation → Shape e bs → ((t : ℕ) → t < e → levelAt bs t ≡ f t) → Rising e (levelOf bs) rs → ((t : ℕ) → e ≤ t → shownLevel rs t ≡ f t)
-      → RunsOf f (onto bs e rs)
-  unfolding onto levelAt
-  onto-runs [] e rs by s below r shows = record { rising = rising-from e 0 0 rs r (omega arith); shows = λ t. at t (decLe e t) }
+  -- Runs from e on, and break points before e: their runs stand in front.
+  below-runs : (bs : List Break) (e : ℕ) (rs : List Stretch) → e ≤ lastStation → Shape e bs → ((t : ℕ) → t < e → levelAt bs t ≡ f t) → RunsFrom f e (levelOf bs) rs → RunsOf f (runsBelow e bs ++ rs)
+  unfolding runsBelow levelAt
+  below-runs [] e rs by s shows r = runs-all e 0 (λ t h. sym (shows t h)) r
+  below-runs (b ∷ bs) e rs by s shows r = go (ltb 0 (b .level)) refl (below-runs bs (b .start))
     where
-      at : (t : ℕ) → Dec (e ≤ t) → shownLevel rs t ≡ f t
-      at t (yes h) = shows t h
-      at t (no h) = shown-zero e 0 rs r t (omega arith) ∙ below t (omega arith)
-  onto-runs (b ∷ bs) e rs by s below r shows = go (ltb 0 (b .level)) refl (onto-runs bs (b .start))
-    where
-      first : Stretch
-      first = record { start = b .start; end = e; level = b .level }
+      one : Stretch
+      one = record { start = b .start; end = e; level = b .level }
 
       here : (t : ℕ) → b .start ≤ t → t < e → b .level ≡ f t
-      here t h k = sym (at-last b bs t h) ∙ below t k
+      here t h k = sym (at-last b bs t h) ∙ shows t k
 
       earlier : (t : ℕ) → t < b .start → levelAt bs t ≡ f t
-      earlier t h = sym (at-earlier b bs t h) ∙ below t (omega (arith, s .0))
+      earlier t h = sym (at-earlier b bs t h) ∙ shows t (omega (arith, s .0))
 
       go : (c : Bool) → ltb 0 (b .level) ≡ c
-          → ((ss : List Stretch) → b .start ≤ lastStation → Shape (b .start) bs → ((t : ℕ) → t < b .start → levelAt bs t ≡ f t) → Rising (b .start) (levelOf bs) ss → ((t : ℕ) → b .start ≤ t → shownLevel ss t ≡ f t) → RunsOf f (onto bs (b .start) ss))
-          → RunsOf f (onto bs (b .start) (if c then first ∷ rs else rs))
-      go true q i = i (first ∷ rs) (omega (arith, s .0)) (s .2) earlier (n, r) (λ t h. at t h (decLt t e))
+          → ((ss : List Stretch) → b .start ≤ lastStation → Shape (b .start) bs → ((t : ℕ) → t < b .start → levelAt bs t ≡ f t) → RunsFrom f (b .start) (levelOf bs) ss → RunsOf f (runsBelow (b .start) bs ++ ss))
+          → RunsOf f ((if c then runsBelow (b .start) bs ++ one ∷ [] else runsBelow (b .start) bs) ++ rs)
+      go true q i =
+          subst (RunsOf f) (sym (append-assoc (runsBelow (b .start) bs) (one ∷ []) rs))
+          (i (one ∷ rs) (omega (arith, s .0)) (s .2) earlier (runs-cons one (levelOf bs) next (λ t h. here t (h .0) (h .1)) r))
         where
-          n : Next (b .start) (levelOf bs) first
-          n = record {
+          next : Next (b .start) (levelOf bs) one
+          next = record {
             after = omega arith;
             long = s .0;
             ends = by;
@@ -133,33 +141,17 @@ module _ (f : ℕ → ℕ) (top : (t : ℕ) → f t ≤ 6) where
             top = omega (arith, here (b .start) (omega arith) (s .0), top (b .start));
             differs = λ _ z. s .1 (sym z);
           }
-
-          at : (t : ℕ) → b .start ≤ t → Dec (t < e) → shownLevel (first ∷ rs) t ≡ f t
-          at t h (yes k) = shown-in first rs t h k ∙ here t h k
-          at t h (no k) = shown-after first rs t (omega arith) ∙ shows t (omega arith)
-      go false q i = i rs (omega (arith, s .0)) (s .2) earlier (back rs r) (λ t h. at t h (decLt t e))
-        where
-          zero-level : b .level ≡ 0
-          zero-level = omega (arith, ltb-false 0 (b .level) q)
-
-          back : (ss : List Stretch) → Rising e (b .level) ss → Rising (b .start) (levelOf bs) ss
-          back [] k = tt
-          back (x ∷ xs) k =
-              let n = k .0 in
-              (record { after = omega (arith, n .after, s .0); long = n .long; ends = n .ends; low = n .low; top = n .top; differs = λ z. absurd (omega (arith, n .after, s .0)) }, k .1)
-
-          at : (t : ℕ) → b .start ≤ t → Dec (t < e) → shownLevel rs t ≡ f t
-          at t h (yes k) = shown-zero e (b .level) rs r t k ∙ sym zero-level ∙ here t h k
-          at t h (no k) = shows t (omega arith)
+      go false q i =
+          i rs (omega (arith, s .0)) (s .2) earlier
+          (runs-skip e (b .level) (b .start) (levelOf bs) (omega (arith, s .0)) (λ z. absurd (omega (arith, s .0))) (λ t h k. omega (arith, here t h k, ltb-false 0 (b .level) q)) r)
 
   -- Break points up to the last station, from the last of which on the level is 0, give the runs of their level.
   pub breaks-runs : (bs : List Break) (e : ℕ) → Shape (suc lastStation) bs → levelOf bs ≡ 0 → ((t : ℕ) → levelAt bs t ≡ f t) → RunsOf f (runsBelow e bs)
   unfolding runsBelow levelAt
   breaks-runs [] e s z shows = record { rising = tt; shows = λ t. shown-nothing t ∙ shows t }
-  breaks-runs (b ∷ bs) e s z shows = subst (RunsOf f) path (onto-runs bs (b .start) [] (omega (arith, s .0)) (s .2) (λ t h. sym (at-earlier b bs t h) ∙ shows t) tt last)
+  breaks-runs (b ∷ bs) e s z shows =
+      rw (le-ltb 0 (b .level) (omega arith))
+      (subst (RunsOf f) (append-nil (runsBelow (b .start) bs)) (below-runs bs (b .start) [] (omega (arith, s .0)) (s .2) (λ t h. sym (at-earlier b bs t h) ∙ shows t) last))
     where
-      last : (t : ℕ) → b .start ≤ t → shownLevel [] t ≡ f t
-      last t h = shown-nothing t ∙ sym z ∙ sym (at-last b bs t h) ∙ shows t
-
-      path : onto bs (b .start) [] ≡ runsBelow e (b ∷ bs)
-      path = rw (le-ltb 0 (b .level) (omega arith)) (onto-below bs (b .start) [] ∙ append-nil (runsBelow (b .start) bs))
+      last : RunsFrom f (b .start) (levelOf bs) []
+      last = record { rising = tt; shows = λ t h. shown-nothing t ∙ sym z ∙ sym (at-last b bs t h) ∙ shows t }

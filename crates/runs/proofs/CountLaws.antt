@@ -6,14 +6,15 @@ use native.Mathlib.Decide.{decLt}
 use mathlib.Core.Path.{_≡_, refl, sym, ap, _∙_, fun-ext}
 use mathlib.Core.Bool.{Bool, true, false, _||_}
 use mathlib.Core.List.{List, _∷_}
-use borrow.Author.Tests.{lt-ltb, le-ltb, le-leb, lt-leb}
+use lib.Dec.{leb}
+use borrow.Author.Tests.{ltb-true, lt-ltb, le-ltb, le-leb, lt-leb}
 use Rattle.refusal.specs.Choice.{if_then_else_}
-use Rattle.refusal.proofs.TestLaws.{not-both}
+use Rattle.refusal.proofs.TestLaws.{and-right, not-both}
 use Rattle.runs.specs.declared.Stretch.{Stretch}
 use Rattle.runs.specs.Level.{has}
 use Rattle.runs.specs.RunList.{shownLevel}
 use Rattle.runs.specs.Count.{countFrom}
-use Rattle.runs.proofs.RunLaws.{Rising, shown-in, shown-before, shown-after, shown-zero}
+use Rattle.runs.proofs.RunLaws.{Rising, shown-zero}
 
 pub count-same : (f g : ℕ → Bool) → ((t : ℕ) → f t ≡ g t) → (p n : ℕ) → countFrom f p n ≡ countFrom g p n
 count-same f g e p n = ap (λ (h : ℕ → Bool). countFrom h p n) (fun-ext e)
@@ -59,15 +60,11 @@ count-stretch r h p (suc n) = go (decLt p (r .start)) (decLt p (r .end)) (count-
     go (no a) (yes b) i = rw (le-leb (r .start) p (omega arith), lt-ltb p (r .end) b) (omega arith)
     go (no a) (no b) i = rw (le-leb (r .start) p (omega arith), le-ltb p (r .end) (omega arith)) (omega arith)
 
--- A millimetre is in the first run, where the others show nothing, or it shows what they do.
-data Where (r : Stretch) (rs : List Stretch) (passes : ℕ → Bool) (t : ℕ) : Type 0 where
-  inside : has r t ≡ true → passes (shownLevel (r ∷ rs) t) ≡ passes (r .level) → passes (shownLevel rs t) ≡ false → Where r rs passes t
-  outside : has r t ≡ false → passes (shownLevel (r ∷ rs) t) ≡ passes (shownLevel rs t) → Where r rs passes t
-
 -- Rising runs and a test of levels that level 0 does not pass: the first run counts by its own level, and the others as without it.
 pub count-run : (e u : ℕ) (r : Stretch) (rs : List Stretch) → Rising e u (r ∷ rs) → (passes : ℕ → Bool) → passes 0 ≡ false → (p n : ℕ)
     → countFrom (λ (t : ℕ). passes (shownLevel (r ∷ rs) t)) p n
     ≡ (if passes (r .level) then min (p + n) (r .end) - max p (r .start) else 0) + countFrom (λ (t : ℕ). passes (shownLevel rs t)) p n
+unfolding shownLevel
 count-run e u r rs up passes zero-fails p n = go (passes (r .level)) refl
   where
     here : ℕ → Bool
@@ -76,27 +73,18 @@ count-run e u r rs up passes zero-fails p n = go (passes (r .level)) refl
     rest : ℕ → Bool
     rest t = passes (shownLevel rs t)
 
-    place : (t : ℕ) → Where r rs passes t
-    place t = by (decLt t (r .start)) (decLt t (r .end))
-      where
-        by : Dec (t < r .start) → Dec (t < r .end) → Where r rs passes t
-        by (yes a) b = outside (rw (lt-leb (r .start) t a)) (ap passes (shown-before r rs t a))
-        by (no a) (yes b) = inside (rw (le-leb (r .start) t (omega arith), lt-ltb t (r .end) b)) (ap passes (shown-in r rs t (omega arith) b))
-            (ap passes (shown-zero (r .end) (r .level) rs (up .1) t b) ∙ zero-fails)
-        by (no a) (no b) = outside (rw (le-leb (r .start) t (omega arith), le-ltb t (r .end) (omega arith))) (ap passes (shown-after r rs t (omega arith)))
+    -- In the first run the others show nothing.
+    alone : (t : ℕ) → has r t ≡ true → rest t ≡ false
+    alone t h = ap passes (shown-zero (r .end) (r .level) rs (up .1) t (ltb-true _ _ (and-right (leb (r .start) t) _ h))) ∙ zero-fails
 
     go : (b : Bool) → passes (r .level) ≡ b → countFrom here p n ≡ (if b then min (p + n) (r .end) - max p (r .start) else 0) + countFrom rest p n
-    go true q = count-or (has r) rest here (λ t. either t (place t)) (λ t h. alone t h (place t)) p n ∙ ap (λ (m : ℕ). m + countFrom rest p n) (count-stretch r (omega (arith, up .0 .long)) p n)
+    go true q = count-or (has r) rest here (λ t. either t (has r t)) alone p n ∙ ap (λ (m : ℕ). m + countFrom rest p n) (count-stretch r (omega (arith, up .0 .long)) p n)
       where
-        either : (t : ℕ) → Where r rs passes t → here t ≡ (has r t || rest t)
-        either t (inside h s o) = rw h (s ∙ q)
-        either t (outside h s) = rw h s
-
-        alone : (t : ℕ) → has r t ≡ true → Where r rs passes t → rest t ≡ false
-        alone t h (inside i s o) = o
-        alone t h (outside i s) = absurd (not-both h i)
-    go false q = let e = count-same here rest (λ t. same t (place t)) p n in omega arith
+        either : (t : ℕ) (c : Bool) → passes (if c then r .level else shownLevel rs t) ≡ (c || rest t)
+        either t true = q
+        either t false = refl
+    go false q = let e = count-same here rest (λ t. same t (has r t) refl) p n in omega arith
       where
-        same : (t : ℕ) → Where r rs passes t → here t ≡ rest t
-        same t (inside h s o) = s ∙ q ∙ sym o
-        same t (outside h s) = s
+        same : (t : ℕ) (c : Bool) → has r t ≡ c → passes (if c then r .level else shownLevel rs t) ≡ rest t
+        same t true h = q ∙ sym (alone t h)
+        same t false h = refl

@@ -3,35 +3,29 @@
 use Prim.Native.Nat.{ℕ, zero, suc, _+_, _/_, _%_, _<_}
 use native.Mathlib.Omega.{arith}
 use native.Mathlib.Decide.{decLt}
-use mathlib.Core.Path.{_≡_, sym, ap, _∙_}
-use mathlib.Core.Logic.{_⊎_, inl, inr}
-use mathlib.Core.List.{List, List·Memᴰ, List·Memᴰ·head, List·Memᴰ·tail, List·Memᴰ·cases-cons, List·Memᴰ·not-nil, Memᴰ·cast}
+use mathlib.Core.Path.{_≡_, refl, sym, ap, _∙_}
+use mathlib.Core.List.{List, List·Memᴰ, List·Memᴰ·head, List·Memᴰ·tail, List·Memᴰ·not-nil, Memᴰ·cast}
 use lib.ListN.{length, getD, set}
-use lib.Seq.{getD-set-same, getD-set-other}
 use Rattle.runs.specs.declared.Stretch.{Stretch}
 use Rattle.runs.specs.declared.Envelopes.{Envelopes}
-use Rattle.runs.specs.Level.{requiredLevel}
 use Rattle.runs.specs.RunList.{envelopesOf}
 use Rattle.runs.specs.Required.{requiredRuns}
 use Rattle.runs.specs.Stored.{StoredEnvelopes}
 use Rattle.runs.specs.Sorted.{Sortable, Sorted}
 use Rattle.runs.specs.Stand.{Sound, AllSound}
 use Rattle.runs.specs.Steps.{keyOf, envelopeOf, envelopesTo, Sweepable}
-use Rattle.runs.proofs.GapLaws.{required-more}
-use Rattle.runs.proofs.RunLaws.{stretch-path}
-use Rattle.runs.proofs.RequiredLaws.{RunsOf, required-runs, runs-of-unique}
-use Rattle.runs.proofs.StoredLaws.{run-among, run-placed, envelopeAt}
-use Rattle.runs.proofs.SortLaws.{placed, among}
+use Rattle.refusal.proofs.EachLaws.{cons-each}
+use Rattle.runs.proofs.IndexLaws.{Indexed, indexed-last, indexed-more, take-indexed, among, store-next}
+use Rattle.runs.proofs.LevelLaws.{level-same}
+use Rattle.runs.proofs.RunsOfLaws.{stretch-path, runs-of-unique}
+use Rattle.runs.proofs.RequiredLaws.{required-runs}
+use Rattle.runs.proofs.StoredLaws.{run-among, run-indexed, envelopeAt}
 
 -- Lists with the same members have the same required runs.
 pub same-runs : (es fs : List Stretch) (G : ℕ) → AllSound es → AllSound fs → ((e : Stretch) → List·Memᴰ e es → List·Memᴰ e fs) → ((e : Stretch) → List·Memᴰ e fs → List·Memᴰ e es) → requiredRuns es G ≡ requiredRuns fs G
-same-runs es fs G p q to from = runs-of-unique (requiredRuns es G) (requiredRuns fs G) (record { rising = r .rising; shows = λ t. r .shows t ∙ level t }) (required-runs fs G (λ e m. q e m .long) (λ e m. q e m .ends))
-  where
-    r : RunsOf (requiredLevel es G) (requiredRuns es G)
-    r = required-runs es G (λ e m. p e m .long) (λ e m. p e m .ends)
-
-    level : (t : ℕ) → requiredLevel es G t ≡ requiredLevel fs G t
-    level t = omega (arith, required-more es fs G t to, required-more fs es G t from)
+same-runs es fs G p q to from =
+    let r = required-runs es G (λ e m. p e m .long) (λ e m. p e m .ends) in
+    runs-of-unique (requiredRuns es G) (requiredRuns fs G) (record { rising = r .rising; shows = λ t. r .shows t ∙ level-same es fs G t to from }) (required-runs fs G (λ e m. q e m .long) (λ e m. q e m .ends))
 
 -- The envelopes of keys.
 envelope-at : (keys ends : List ℕ) (n i : ℕ) → i < n → List·Memᴰ (envelopeOf ends (getD keys i 0)) (envelopesTo keys ends n)
@@ -43,19 +37,10 @@ envelope-at keys ends (suc n) i h = go (decLt i n) (envelope-at keys ends n i)
     go (yes l) r = List·Memᴰ·tail (r l)
     go (no l) r = List·Memᴰ·head (ap (λ (j : ℕ). envelopeOf ends (getD keys j 0)) (let e : i ≡ n = omega arith in e))
 
-record KeyAt (keys ends : List ℕ) (n : ℕ) (x : Stretch) : Type 0 where
-  at : ℕ
-  below : at < n
-  is : x ≡ envelopeOf ends (getD keys at 0)
-
-key-at : (keys ends : List ℕ) (n : ℕ) (x : Stretch) → List·Memᴰ x (envelopesTo keys ends n) → KeyAt keys ends n x
+key-indexed : (keys ends : List ℕ) (n : ℕ) (x : Stretch) → List·Memᴰ x (envelopesTo keys ends n) → Indexed (λ i. envelopeOf ends (getD keys i 0)) n x
 unfolding envelopesTo
-key-at keys ends zero x m = absurd (List·Memᴰ·not-nil m)
-key-at keys ends (suc n) x m = go (List·Memᴰ·cases-cons m) (key-at keys ends n x)
-  where
-    go : (x ≡ envelopeOf ends (getD keys n 0)) ⊎ List·Memᴰ x (envelopesTo keys ends n) → (List·Memᴰ x (envelopesTo keys ends n) → KeyAt keys ends n x) → KeyAt keys ends (suc n) x
-    go (inl e) r = record { at = n; below = omega arith; is = e }
-    go (inr k) r = let w = r k in record { at = w .at; below = omega (arith, w .below); is = w .is }
+key-indexed keys ends zero = λ x m. absurd (List·Memᴰ·not-nil m)
+key-indexed keys ends (suc n) = cons-each (Indexed (λ i. envelopeOf ends (getD keys i 0)) (suc n)) (indexed-last _ n) (λ x m. indexed-more (key-indexed keys ends n x m))
 
 -- The keys of the first n envelopes stand in an array.
 abbrev pub Keyed : (e : Envelopes) (keys : List ℕ) (n : ℕ) → Type 0
@@ -63,13 +48,7 @@ Keyed e keys n = (j : ℕ) → j < n → getD keys j 0 ≡ keyOf (getD (e .start
 
 pub keyed-turn : (e : Envelopes) (keys : List ℕ) (i : ℕ) → Keyed e keys i → i < length keys
     → Keyed e (set keys i (keyOf (getD (e .starts) i 0) (getD (e .levels) i 0) i)) (i + 1)
-keyed-turn e keys i k a j h = go (decLt j i)
-  where
-    go : Dec (j < i) → getD (set keys i (keyOf (getD (e .starts) i 0) (getD (e .levels) i 0) i)) j 0 ≡ keyOf (getD (e .starts) j 0) (getD (e .levels) j 0) j
-    go (yes l) = getD-set-other keys i j _ 0 (λ z. omega arith) ∙ k j l
-    go (no l) =
-        let z : j ≡ i = omega arith in
-        rw z (getD-set-same keys i _ 0 a)
+keyed-turn e keys i k a = store-next (λ j key. key ≡ keyOf (getD (e .starts) j 0) (getD (e .levels) j 0) j) keys i _ a k refl
 
 pub stored-sound : (e : Envelopes) → StoredEnvelopes e → AllSound (envelopesOf e)
 stored-sound e ok x m = record { long = ok .long x m; ends = ok .ends x m; low = ok .levels x m .0; top = ok .levels x m .1 }
@@ -101,15 +80,15 @@ module _ (e : Envelopes) (ok : StoredEnvelopes e) where
       -- The envelope of a sorted key is stored, and the other way round.
       to : (x : Stretch) → List·Memᴰ x (envelopesTo sorted-keys (e .ends) n) → List·Memᴰ x (envelopesOf e)
       to x m =
-          let w = key-at sorted-keys (e .ends) n x m in
-          let p = placed n keys 0 (sorted .same .none-gained _ (among sorted-keys n (w .at) 0 (w .below) (omega (arith, w .below, sorted .same .size, ok .count)))) in
+          let w = key-indexed sorted-keys (e .ends) n x m in
+          let p = take-indexed n keys 0 (sorted .same .none-gained _ (among sorted-keys n (w .at) 0 (w .below) (omega (arith, w .below, sorted .same .size, ok .count)))) in
           let same : x ≡ envelopeAt e (p .at) = w .is ∙ ap (envelopeOf (e .ends)) (p .is) ∙ decode (p .at) (p .below) in
           Memᴰ·cast same (among-stored (p .at) (omega (arith, p .below)))
 
       from : (x : Stretch) → List·Memᴰ x (envelopesOf e) → List·Memᴰ x (envelopesTo sorted-keys (e .ends) n)
       from x m =
-          let p = run-placed (e .starts) (e .ends) (e .levels) x (e .count) m in
-          let q = placed n sorted-keys 0 (sorted .same .none-lost _ (among keys n (p .at) 0 (omega (arith, p .below)) (omega (arith, p .below, ok .count)))) in
+          let p = run-indexed (e .starts) (e .ends) (e .levels) x (e .count) m in
+          let q = take-indexed n sorted-keys 0 (sorted .same .none-lost _ (among keys n (p .at) 0 (omega (arith, p .below)) (omega (arith, p .below, ok .count)))) in
           let same : x ≡ envelopeOf (e .ends) (getD sorted-keys (q .at) 0) = p .is ∙ sym (decode (p .at) (omega (arith, p .below))) ∙ ap (envelopeOf (e .ends)) (q .is) in
           Memᴰ·cast same (envelope-at sorted-keys (e .ends) n (q .at) (q .below))
 

@@ -1,16 +1,28 @@
+-- Numbers and lists.
+pub mod IndexLaws
+-- The required level.
 pub mod LevelLaws
 pub mod GapLaws
-pub mod RunLaws
-pub mod CountLaws
-pub mod RequiredLaws
-pub mod BreakLaws
-pub mod RoomLaws
-pub mod SweepLaws
-pub mod StandLaws
-pub mod PlaceLaws
-pub mod SweptLaws
-pub mod SortLaws
-pub mod KeyLaws
-pub mod StoredLaws
-pub mod LimitLaws
+pub mod LeastLaws
 pub mod ChangeLaws
+-- Run lists, and the required runs.
+pub mod RunLaws
+pub mod LimitLaws
+pub mod RunsOfLaws
+pub mod PointLaws
+pub mod RequiredLaws
+pub mod CountLaws
+-- The sweep.
+pub mod BreakLaws
+pub mod TopLaws
+pub mod SweepLaws
+pub mod MoreLaws
+pub mod StandLaws
+pub mod MeetLaws
+pub mod SweptLaws
+-- What stands in arrays: runs and envelopes, break points, keys.
+pub mod StoredLaws
+pub mod PlaceLaws
+pub mod SortLaws
+pub mod InsertLaws
+pub mod KeyLaws

@@ -4,7 +4,7 @@ use Prim.Native.Nat.{ℕ, zero, suc, _+_, _-_, _≤_, _<_}
 use native.Mathlib.Omega.{arith}
 use native.Mathlib.Numerals.{add-one}
 use native.Mathlib.Nat.{add-zero}
-use native.Mathlib.Decide.{decLe, decLt}
+use native.Mathlib.Decide.{decLe}
 use mathlib.Core.Path.{_≡_, refl, sym, ap, _∙_}
 use mathlib.Core.Logic.{_≢_}
 use mathlib.Core.Bool.{Bool, true, false}
@@ -16,12 +16,12 @@ use borrow.Author.Tests.{le-ltb, lt-leb, le-leb, eq-eqb, ne-eqb}
 use Rattle.refusal.specs.Choice.{if_then_else_}
 use Rattle.runs.specs.declared.RunList.{RunList}
 use Rattle.runs.specs.Stored.{storedRuns}
-use Rattle.runs.specs.Stand.{bit, raisedTop, Raised}
+use Rattle.runs.specs.Stand.{bit}
 use Rattle.runs.specs.Breaks.{Break, levelOf, breaksTo, cut, setFrom, runsBelow}
 use Rattle.runs.proofs.StoredLaws.{withNext, cleared, stored-more, stored-same}
 
 module _ (starts levels : List ℕ) where
-  pub breaks-last : (k : ℕ) → 0 < k → breaksTo starts levels k ≡ record { start = getD starts (k - 1) 0; level = getD levels (k - 1) 0 } ∷ breaksTo starts levels (k - 1)
+  breaks-last : (k : ℕ) → 0 < k → breaksTo starts levels k ≡ record { start = getD starts (k - 1) 0; level = getD levels (k - 1) 0 } ∷ breaksTo starts levels (k - 1)
   unfolding breaksTo
   breaks-last k h =
       let e : k ≡ suc (k - 1) = omega arith in
@@ -119,30 +119,3 @@ module _ (starts levels : List ℕ) where
   -- The runs so far are no more than all.
   pub runs-room : {l : RunList} (i n : ℕ) → l ≡ storedRuns (runsBelow (getD starts i 0) (breaksTo starts levels i)) → i ≤ n → l .count ≤ length (runsBelow (getD starts n 0) (breaksTo starts levels n))
   runs-room i n made h = omega (arith, ap (λ (r : RunList). r .count) made, runs-grow n i (getD starts i 0) (getD starts n 0) h)
-
--- The tops, raised one after the other.
-pub record Raising (l e v : ℕ) (old new : List ℕ) : Type 0 where
-  pub passed : (w : ℕ) → w < v → getD new w 0 ≡ raisedTop l e w (getD old w 0)
-  pub ahead : (w : ℕ) → v ≤ w → getD new w 0 ≡ getD old w 0
-
-pub raising-none : (l e : ℕ) (tops : List ℕ) → Raising l e 0 tops tops
-raising-none l e tops = record { passed = λ w h. absurd (omega arith); ahead = λ w h. refl }
-
-pub raising-turn : (l e v x : ℕ) (old new : List ℕ) → Raising l e v old new → v < length new → x ≡ raisedTop l e v (getD new v 0) → Raising l e (v + 1) old (set new v x)
-raising-turn l e v x old new r h q = record {
-  passed = λ w k. pick w (decLt w v) k;
-  ahead = λ w k. getD-set-other new v w x 0 (λ z. omega arith) ∙ r .ahead w (omega arith);
-}
-  where
-    pick : (w : ℕ) → Dec (w < v) → w < v + 1 → getD (set new v x) w 0 ≡ raisedTop l e w (getD old w 0)
-    pick w (yes k) m = getD-set-other new v w x 0 (λ z. omega arith) ∙ r .passed w k
-    pick w (no k) m =
-        let z : w ≡ v = omega arith in
-        rw z (getD-set-same new v x 0 h ∙ q ∙ ap (raisedTop l e v) (r .ahead v (omega arith)))
-
-pub raising-end : (l e v : ℕ) (old new : List ℕ) → Raising l e v old new → l < v → Raised l e old new
-raising-end l e v old new r h w = go (decLt w v)
-  where
-    go : Dec (w < v) → getD new w 0 ≡ raisedTop l e w (getD old w 0)
-    go (yes k) = r .passed w k
-    go (no k) = rw (lt-leb w l (omega arith)) (r .ahead w (omega arith))

@@ -6,20 +6,20 @@ use native.Mathlib.Decide.{decLt}
 use native.Mathlib.Numerals.{add-one}
 use mathlib.Core.Path.{_≡_, refl, sym, ap, _∙_}
 use mathlib.Core.Bool.{true}
-use mathlib.Core.Logic.{_⊎_, inl, inr}
-use mathlib.Core.List.{List, [], _∷_, _++_, map, map-append, append-assoc, List·Memᴰ, List·Memᴰ·head, List·Memᴰ·not-nil, List·Memᴰ·append-cases, List·Memᴰ·eq-of-singleton, Memᴰ·append-right}
+use mathlib.Core.List.{List, [], _∷_, _++_, map, map-append, append-assoc, List·Memᴰ, List·Memᴰ·head, List·Memᴰ·not-nil, Memᴰ·append-right}
 use lib.ListN.{length, getD, set, length-append, length-map, List·getD-append, List·getD-map}
 use lib.Seq.{ext-getD, getD-at, set-set}
-use lib.Dec.{leb}
-use borrow.Author.Tests.{leb-true}
-use Rattle.refusal.proofs.TestLaws.{and-left, and-right}
+use Rattle.refusal.specs.Limits.{limits}
+use Rattle.refusal.proofs.EachLaws.{snoc-each}
 use Rattle.refusal.proofs.StoredLaws.{padded-more, padded-clear}
 use Rattle.runs.specs.declared.Stretch.{Stretch}
 use Rattle.runs.specs.declared.RunList.{RunList}
 use Rattle.runs.specs.declared.Envelopes.{Envelopes}
-use Rattle.runs.specs.RunList.{mostRuns, risingRuns, isRunListBy, isRunList, lastEnd, runsTo, runsOf}
+use Rattle.runs.specs.RunList.{mostRuns, isRunList, lastEnd, runsTo, runsOf}
 use Rattle.runs.specs.Stored.{column, storedRuns}
-use Rattle.runs.proofs.RunLaws.{stretch-path, Next, Rising, rising}
+use Rattle.runs.proofs.IndexLaws.{Indexed, indexed-last, indexed-more}
+use Rattle.runs.proofs.RunLaws.{Next, Rising, list-rising, list-short}
+use Rattle.runs.proofs.RunsOfLaws.{stretch-path}
 
 -- The level of the last of the runs; v where there is none.
 abbrev pub lastLevel : ℕ → List Stretch → ℕ
@@ -32,12 +32,10 @@ next-after e v [] r ss h = h .0
 next-after e v (x ∷ rs) r ss h = next-after (x .end) (x .level) rs r ss (h .1)
 
 pub run-list-rising : (rs : List Stretch) → isRunList rs ≡ true → Rising 0 0 rs
-unfolding isRunListBy
-run-list-rising rs h = rising 0 0 rs (and-right (leb (length rs) mostRuns) _ h)
+run-list-rising = list-rising limits
 
 pub run-list-short : (rs : List Stretch) → isRunList rs ≡ true → length rs ≤ mostRuns
-unfolding isRunListBy
-run-list-short rs h = leb-true (length rs) mostRuns (and-left _ (risingRuns 0 0 rs) h)
+run-list-short = list-short limits
 
 abbrev pub noStretch : Stretch
 noStretch = record { start = 0; end = 0; level = 0 }
@@ -81,19 +79,10 @@ module _ (starts ends levels : List ℕ) where
   pub run-among : (i n : ℕ) → i < n → List·Memᴰ (run i) (firstRuns n)
   run-among i n h = let b = behind i n h in rw (b .split) (Memᴰ·append-right (firstRuns i) (List·Memᴰ·head refl))
 
-  pub record RunPlaced (r : Stretch) (n : ℕ) : Type 0 where
-    pub at : ℕ
-    pub below : at < n
-    pub is : r ≡ run at
-
-  pub run-placed : (r : Stretch) (n : ℕ) → List·Memᴰ r (firstRuns n) → RunPlaced r n
+  pub run-indexed : (r : Stretch) (n : ℕ) → List·Memᴰ r (firstRuns n) → Indexed run n r
   unfolding runsTo
-  run-placed r zero m = absurd (List·Memᴰ·not-nil m)
-  run-placed r (suc n) m = go (List·Memᴰ·append-cases (firstRuns n) m) (run-placed r n)
-    where
-      go : List·Memᴰ r (firstRuns n) ⊎ List·Memᴰ r (run n ∷ []) → (List·Memᴰ r (firstRuns n) → RunPlaced r n) → RunPlaced r (suc n)
-      go (inl k) p = let w = p k in record { at = w .at; below = omega (arith, w .below); is = w .is }
-      go (inr k) p = record { at = n; below = omega arith; is = List·Memᴰ·eq-of-singleton k }
+  run-indexed r zero m = absurd (List·Memᴰ·not-nil m)
+  run-indexed r (suc n) m = snoc-each (Indexed run (suc n)) (firstRuns n) (λ x k. indexed-more (run-indexed x n k)) (indexed-last run n) r m
 
   run-at : (i n : ℕ) → i < n → getD (firstRuns n) i noStretch ≡ run i
   run-at i n h = let b = behind i n h in rw (b .split) (getD-at (firstRuns i) (run i) (b .rest) noStretch i (runs-length i))

@@ -5,24 +5,19 @@ use native.Mathlib.Omega.{arith}
 use native.Mathlib.Numerals.{add-one}
 use mathlib.Core.Path.{_≡_, refl, sym, ap, _∙_}
 use mathlib.Core.List.{List}
-use lib.ListN.{length, getD, replicate}
-use lib.Dec.{leb}
-use borrow.Author.Tests.{leb-true}
-use Rattle.refusal.proofs.TestLaws.{and-left}
+use lib.ListN.{length, getD}
 use Rattle.runs.specs.declared.Stretch.{Stretch}
 use Rattle.runs.specs.Breaks.{Break, breaksTo, runsBelow}
 use Rattle.runs.specs.Stand.{AllSound, Raised, distinctTo, Stands}
 use Rattle.runs.specs.Steps.{Places, Room, Stepped, envelopesTo, Sweepable, Swept}
 use Rattle.runs.specs.Required.{requiredRuns}
-use Rattle.runs.specs.RunList.{lastStation, mostRuns, isRunListBy}
-use Rattle.runs.proofs.RequiredLaws.{required-runs, required-run-list, runs-of-unique}
-use Rattle.runs.proofs.StandLaws.{tops-fall, level-small, stands-first, stands-last, last-zero}
+use Rattle.runs.specs.RunList.{lastStation, mostRuns}
+use Rattle.runs.proofs.StoredLaws.{run-list-short}
+use Rattle.runs.proofs.RunsOfLaws.{runs-of-unique}
+use Rattle.runs.proofs.RequiredLaws.{required-runs, required-run-list}
+use Rattle.runs.proofs.SweepLaws.{tops-fall, above-small}
+use Rattle.runs.proofs.StandLaws.{stands-first, stands-last, last-zero}
 use Rattle.runs.proofs.PlaceLaws.{breaks-length, below-last}
-
-pub zeros : (n v : ℕ) → _≡_ {A = ℕ} (getD (replicate n 0) v 0) 0
-zeros zero v = refl
-zeros (suc n) zero = refl
-zeros (suc n) (suc v) = zeros n v
 
 -- A sweep that is past the first i envelopes, and not past the start of a later one.
 pub record Sweeping (keys ends : List ℕ) (n G i : ℕ) (tops : List ℕ) (level : ℕ) (bs : List Break) : Type 0 where
@@ -43,7 +38,7 @@ module _ (keys ends : List ℕ) (n G : ℕ) where
 
   pub room-left : {i most : ℕ} {tops : List ℕ} {level : ℕ} (starts levels : List ℕ) (count : ℕ) → Places starts levels → length tops ≡ 8 → 2 * i ≤ most → Sweeping keys ends n G i tops level (breaksTo starts levels count) → Room most starts levels tops count level
   room-left starts levels count places eight h s =
-      record { places = places; eight = eight; falling = tops-fall (s .stands); small = level-small (s .stands); within = omega (arith, sweeping-room starts levels count s) }
+      record { places = places; eight = eight; falling = tops-fall (s .stands .begun); small = above-small (s .stands .begun) (s .stands .above); within = omega (arith, sweeping-room starts levels count s) }
 
   pub sweeping-first : (tops starts levels : List ℕ) → ((v : ℕ) → getD tops v 0 ≡ 0) → Sweeping keys ends n G 0 tops 0 (breaksTo starts levels 0)
   unfolding envelopesTo breaksTo
@@ -64,9 +59,7 @@ module _ (keys ends : List ℕ) (n G : ℕ) where
 
 -- Up to 256 sound envelopes have up to 511 runs.
 few-runs : (es : List Stretch) (G : ℕ) → AllSound es → length es ≤ 256 → length (requiredRuns es G) ≤ mostRuns
-unfolding isRunListBy
-few-runs es G sound h =
-    leb-true _ _ (and-left (leb (length (requiredRuns es G)) mostRuns) _ (required-run-list es G (λ e m. sound e m .long) (λ e m. sound e m .ends) h))
+few-runs es G sound h = run-list-short (requiredRuns es G) (required-run-list es G (λ e m. sound e m .long) (λ e m. sound e m .ends) h)
 
 module _ (keys ends : List ℕ) (n G : ℕ) (starts levels : List ℕ) (count : ℕ) (s : Swept keys ends n G starts levels count) where
   -- The runs between the break points are the required ones.
@@ -74,7 +67,7 @@ module _ (keys ends : List ℕ) (n G : ℕ) (starts levels : List ℕ) (count : 
   swept-runs =
       let st = s .stands in
       sym (below-last starts levels 0 count (last-zero st))
-      ∙ runs-of-unique _ _ (stands-last st 0) (required-runs (envelopesTo keys ends n) G (λ x m. st .sound x m .long) (λ x m. st .sound x m .ends))
+      ∙ runs-of-unique _ _ (stands-last st 0) (required-runs (envelopesTo keys ends n) G (λ x m. st .begun .sound x m .long) (λ x m. st .begun .sound x m .ends))
 
   pub swept-few : n ≤ 256 → length (runsBelow (getD starts (count - 1) 0) (breaksTo starts levels (count - 1))) ≤ mostRuns
-  swept-few h = omega (arith, ap length swept-runs, few-runs (envelopesTo keys ends n) G (s .stands .sound) (omega (arith, envelopes-length keys ends n)))
+  swept-few h = omega (arith, ap length swept-runs, few-runs (envelopesTo keys ends n) G (s .stands .begun .sound) (omega (arith, envelopes-length keys ends n)))

@@ -69,11 +69,15 @@ unfoldable pub distinctTo : (tops : List ℕ) (n : ℕ) → ℕ
 distinctTo tops zero = 0
 distinctTo tops (suc n) = distinctTo tops n + bit (fresh tops n)
 
+-- Envelopes that have begun by station u, and their tops.
+pub record Begun (es : List Stretch) (u : ℕ) (tops : List ℕ) : Type 0 where
+  pub sound : AllSound es
+  pub by : (e : Stretch) → List·Memᴰ e es → e .start ≤ u
+  pub top : (v : ℕ) → Top es v (getD tops v 0)
+
 -- A sweep at station u, past the starts of these envelopes: their tops, the level at u, the break points up to u, of which there will be at most two for each envelope.
 pub record Stands (es : List Stretch) (G u : ℕ) (tops : List ℕ) (level : ℕ) (bs : List Break) : Type 0 where
-  pub sound : AllSound es
-  pub begun : (e : Stretch) → List·Memᴰ e es → e .start ≤ u
-  pub top : (v : ℕ) → Top es v (getD tops v 0)
+  pub begun : Begun es u tops
   pub above : Above tops u level
   pub shape : Shape (suc u) bs
   pub shows : (t : ℕ) → t ≤ u → levelAt bs t ≡ requiredLevel es G t

@@ -7,6 +7,7 @@ use lib.ListN.{length, getD}
 use Rattle.runs.specs.declared.Stretch.{Stretch}
 use Rattle.runs.specs.RunList.{lastStation}
 use Rattle.runs.specs.Breaks.{Break, breaksTo}
+use Rattle.runs.specs.Sorted.{RisingKeys}
 use Rattle.runs.specs.Stand.{Sound, Raised, Falling, distinctTo, Stands}
 
 -- Places for break points: two for each of 256 envelopes.
@@ -55,7 +56,7 @@ pub record Sweepable (keys ends : List ℕ) (n : ℕ) : Type 0 where
   pub key-places : length keys ≡ 256
   pub end-places : length ends ≡ 256
   pub few : n ≤ 256
-  pub rising : (i j : ℕ) → i ≤ j → j < n → getD keys i 0 ≤ getD keys j 0
+  pub rising : RisingKeys keys n
   pub sound : (i : ℕ) → i < n → Sound (envelopeOf ends (getD keys i 0))
 
 -- The break points of the required level up to the last station.

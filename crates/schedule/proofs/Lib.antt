@@ -1,5 +1,6 @@
 pub mod WriteLaws
 pub mod ScheduleLaws
+pub mod LengthLaws
 pub mod PlanLaws
 pub mod PlannedLaws
 pub mod LimitLaws

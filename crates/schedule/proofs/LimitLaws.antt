@@ -3,20 +3,20 @@
 use Prim.Native.Nat.{ℕ, zero, suc, _+_, _-_, _≤_}
 use native.Mathlib.Omega.{arith}
 use mathlib.Core.Path.{_≡_, refl, sym, ap, ap₂, _∙_}
-use mathlib.Core.Bool.{true, _&&_}
+use mathlib.Core.Bool.{true}
 use mathlib.Core.List.{List, [], _∷_, _++_, List·Memᴰ·head, List·Memᴰ·tail}
 use lib.ListN.{length}
-use lib.Dec.{leb, eqb}
-use Rattle.refusal.specs.Answer.{Answer, accepted, refused, _>>=_, unless-refuse}
+use lib.Dec.{leb}
+use Rattle.refusal.specs.Answer.{Answer, accepted, refused, _>>=_}
+use Rattle.refusal.specs.Refusal.{unless-refuse}
+use Rattle.refusal.specs.declared.Refusal.the-variants as Row
 use Rattle.refusal.specs.Limits.{earlier, limits}
 use Rattle.refusal.proofs.TestLaws.{and-left, and-right}
-use Rattle.refusal.proofs.AnswerLaws.{bound, tested}
 use Rattle.refusal.proofs.LimitLaws.{limits-wider}
-use Rattle.number.specs.Number.{numberAtBy}
 use Rattle.number.proofs.LimitLaws.{writes-alike, numbers-alike}
 use Rattle.job.specs.Job.{Job, readJobBy}
 use Rattle.runs.specs.declared.Stretch.{Stretch}
-use Rattle.runs.specs.RunList.{mostRuns, isRunListBy, isRunList}
+use Rattle.runs.specs.RunList.{mostRuns, mayFollow, risingRunsBy, risingRuns, isRunListBy, isRunList}
 use Rattle.runs.proofs.LevelLaws.{EndsBy}
 use Rattle.runs.proofs.RunLaws.{Next, Rising}
 use Rattle.runs.proofs.StoredLaws.{run-list-rising, run-list-short}
@@ -24,9 +24,9 @@ use Rattle.runs.proofs.LimitLaws.{run-list-by, list-ends}
 use Rattle.planning.specs.Envelope.{sideOverhangs, acceptJobBy}
 use Rattle.planning.specs.Required.{jobRuns}
 use Rattle.planning.proofs.LimitLaws.{accepts-alike, runs-before}
-use Rattle.schedule.specs.Schedule.{writeRecordBy, writeRecord, writeRecordsBy, writeRecords, writeScheduleBy, writeSchedule, Records, readRecordsBy, readRecords, readScheduleBy, readSchedule}
+use Rattle.schedule.specs.Schedule.{writeRecordBy, writeRecord, writeRecordsBy, writeRecords, writeScheduleBy, writeSchedule, orTen, headAtBy, ReadRun, recordAtBy, readRecordsBy, readScheduleBy, readSchedule}
 use Rattle.schedule.specs.Plan.{PlannedSide, fitted, planBy, plan}
-use Rattle.schedule.proofs.ScheduleLaws.{or-ten}
+use Rattle.schedule.proofs.ScheduleLaws.{record-read, first-read, schedule-parts, read-list}
 
 -- A run list under the earlier limits is one.
 pub run-list-before : (rs : List Stretch) → isRunListBy earlier rs ≡ true → isRunList rs ≡ true
@@ -54,15 +54,26 @@ written-before rs h =
 
 -- Reading
 
-read-records-before : (k e : ℕ) (got : List Stretch) (s : List ℕ) (at : ℕ) (r : Records) → readRecordsBy earlier k e got s at ≡ accepted r → readRecords k e got s at ≡ accepted r
-unfolding readRecordsBy
-read-records-before zero e got s at r q = q
-read-records-before (suc k) e got s at r q =
-    let gap = bound (numberAtBy earlier s at) _ r q in
-    let len = bound (numberAtBy earlier s (gap .first .next)) _ r (gap .rest) in
-    let lev = bound (numberAtBy earlier s (len .first .next)) _ r (len .rest) in
-    rw (numbers-alike limits-wider s at (gap .first) (gap .taken), numbers-alike limits-wider s (gap .first .next) (len .first) (len .taken), numbers-alike limits-wider s (len .first .next) (lev .first) (lev .taken))
-    (read-records-before k _ _ s (lev .first .next) r (lev .rest))
+-- A record, and records, of runs that may follow now as well.
+record-read-before : (s : List ℕ) (e v at : ℕ) (p : ReadRun) → recordAtBy earlier e v s at ≡ accepted p → mayFollow e v (p .run) ≡ true → recordAtBy limits e v s at ≡ accepted p
+unfolding recordAtBy
+record-read-before s e v at p q m =
+    let r = record-read earlier s e v at p q in
+    rw (numbers-alike limits-wider s at (r .gap) (r .gap-read), numbers-alike limits-wider s (r .gap .next) (r .len) (r .len-read), numbers-alike limits-wider s (r .len .next) (r .lev) (r .lev-read))
+    (rw (ap (λ (x : ReadRun). mayFollow e v (x .run)) (r .is) ∙ m) (ap accepted (r .is)))
+
+records-read-before : (s : List ℕ) (k e v at : ℕ) (rs : List Stretch) → readRecordsBy earlier k e v s at ≡ accepted rs → risingRuns e v rs ≡ true → readRecordsBy limits k e v s at ≡ accepted rs
+unfolding readRecordsBy risingRunsBy
+records-read-before s zero e v at rs q up = q
+records-read-before s (suc k) e v at rs q up =
+    let f = first-read earlier s k e v at rs q in
+    let r = f .first .run in
+    let rises = ap (risingRuns e v) (f .is) ∙ up in
+    rw (
+      record-read-before s e v at (f .first) (f .first-read) (and-left (mayFollow e v r) _ rises),
+      records-read-before s k (r .end) (r .level) (f .first .next) (f .others) (f .others-read) (and-right (mayFollow e v r) _ rises),
+    )
+    (ap accepted (f .is))
 
 -- What was the writing of a run list under the earlier limits: the runs, and that they are one.
 pub record WasRead (s : List ℕ) (rs : List Stretch) : Type 0 where
@@ -70,29 +81,22 @@ pub record WasRead (s : List ℕ) (rs : List Stretch) : Type 0 where
   pub run-list : isRunListBy earlier rs ≡ true
 
 pub read-before : (s : List ℕ) (rs : List Stretch) → readScheduleBy earlier s ≡ accepted rs → WasRead s rs
-unfolding readScheduleBy
-read-before s rs e =
-    let n = bound (numberAtBy earlier s 0) _ rs (or-ten _ rs e) in
-    let few = bound (unless-refuse (leb (n .first .value) mostRuns) 10 0) _ rs (n .rest) in
-    let r = bound (readRecordsBy earlier (n .first .value) 0 [] s (n .first .next)) _ rs (few .rest) in
-    let ends = bound (unless-refuse (eqb (r .first .next) (length s) && isRunListBy earlier (r .first .runs)) 10 0) _ rs (r .rest) in
-    let t = tested (leb (n .first .value) mostRuns) 10 0 (few .first) (few .taken) in
-    let u = tested (eqb (r .first .next) (length s) && isRunListBy earlier (r .first .runs)) 10 0 (ends .first) (ends .taken) in
-    let here = and-left (eqb (r .first .next) (length s)) (isRunListBy earlier (r .first .runs)) u in
-    let list = and-right (eqb (r .first .next) (length s)) (isRunListBy earlier (r .first .runs)) u in
-    let same : r .first .runs ≡ rs = let z = ends .rest in cc in
+unfolding readScheduleBy headAtBy isRunListBy
+read-before s rs q =
+    let w = schedule-parts earlier s rs q in
+    let list = read-list earlier s rs q in
+    let up = and-right (leb (length rs) mostRuns) _ (run-list-before rs list) in
     record {
-      reads =
-          rw (numbers-alike limits-wider s 0 (n .first) (n .taken), t, read-records-before (n .first .value) 0 [] s (n .first .next) (r .first) (r .taken), here, run-list-before (r .first .runs) list)
-          (ap accepted same);
-      run-list = rw same at list;
+      reads = rw (numbers-alike limits-wider s 0 (w .head) (w .head-read), w .few)
+          (ap (λ (a : Answer (List Stretch)). orTen a) (records-read-before s (w .head .value) 0 0 (w .head .next) rs (w .records) up));
+      run-list = list;
     }
 
 -- Plan, for every side and every room.
 pub plan-before-11 : (s : List ℕ) (j : Job) → readJobBy earlier s ≡ accepted j → (side room : ℕ) → plan s side room ≡ planBy earlier s side room
 unfolding planBy
 plan-before-11 s j e side room =
-    ap (λ (a : Answer PlannedSide). unless-refuse (leb side 1) 8 0 >>= λ _. a) (rw (accepts-alike limits-wider s j e) (go (acceptJobBy earlier s) refl))
+    ap (λ (a : Answer PlannedSide). unless-refuse (leb side 1) Row.Argument >>= λ _. a) (rw (accepts-alike limits-wider s j e) (go (acceptJobBy earlier s) refl))
   where
     go : (a : Answer Job) → acceptJobBy earlier s ≡ a
         → (a >>= λ k. fitted (writeSchedule (jobRuns k side)) (sideOverhangs k side) room) ≡ (a >>= λ k. fitted (writeScheduleBy earlier (jobRuns k side)) (sideOverhangs k side) room)

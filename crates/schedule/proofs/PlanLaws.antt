@@ -4,12 +4,14 @@ use Prim.Native.Nat.{ℕ, _≤_, _<_, _+_, _-_}
 use mathlib.Core.Path.{_≡_, refl, _∙_, subst, ap}
 use mathlib.Core.List.{List, _++_}
 use borrow.Author.Tests.{le-leb, lt-leb, leb-true}
-use Rattle.refusal.specs.Answer.{Answer, accepted, refused, _>>=_, unless-refuse}
-use Rattle.refusal.specs.Refusal.{refusal, outcome}
+use Rattle.refusal.specs.Answer.{Answer, accepted, refused, _>>=_}
+use Rattle.refusal.specs.Refusal.{unless-refuse, refusal, outcome}
+use Rattle.refusal.specs.declared.Refusal.the-variants as Row
 use Rattle.refusal.specs.declared.Refusal.{Refusal}
 use Rattle.refusal.specs.declared.Outcome.the-variants.{Done, Refused}
 use Rattle.job.specs.Job.{Job, readJob}
-use Rattle.job.proofs.JobLaws.{JobFits}
+use Rattle.job.specs.Fits.{JobFits}
+use Rattle.job.proofs.RangeLaws.{header-bounds}
 use Rattle.runs.specs.declared.Stretch.{Stretch}
 use Rattle.runs.specs.declared.Envelopes.{Envelopes}
 use Rattle.runs.specs.RunList.{isRunList, envelopesOf}
@@ -35,10 +37,10 @@ use native.Mathlib.Nat.{zero-add}
 use lib.ListN.{length, drop, length-append, length-drop}
 use lib.Dec.{leb}
 use Rattle.number.specs.Number.{placed}
-use Rattle.number.proofs.NumberLaws.{placed-fits}
+use Rattle.number.proofs.PlaceLaws.{placed-fits}
 use Rattle.refusal.proofs.AnswerLaws.{bound, tested}
 use Rattle.schedule.specs.Steps.{testedPlan}
-use Rattle.schedule.proofs.ScheduleLaws.{road-bytes}
+use Rattle.schedule.proofs.LengthLaws.{road-bytes}
 
 -- What fits is written, and what does not is refused with the bytes needed.
 pub fitted-fits : (w : List ℕ) (o : Overhangs) (room : ℕ) → length w ≤ room → fitted w o room ≡ accepted (record { schedule = w; overhangs = o })
@@ -57,10 +59,10 @@ placed-first out w h = placed-fits out 0 w (omega arith) ∙ ap (λ (n : ℕ). w
 plan-fits : (s : List ℕ) (side room : ℕ) (p : PlannedSide) → plan s side room ≡ accepted p → length (p .schedule) ≤ room
 unfolding planBy fitted
 plan-fits s side room p e =
-    let b1 = bound (unless-refuse (leb side 1) 8 0) _ p e in
+    let b1 = bound (unless-refuse (leb side 1) Row.Argument) _ p e in
     let b2 = bound (acceptJob s) _ p (b1 .rest) in
-    let b3 = bound (unless-refuse (leb (length (writeSchedule (jobRuns (b2 .first) side))) room) 9 (length (writeSchedule (jobRuns (b2 .first) side)))) _ p (b2 .rest) in
-    finish (record { schedule = writeSchedule (jobRuns (b2 .first) side); overhangs = sideOverhangs (b2 .first) side }) (tested _ 9 (length (writeSchedule (jobRuns (b2 .first) side))) _ (b3 .taken)) (b3 .rest)
+    let b3 = bound (unless-refuse (leb (length (writeSchedule (jobRuns (b2 .first) side))) room) (Row.Room (length (writeSchedule (jobRuns (b2 .first) side))))) _ p (b2 .rest) in
+    finish (record { schedule = writeSchedule (jobRuns (b2 .first) side); overhangs = sideOverhangs (b2 .first) side }) (tested _ (Row.Room (length (writeSchedule (jobRuns (b2 .first) side)))) _ (b3 .taken)) (b3 .rest)
   where
     finish : (x : PlannedSide) → leb (length (x .schedule)) room ≡ true → accepted x ≡ accepted p → length (p .schedule) ≤ room
     finish x h q = let same : x ≡ p = cc in subst (λ (y : PlannedSide). length (y .schedule) ≤ room) same (leb-true _ _ h)
@@ -95,7 +97,7 @@ pub planned-bytes : (j : Job) (side : ℕ) → AcceptedFits j → length (writeS
 planned-bytes j side fits =
     road-bytes (j .header .begin) (jobRuns j side) (job-run-list j side fits) (λ r m.
     let on = runs-on-road j side fits r m in
-    (on .0, omega (arith, on .1, fits .fits .header .road-length)))
+    (on .0, omega (arith, on .1, header-bounds (j .header) (fits .fits .header) .road-length)))
 
 -- By what `side_envelopes` answers.
 module _ (j : Job) (side : ℕ) (r : SideEnvelopes) (reply : Replies r (testedEnvelopes j side)) where

@@ -1,42 +1,53 @@
 -- Schedules: reading gives back the run list that was written, and what can be read is the writing of a run list.
 -- Assumes nothing.
-use Prim.Native.Nat.{ℕ, zero, suc, _+_, _-_, _*_, _/_, _≤_}
+use Prim.Native.Nat.{ℕ, zero, suc, _+_, _-_}
 use native.Mathlib.Omega.{arith}
 use mathlib.Core.Path.{_≡_, refl, sym, subst, ap, _∙_}
-use mathlib.Core.Bool.{true, _&&_}
-use mathlib.Core.List.{List, [], _∷_, _++_, append-assoc, append-nil, List·Memᴰ, List·Memᴰ·head, List·Memᴰ·tail}
+use mathlib.Core.Bool.{true}
+use mathlib.Core.List.{List, [], _∷_, _++_, append-assoc}
 use lib.ListN.{length, drop, length-append}
-use lib.Seq.{drop-length}
+use lib.Seq.{drop-length, drop-drop, drop-append-seam}
 use lib.Dec.{leb, eqb}
-use borrow.Author.Tests.{leb-true, le-leb, eqb-true, eq-eqb}
-use Rattle.refusal.specs.Answer.{Answer, accepted, refused, unless-refuse}
-use Rattle.refusal.specs.Limits.{limits}
-use Rattle.number.specs.Number.{writeNumber, Reading, numberAt}
+use borrow.Author.Tests.{le-leb, eqb-true, eq-eqb}
+use Rattle.refusal.specs.Answer.{Answer, accepted, refused, _>>=_}
+use Rattle.refusal.specs.declared.Refusal.the-variants as Row
+use Rattle.refusal.specs.Limits.{Limits, limits}
+use Rattle.refusal.proofs.AnswerLaws.{bound, passed}
+use Rattle.refusal.proofs.TestLaws.{and-left, and-intro, impossible}
+use Rattle.number.specs.Number.{writeNumber, Reading, numberAtBy}
+use Rattle.number.proofs.ReadLaws.{read-number, after-number, number-read}
+use Rattle.number.proofs.ByteLaws.{Bytes}
 use Rattle.runs.specs.declared.Stretch.{Stretch}
-use Rattle.runs.specs.RunList.{lastStation, mostRuns, risingRuns, isRunListBy, isRunList}
-use Rattle.schedule.specs.Schedule.{writeRecordBy, writeRecord, writeRecordsBy, writeRecords, writeScheduleBy, writeSchedule, Records, readRecordsBy, readRecords, orTen, readScheduleBy, readSchedule}
-use Rattle.refusal.proofs.AnswerLaws.{bound, tested}
-use Rattle.refusal.proofs.TestLaws.{and-left, and-right}
-use Rattle.number.proofs.NumberLaws.{number-length, small-length, middle-length, long-length, read-number, after-number, Bytes, Stands, number-read}
-use Rattle.runs.proofs.LevelLaws.{EndsBy}
+use Rattle.runs.specs.RunList.{mostRuns, mayFollowBy, mayFollow, risingRunsBy, isRunListBy, isRunList}
 use Rattle.runs.proofs.RunLaws.{Next, Rising, rising, rising-test}
+use Rattle.runs.proofs.StoredLaws.{run-list-rising, run-list-short}
+use Rattle.schedule.specs.Schedule.{writeRecordBy, writeRecord, writeRecordsBy, writeRecords, writeScheduleBy, writeSchedule, IsSchedule, orTen, headAtBy, ReadRun, recordAtBy, readRecordsBy, readScheduleBy, readSchedule}
 
--- Records.
-read-records : (s : List ℕ) (e v at : ℕ) (got rs : List Stretch) (rest : List ℕ) → e ≤ lastStation → Rising e v rs → drop at s ≡ writeRecords e rs ++ rest
-    → readRecords (length rs) e got s at ≡ accepted (record { runs = got ++ rs; next = at + length (writeRecords e rs) })
-unfolding readRecordsBy writeRecordsBy writeRecordBy
-read-records s e v at got [] rest b h q = rw (append-nil got) (ap (λ (n : ℕ). accepted (record { runs = got; next = n })) (let z : at ≡ at + 0 = omega arith in z))
-read-records s e v at got (r ∷ rs) rest b h q =
-    rw (read-number s at gap rest1 (omega (arith, n .long, n .ends)) q1)
-    (rw (read-number s at2 len rest2 (omega (arith, n .ends)) q2)
-    (rw (read-number s at3 (r .level) rest3 (omega (arith, n .top)) q3)
+-- Which run may follow another.
+pub may-follow : (e v : ℕ) (r : Stretch) → Next e v r → mayFollow e v r ≡ true
+unfolding risingRunsBy
+may-follow e v r n = and-left (mayFollow e v r) true (rising-test e v (r ∷ []) (n, tt))
+
+pub follows : (e v : ℕ) (r : Stretch) → mayFollow e v r ≡ true → Next e v r
+unfolding risingRunsBy
+follows e v r h = rising e v (r ∷ []) (and-intro h refl) .0
+
+-- What is written is read
+
+-- Behind the bytes w.
+pub after-bytes : (s : List ℕ) (at : ℕ) (w rest : List ℕ) → drop at s ≡ w ++ rest → drop (at + length w) s ≡ rest
+after-bytes s at w rest q = sym (drop-drop (length w) at s) ∙ rw q (drop-append-seam w rest)
+
+record-written : (s : List ℕ) (e v at : ℕ) (r : Stretch) (rest : List ℕ) → Next e v r → drop at s ≡ writeRecord e r ++ rest
+    → recordAtBy limits e v s at ≡ accepted (record { run = r; next = at + length (writeRecord e r) })
+unfolding recordAtBy writeRecordBy
+record-written s e v at r rest n q =
+    rw (read-number s at gap (writeNumber len ++ behind) (omega (arith, n .long, n .ends)) first)
+    (rw (read-number s (at + length (writeNumber gap)) len behind (omega (arith, n .ends)) second)
+    (rw (read-number s (at + length (writeNumber gap) + length (writeNumber len)) (r .level) rest (omega (arith, n .top)) third)
     (rw (starts, ends)
-    (rw (read-records s (r .end) (r .level) at4 (got ++ r ∷ []) rs rest (n .ends) (h .1) q4)
-    (rw (append-assoc got (r ∷ []) rs) (ap (λ (m : ℕ). accepted (record { runs = got ++ r ∷ rs; next = m })) nexts))))))
+    (rw (may-follow e v r n) (ap (λ (i : ℕ). accepted (record { run = r; next = i })) (simp length-append (omega arith)))))))
   where
-    n : Next e v r
-    n = h .0
-
     starts : e + (r .start - e) ≡ r .start
     starts = omega (arith, n .after)
 
@@ -49,175 +60,186 @@ read-records s e v at got (r ∷ rs) rest b h q =
     len : ℕ
     len = r .end - r .start
 
-    rest3 : List ℕ
-    rest3 = writeRecords (r .end) rs ++ rest
+    behind : List ℕ
+    behind = writeNumber (r .level) ++ rest
 
-    rest2 : List ℕ
-    rest2 = writeNumber (r .level) ++ rest3
+    first : drop at s ≡ writeNumber gap ++ (writeNumber len ++ behind)
+    first = q ∙ simp append-assoc
 
-    rest1 : List ℕ
-    rest1 = writeNumber len ++ rest2
+    second : drop (at + length (writeNumber gap)) s ≡ writeNumber len ++ behind
+    second = after-number s at gap (writeNumber len ++ behind) first
 
-    q1 : drop at s ≡ writeNumber gap ++ rest1
-    q1 = q ∙ simp append-assoc
+    third : drop (at + length (writeNumber gap) + length (writeNumber len)) s ≡ writeNumber (r .level) ++ rest
+    third = after-number s (at + length (writeNumber gap)) len behind second
 
-    at2 : ℕ
-    at2 = at + length (writeNumber gap)
-
-    q2 : drop at2 s ≡ writeNumber len ++ rest2
-    q2 = after-number s at gap rest1 q1
-
-    at3 : ℕ
-    at3 = at2 + length (writeNumber len)
-
-    q3 : drop at3 s ≡ writeNumber (r .level) ++ rest3
-    q3 = after-number s at2 len rest2 q2
-
-    at4 : ℕ
-    at4 = at3 + length (writeNumber (r .level))
-
-    q4 : drop at4 s ≡ writeRecords (r .end) rs ++ rest
-    q4 = after-number s at3 (r .level) rest3 q3
-
-    nexts : at4 + length (writeRecords (r .end) rs) ≡ at + length (writeRecords e (r ∷ rs))
-    nexts = simp length-append (omega arith)
+records-written : (s : List ℕ) (e v at : ℕ) (rs : List Stretch) → Rising e v rs → drop at s ≡ writeRecords e rs → at + length (writeRecords e rs) ≡ length s
+    → readRecordsBy limits (length rs) e v s at ≡ accepted rs
+unfolding readRecordsBy writeRecordsBy
+records-written s e v at [] up q all = rw (eq-eqb at (length s) (omega arith))
+records-written s e v at (r ∷ rs) up q all =
+    rw (
+      record-written s e v at r (writeRecords (r .end) rs) (up .0) q,
+      records-written s (r .end) (r .level) (at + length (writeRecord e r)) rs (up .1) (after-bytes s at (writeRecord e r) (writeRecords (r .end) rs) q)
+          (omega (arith, length-append (writeRecord e r) (writeRecords (r .end) rs))),
+    )
 
 -- Reading gives back the run list that was written.
 pub read-schedule : (rs : List Stretch) → isRunList rs ≡ true → readSchedule (writeSchedule rs) ≡ accepted rs
-unfolding readScheduleBy writeScheduleBy isRunListBy
+unfolding readScheduleBy headAtBy writeScheduleBy
 read-schedule rs h =
-    rw (read-number s 0 (length rs) (writeRecords 0 rs) (omega (arith, count)) refl)
-    (rw (le-leb (length rs) mostRuns count)
-    (rw (read-records s 0 0 (0 + length (writeNumber (length rs))) [] rs [] (omega arith) up (after-number s 0 (length rs) (writeRecords 0 rs) refl ∙ sym (append-nil (writeRecords 0 rs))))
-    (rw (eq-eqb _ _ whole-read, le-leb (length rs) mostRuns count, rising-test 0 0 rs up))))
-  where
-    s : List ℕ
-    s = writeNumber (length rs) ++ writeRecords 0 rs
+    let count = writeNumber (length rs) in
+    let s = count ++ writeRecords 0 rs in
+    rw (read-number s 0 (length rs) (writeRecords 0 rs) (omega (arith, run-list-short rs h)) refl, le-leb (length rs) mostRuns (run-list-short rs h))
+    (ap (λ (a : Answer (List Stretch)). orTen a) (records-written s 0 0 (0 + length count) rs (run-list-rising rs h) (after-number s 0 (length rs) (writeRecords 0 rs) refl) (omega (arith, length-append count (writeRecords 0 rs)))))
 
-    count : length rs ≤ mostRuns
-    count = leb-true _ _ (and-left _ (risingRuns 0 0 rs) h)
+pub schedule-runs : (s : List ℕ) (w : IsSchedule s) → readSchedule s ≡ accepted (w .runs)
+schedule-runs s w = ap readSchedule (w .writes) ∙ read-schedule (w .runs) (w .run-list)
 
-    up : Rising 0 0 rs
-    up = rising 0 0 rs (and-right (leb (length rs) mostRuns) _ h)
-
-    whole-read : 0 + length (writeNumber (length rs)) + length (writeRecords 0 rs) ≡ length s
-    whole-read = rw (length-append (writeNumber (length rs)) (writeRecords 0 rs)) (omega arith)
-
--- What was read stands there as its writing: the runs after those in `got`.
-pub record RecordsStand (k e : ℕ) (got : List Stretch) (s : List ℕ) (at : ℕ) (r : Records) : Type 0 where
-  pub more : List Stretch
-  pub is : r .runs ≡ got ++ more
-  pub count : length more ≡ k
-  pub split : drop at s ≡ writeRecords e more ++ drop (r .next) s
-
-one-record : (e g n l : ℕ) (rs : List Stretch) (rest : List ℕ)
-    → writeRecords e (record { start = e + g; end = e + g + n; level = l } ∷ rs) ++ rest ≡ writeNumber g ++ (writeNumber n ++ (writeNumber l ++ (writeRecords (e + g + n) rs ++ rest)))
-unfolding writeRecordsBy writeRecordBy
-one-record e g n l rs rest = rw (let a : e + g - e ≡ g = omega arith in a, let b : e + g + n - (e + g) ≡ n = omega arith in b) (simp append-assoc)
-
-records-read : (k e : ℕ) (got : List Stretch) (s : List ℕ) (at : ℕ) (r : Records) → Bytes s → readRecords k e got s at ≡ accepted r → RecordsStand k e got s at r
-unfolding readRecordsBy writeRecordsBy
-records-read zero e got s at r b q =
-    let w : record { runs = got; next = at } ≡ r = cc in
-    subst (RecordsStand zero e got s at) w (record { more = []; is = sym (append-nil got); count = refl; split = refl })
-records-read (suc k) e got s at r b q =
-    let b1 = bound (numberAt s at) _ r q in
-    let b2 = bound (numberAt s (b1 .first .next)) _ r (b1 .rest) in
-    let b3 = bound (numberAt s (b2 .first .next)) _ r (b2 .rest) in
-    finish (b1 .first) (b2 .first) (b3 .first) (number-read s at (b1 .first) b (b1 .taken)) (number-read s (b1 .first .next) (b2 .first) b (b2 .taken)) (number-read s (b2 .first .next) (b3 .first) b (b3 .taken))
-    (records-read k (e + b1 .first .value + b2 .first .value) (got ++ one (b1 .first) (b2 .first) (b3 .first) ∷ []) s (b3 .first .next) r b (b3 .rest))
-  where
-    one : (g n l : Reading) → Stretch
-    one g n l = record { start = e + g .value; end = e + g .value + n .value; level = l .value }
-
-    finish : (g n l : Reading) → Stands s at g → Stands s (g .next) n → Stands s (n .next) l → RecordsStand k (e + g .value + n .value) (got ++ one g n l ∷ []) s (l .next) r → RecordsStand (suc k) e got s at r
-    finish g n l sg sn sl sm = record {
-      more = one g n l ∷ sm .more;
-      is = sm .is ∙ append-assoc got (one g n l ∷ []) (sm .more);
-      count = ap suc (sm .count);
-      split = sg .split ∙ ap (λ (z : List ℕ). writeNumber (g .value) ++ z) (sn .split ∙ ap (λ (z : List ℕ). writeNumber (n .value) ++ z) (sl .split ∙ ap (λ (z : List ℕ). writeNumber (l .value) ++ z) (sm .split)))
-          ∙ sym (one-record e (g .value) (n .value) (l .value) (sm .more) (drop (r .next) s));
-    }
+-- What is read was written
 
 pub or-ten : {A : Type 0} (m : Answer A) (a : A) → orTen m ≡ accepted a → m ≡ accepted a
 or-ten (accepted x) a e = e
-or-ten (refused k v) a e = let z : _≡_ {A = ℕ} 0 1 = cc in absurd (omega arith)
+or-ten (refused k v) a e = impossible cc
+
+-- Whatever is wrong, 10 is returned.
+or-ten-refused : {A : Type 0} (m : Answer A) (k v : ℕ) → orTen m ≡ refused k v → orTen m ≡ refused 10 0
+or-ten-refused (accepted a) k v e = impossible cc
+or-ten-refused (refused x y) k v e = refl
+
+pub refused-ten : (s : List ℕ) (k v : ℕ) → readSchedule s ≡ refused k v → readSchedule s ≡ refused 10 0
+unfolding readScheduleBy
+refused-ten s k v e = or-ten-refused (headAtBy limits s >>= λ n. readRecordsBy limits (n .value) 0 0 s (n .next)) k v e
+
+-- The run of a record's three numbers.
+abbrev pub runAfter : (e gap len lev : ℕ) → Stretch
+runAfter e gap len lev = record { start = e + gap; end = e + gap + len; level = lev }
+
+-- What is known of a record that was read: its numbers, and that its run may follow.
+pub record RecordRead (L : Limits) (e v : ℕ) (s : List ℕ) (at : ℕ) (p : ReadRun) : Type 0 where
+  pub gap : Reading
+  pub len : Reading
+  pub lev : Reading
+  pub gap-read : numberAtBy L s at ≡ accepted gap
+  pub len-read : numberAtBy L s (gap .next) ≡ accepted len
+  pub lev-read : numberAtBy L s (len .next) ≡ accepted lev
+  pub is : record { run = runAfter e (gap .value) (len .value) (lev .value); next = lev .next } ≡ p
+  pub may : mayFollowBy L e v (p .run) ≡ true
+
+-- Of a schedule: its head, and its records.
+pub record ScheduleRead (L : Limits) (s : List ℕ) (rs : List Stretch) : Type 0 where
+  pub head : Reading
+  pub head-at : headAtBy L s ≡ accepted head
+  pub head-read : numberAtBy L s 0 ≡ accepted head
+  pub few : leb (head .value) mostRuns ≡ true
+  pub records : readRecordsBy L (head .value) 0 0 s (head .next) ≡ accepted rs
+
+-- Of records, of which there is one more: the first and the others.
+pub record FirstRead (L : Limits) (k e v : ℕ) (s : List ℕ) (at : ℕ) (rs : List Stretch) : Type 0 where
+  pub first : ReadRun
+  pub others : List Stretch
+  pub first-read : recordAtBy L e v s at ≡ accepted first
+  pub others-read : readRecordsBy L k (first .run .end) (first .run .level) s (first .next) ≡ accepted others
+  pub is : first .run ∷ others ≡ rs
+
+module _ (L : Limits) (s : List ℕ) where
+  pub record-read : (e v at : ℕ) (p : ReadRun) → recordAtBy L e v s at ≡ accepted p → RecordRead L e v s at p
+  unfolding recordAtBy
+  record-read e v at p q =
+      let g = bound (numberAtBy L s at) _ p q in
+      let n = bound (numberAtBy L s (g .first .next)) _ p (g .rest) in
+      let l = bound (numberAtBy L s (n .first .next)) _ p (n .rest) in
+      let r = runAfter e (g .first .value) (n .first .value) (l .first .value) in
+      let t = passed (mayFollowBy L e v r) Row.Schedule _ p (l .rest) in
+      let same : record { run = r; next = l .first .next } ≡ p = let z = t .1 in cc in
+      record {
+        gap = g .first;
+        len = n .first;
+        lev = l .first;
+        gap-read = g .taken;
+        len-read = n .taken;
+        lev-read = l .taken;
+        is = same;
+        may = subst (λ (x : ReadRun). mayFollowBy L e v (x .run) ≡ true) same (t .0);
+      }
+
+  pub first-read : (k e v at : ℕ) (rs : List Stretch) → readRecordsBy L (suc k) e v s at ≡ accepted rs → FirstRead L k e v s at rs
+  unfolding readRecordsBy
+  first-read k e v at rs q =
+      let p = bound (recordAtBy L e v s at) _ rs q in
+      let others = bound (readRecordsBy L k (p .first .run .end) (p .first .run .level) s (p .first .next)) _ rs (p .rest) in
+      record { first = p .first; others = others .first; first-read = p .taken; others-read = others .taken; is = let z = others .rest in cc }
+
+  pub schedule-parts : (rs : List Stretch) → readScheduleBy L s ≡ accepted rs → ScheduleRead L s rs
+  unfolding readScheduleBy headAtBy
+  schedule-parts rs q =
+      let h = bound (headAtBy L s) _ rs (or-ten _ rs q) in
+      let n = bound (numberAtBy L s 0) _ (h .first) (h .taken) in
+      let t = passed (leb (n .first .value) mostRuns) Row.Schedule _ (h .first) (n .rest) in
+      let same : n .first ≡ h .first = let z = t .1 in cc in
+      record {
+        head = h .first;
+        head-at = h .taken;
+        head-read = n .taken ∙ ap accepted same;
+        few = subst (λ (x : Reading). leb (x .value) mostRuns ≡ true) same (t .0);
+        records = h .rest;
+      }
+
+  -- As many runs as were asked for, each of which may follow the one before it.
+  pub records-rise : (k e v at : ℕ) (rs : List Stretch) → readRecordsBy L k e v s at ≡ accepted rs → (length rs ≡ k) × (risingRunsBy L e v rs ≡ true)
+  unfolding readRecordsBy risingRunsBy
+  records-rise zero e v at rs q =
+      let none : [] ≡ rs = let z = passed (eqb at (length s)) Row.Schedule _ rs q .1 in cc in
+      subst (λ (x : List Stretch). (length x ≡ 0) × (risingRunsBy L e v x ≡ true)) none (refl, refl)
+  records-rise (suc k) e v at rs q =
+      let f = first-read k e v at rs q in
+      let more = records-rise k (f .first .run .end) (f .first .run .level) (f .first .next) (f .others) (f .others-read) in
+      subst (λ (x : List Stretch). (length x ≡ suc k) × (risingRunsBy L e v x ≡ true)) (f .is) (ap suc (more .0), and-intro (record-read e v at (f .first) (f .first-read) .may) (more .1))
+
+  -- What can be read is a run list.
+  pub read-list : (rs : List Stretch) → readScheduleBy L s ≡ accepted rs → isRunListBy L rs ≡ true
+  unfolding isRunListBy
+  read-list rs q =
+      let w = schedule-parts rs q in
+      let up = records-rise (w .head .value) 0 0 (w .head .next) rs (w .records) in
+      and-intro (ap (λ (n : ℕ). leb n mostRuns) (up .0) ∙ w .few) (up .1)
+
+-- A record that was read stands there as the writing of its run.
+pub record RecordStands (s : List ℕ) (e at : ℕ) (p : ReadRun) : Type 0 where
+  pub next : p .next ≡ at + length (writeRecord e (p .run))
+  pub split : drop at s ≡ writeRecord e (p .run) ++ drop (p .next) s
+
+module _ (s : List ℕ) (b : Bytes s) where
+  pub record-stands : (e v at : ℕ) (p : ReadRun) → recordAtBy limits e v s at ≡ accepted p → RecordStands s e at p
+  unfolding writeRecordBy
+  record-stands e v at p q =
+      let r = record-read limits s e v at p q in
+      let g = number-read s at (r .gap) b (r .gap-read) in
+      let n = number-read s (r .gap .next) (r .len) b (r .len-read) in
+      let l = number-read s (r .len .next) (r .lev) b (r .lev-read) in
+      let start : e + r .gap .value - e ≡ r .gap .value = omega arith in
+      let long : e + r .gap .value + r .len .value - (e + r .gap .value) ≡ r .len .value = omega arith in
+      subst (RecordStands s e at) (r .is) (record {
+        next = rw (start, long) (simp length-append (omega (arith, g .next, n .next, l .next)));
+        split = rw (start, long) (g .split ∙ rw (n .split, l .split) (simp append-assoc));
+      })
+
+  records-stand : (k e v at : ℕ) (rs : List Stretch) → readRecordsBy limits k e v s at ≡ accepted rs → drop at s ≡ writeRecords e rs
+  unfolding readRecordsBy writeRecordsBy
+  records-stand zero e v at rs q =
+      let t = passed (eqb at (length s)) Row.Schedule _ rs q in
+      let none : [] ≡ rs = let z = t .1 in cc in
+      subst (λ (x : List Stretch). drop at s ≡ writeRecords e x) none (rw (eqb-true at (length s) (t .0)) (drop-length s))
+  records-stand (suc k) e v at rs q =
+      let f = first-read limits s k e v at rs q in
+      let p = f .first in
+      subst (λ (x : List Stretch). drop at s ≡ writeRecords e x) (f .is)
+      (record-stands e v at p (f .first-read) .split ∙ ap (λ (x : List ℕ). writeRecord e (p .run) ++ x) (records-stand k (p .run .end) (p .run .level) (p .next) (f .others) (f .others-read)))
 
 -- What can be read is the writing of a run list.
 pub schedule-read : (s : List ℕ) (rs : List Stretch) → Bytes s → readSchedule s ≡ accepted rs → (isRunList rs ≡ true) × (s ≡ writeSchedule rs)
-unfolding readScheduleBy writeScheduleBy
+unfolding writeScheduleBy
 schedule-read s rs b q =
-    let b1 = bound (numberAt s 0) _ rs (or-ten _ rs q) in
-    let b2 = bound (unless-refuse (leb (b1 .first .value) mostRuns) 10 0) _ rs (b1 .rest) in
-    let b3 = bound (readRecords (b1 .first .value) 0 [] s (b1 .first .next)) _ rs (b2 .rest) in
-    let b4 = bound (unless-refuse (eqb (b3 .first .next) (length s) && isRunList (b3 .first .runs)) 10 0) _ rs (b3 .rest) in
-    finish (b1 .first) (b3 .first) (number-read s 0 _ b (b1 .taken)) (records-read _ 0 [] s _ _ b (b3 .taken)) (tested _ 10 0 _ (b4 .taken)) (b4 .rest)
-  where
-    finish : (n : Reading) (r : Records) → Stands s 0 n → RecordsStand (n .value) 0 [] s (n .next) r → (eqb (r .next) (length s) && isRunList (r .runs)) ≡ true → accepted (r .runs) ≡ accepted rs → (isRunList rs ≡ true) × (s ≡ writeNumber (length rs) ++ writeRecords 0 rs)
-    finish n r sn sr t c =
-        let w : r .runs ≡ rs = cc in
-        subst (λ (z : List Stretch). (isRunList z ≡ true) × (s ≡ writeNumber (length z) ++ writeRecords 0 z)) w
-        (and-right (eqb (r .next) (length s)) _ t, subst (λ (z : List Stretch). s ≡ writeNumber (length z) ++ writeRecords 0 z) (sym (sr .is)) bytes)
-      where
-        end : drop (r .next) s ≡ []
-        end = ap (λ (z : ℕ). drop z s) (eqb-true (r .next) (length s) (and-left (eqb (r .next) (length s)) (isRunList (r .runs)) t)) ∙ drop-length s
-
-        bytes : s ≡ writeNumber (length (sr .more)) ++ writeRecords 0 (sr .more)
-        bytes = sn .split ∙ ap (λ (z : List ℕ). writeNumber (n .value) ++ z) (sr .split ∙ ap (λ (z : List ℕ). writeRecords 0 (sr .more) ++ z) end ∙ append-nil (writeRecords 0 (sr .more)))
-            ∙ ap (λ (z : ℕ). writeNumber z ++ writeRecords 0 (sr .more)) (sym (sr .count))
-
--- Two run lists with one writing are equal.
-pub write-injective : (rs ss : List Stretch) → isRunList rs ≡ true → isRunList ss ≡ true → writeSchedule rs ≡ writeSchedule ss → rs ≡ ss
-write-injective rs ss p q e =
-    let a = read-schedule rs p in
-    let b = read-schedule ss q in
-    let c : accepted rs ≡ accepted ss = sym a ∙ ap readSchedule e ∙ b in
-    cc
-
--- Eleven bytes for each record, and a sixth for a gap or a length from 2 to the 35th on.
-records-length : (e v E : ℕ) (rs : List Stretch) → Rising e v rs → EndsBy E rs → length (writeRecords e rs) ≤ 11 * length rs + (E - e) / 34359738368
-unfolding writeRecordsBy writeRecordBy
-records-length e v E [] h by = omega arith
-records-length e v E (r ∷ rs) h by =
-    rw (length-append (writeRecord e r) (writeRecords (r .end) rs), length-append (writeNumber (r .start - e)) (writeNumber (r .end - r .start) ++ writeNumber (r .level)), length-append (writeNumber (r .end - r .start)) (writeNumber (r .level)))
-    (omega (
-      arith,
-      long-length (r .start - e),
-      long-length (r .end - r .start),
-      small-length (r .level) (omega (arith, h .0 .top)),
-      h .0 .after,
-      h .0 .long,
-      by r (List·Memᴰ·head refl),
-      records-length (r .end) (r .level) E rs (h .1) (λ x m. by x (List·Memᴰ·tail m)),
-    ))
-
--- Runs on a road from A on.
-abbrev pub OnRoadFrom : (A : ℕ) → List Stretch → Type 0
-OnRoadFrom A rs = (r : Stretch) → List·Memᴰ r rs → (A ≤ r .start) × (r .end ≤ A + limits .longestRoad)
-
--- Only the first gap may be longer than a road.
-road-records : (A : ℕ) (ss : List Stretch) → Rising 0 0 ss → OnRoadFrom A ss → length (writeRecords 0 ss) ≤ 11 * length ss + 1
-unfolding writeRecordsBy writeRecordBy
-road-records A [] u o = omega arith
-road-records A (r ∷ ss) u o =
-    let here = o r (List·Memᴰ·head refl) in
-    rw (length-append (writeRecord 0 r) (writeRecords (r .end) ss), length-append (writeNumber (r .start - 0)) (writeNumber (r .end - r .start) ++ writeNumber (r .level)), length-append (writeNumber (r .end - r .start)) (writeNumber (r .level)))
-    (omega (
-      arith,
-      number-length (r .start - 0),
-      long-length (r .end - r .start),
-      small-length (r .level) (omega (arith, u .0 .top)),
-      here .0,
-      here .1,
-      u .0 .long,
-      records-length (r .end) (r .level) (A + limits .longestRoad) ss (u .1) (λ x m. o x (List·Memᴰ·tail m) .1),
-    ))
-
--- A schedule of one road has at most 5,624 bytes: two for the count, eleven for each of 511 records, and a sixth for the
--- first gap.
-pub road-bytes : (A : ℕ) (rs : List Stretch) → isRunList rs ≡ true → OnRoadFrom A rs → length (writeSchedule rs) ≤ 5624
-unfolding writeScheduleBy isRunListBy
-road-bytes A rs h on =
-    let count = leb-true (length rs) mostRuns (and-left _ (risingRuns 0 0 rs) h) in
-    let up = rising 0 0 rs (and-right (leb (length rs) mostRuns) _ h) in
-    rw (length-append (writeNumber (length rs)) (writeRecords 0 rs)) (omega (arith, middle-length (length rs) (omega arith), road-records A rs up on))
+    let w = schedule-parts limits s rs q in
+    let n = w .head in
+    let count = records-rise limits s (n .value) 0 0 (n .next) rs (w .records) .0 in
+    (read-list limits s rs q, number-read s 0 n b (w .head-read) .split ∙ rw (count, records-stand s b (n .value) 0 0 (n .next) rs (w .records)))

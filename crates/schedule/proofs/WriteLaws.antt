@@ -8,7 +8,8 @@ use mathlib.Core.Bool.{true}
 use mathlib.Core.List.{List, [], _∷_, _++_, append-assoc, append-nil}
 use lib.ListN.{length, getD, length-append}
 use Rattle.number.specs.Number.{writeNumber, groupCount, placed}
-use Rattle.number.proofs.NumberLaws.{number-length, group-count, placed-append, placed-length}
+use Rattle.number.proofs.WriteLaws.{number-length, group-count}
+use Rattle.number.proofs.PlaceLaws.{placed-append, placed-length}
 use Rattle.runs.specs.declared.Stretch.{Stretch}
 use Rattle.runs.specs.RunList.{isRunList, runsTo, lastEnd}
 use Rattle.runs.proofs.StoredLaws.{run, firstRuns, behind, run-next}

@@ -4,8 +4,9 @@ use Prim.Native.Nat.{ℕ, _+_, _-_}
 use mathlib.Core.List.{List, _++_}
 use lib.ListN.{length, drop}
 use lib.Dec.{leb}
-use Rattle.refusal.specs.Answer.{Answer, accepted, refused, _>>=_, unless-refuse}
-use Rattle.refusal.specs.Refusal.{refusal}
+use Rattle.refusal.specs.Answer.{Answer, accepted, refused, _>>=_}
+use Rattle.refusal.specs.Refusal.{unless-refuse, refusal}
+use Rattle.refusal.specs.declared.Refusal.the-variants as Row
 use Rattle.refusal.specs.Limits.{Limits, limits}
 use Rattle.planning.specs.declared.Overhangs.{Overhangs}
 use Rattle.planning.specs.Envelope.{sideOverhangs, acceptJobBy}
@@ -22,13 +23,13 @@ pub record PlannedSide : Type 0 where
 
 -- A schedule to be written into `room` bytes: 9 returns the bytes needed.
 unfoldable pub fitted : (schedule : List ℕ) (overhangs : Overhangs) (room : ℕ) → Answer PlannedSide
-fitted w o room = unless-refuse (leb (length w) room) 9 (length w) >>= λ _. accepted (record { schedule = w; overhangs = o })
+fitted w o room = unless-refuse (leb (length w) room) (Row.Room (length w)) >>= λ _. accepted (record { schedule = w; overhangs = o })
 
 -- The schedule to be written and the overhangs, or the refusal: "8; then numbers as they stand, each for 1, 2 and its range; 7; hazards in
 -- order, both sides", for 5; "9".
 unfoldable pub planBy : Limits → (s : List ℕ) (side room : ℕ) → Answer PlannedSide
 planBy L s side room =
-    unless-refuse (leb side 1) 8 0 >>= λ _.
+    unless-refuse (leb side 1) Row.Argument >>= λ _.
     acceptJobBy L s >>= λ j.
     fitted (writeScheduleBy L (jobRuns j side)) (sideOverhangs j side) room
 

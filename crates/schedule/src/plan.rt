@@ -17,7 +17,7 @@ ghost use mathlib.Core.Bool.{true};
 ghost use Prim.Native.Nat.{_≤_, _<_};
 ghost use lib.ListN.{length};
 ghost use Rattle.job.specs.Job.{jobOf};
-ghost use Rattle.job.proofs.JobLaws.{JobFits};
+ghost use Rattle.job.specs.Fits.{JobFits};
 ghost use Rattle.runs.specs.Required.{requiredRuns};
 ghost use Rattle.runs.specs.RunList.{isRunList, runsOf, envelopesOf};
 ghost use Rattle.runs.specs.Stored.{StoredEnvelopes};

@@ -3,8 +3,9 @@
 use Prim.Native.Nat.{ℕ}
 use mathlib.Core.List.{List}
 use lib.Dec.{leb}
-use Rattle.refusal.specs.Answer.{Answer, accepted, _>>=_, unless-refuse}
-use Rattle.refusal.specs.Refusal.{refusal}
+use Rattle.refusal.specs.Answer.{Answer, accepted, _>>=_}
+use Rattle.refusal.specs.Refusal.{unless-refuse, refusal}
+use Rattle.refusal.specs.declared.Refusal.the-variants as Row
 use Rattle.refusal.specs.Limits.{Limits, limits}
 use Rattle.planning.specs.Envelope.{acceptJobBy}
 use Rattle.planning.specs.Required.{jobLevel}
@@ -15,7 +16,7 @@ use Rattle.station_level.specs.declared.reply.Level.the-variants as Leve
 -- without making runs" is said of the code.)
 unfoldable pub levelAtBy : Limits → (s : List ℕ) (side t : ℕ) → Answer ℕ
 levelAtBy L s side t =
-    unless-refuse (leb side 1) 8 0 >>= λ _.
+    unless-refuse (leb side 1) Row.Argument >>= λ _.
     acceptJobBy L s >>= λ j.
     accepted (jobLevel j side t)
 

@@ -8,7 +8,7 @@ use refusal::Outcome;
 use refusal::Refusal;
 ghost use mathlib.Core.Path.{_≡_};
 ghost use Rattle.job.specs.Job.{jobOf};
-ghost use Rattle.job.proofs.JobLaws.{JobFits};
+ghost use Rattle.job.specs.Fits.{JobFits};
 ghost use Rattle.station_level.specs.Level.{levelReply};
 ghost use Rattle.station_level.specs.Level as spec;
 ghost use Rattle.station_level.specs.Steps.{testedLevel};

@@ -9,7 +9,8 @@ use native.Mathlib.Omega.{arith}
 use lib.ListN.{length, length-set}
 use lib.Seq.{sets}
 use Rattle.number.specs.Number.{writeNumber, greatest}
-use Rattle.number.proofs.NumberLaws.{write-one, write-step, placed-sets}
+use Rattle.number.proofs.WriteLaws.{write-one, write-step}
+use Rattle.number.proofs.PlaceLaws.{placed-sets}
 use Rattle.number.proofs.put_number.Statement.{statement}
 use Rattle.number.proofs.put_number.Tie as tie
 

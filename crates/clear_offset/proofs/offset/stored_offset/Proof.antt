@@ -1,11 +1,16 @@
 -- `clear_offset::offset::stored_offset` meets its contract: 14, or the search of the hazard as it is stored. Assumes nothing.
+use Prim.Native.Nat.{_≤_}
 use native.Mathlib.Omega.{arith}
 use mathlib.Core.Path.{sym, _∙_}
 use borrow.Author.Needs.{needs}
+use Rattle.job.proofs.RangeLaws.{header-bounds}
 use Rattle.planning.proofs.ApproachedLaws.{stored-none, stored-unreached, stored-fits, stored-approached}
 use Rattle.clear_offset.proofs.OffsetLaws.{none-asked, one-asked, approached-clear}
 use Rattle.clear_offset.proofs.offset.stored_offset.Statement.{statement}
 use Rattle.clear_offset.proofs.offset.stored_offset.Tie as tie
+
+few : (s : tie.Start) → s .args .t1 .header .count ≤ 256
+few s = header-bounds (s .args .t1 .header) (s .pre .fits .header) .count
 
 returns : tie.Need-returns
 returns c =
@@ -36,8 +41,8 @@ stored-offset-spec =
     tie.close
     (tie.spec
     returns
-    (λ c. search needs)
-    (λ c. search needs)
+    (λ c. omega (arith, few (c .before .before .before)))
+    (λ c. omega (arith, few (c .before .before .before)))
     (λ c κs. search needs)
     (λ c. search needs)
     returns-2

@@ -1,6 +1,7 @@
 -- `clear_offset::search::length_at` meets its contract: the length that the approach crate promises. Assumes nothing.
 use mathlib.Core.Path.{_≡_, sym, ap, _∙_}
 use borrow.Author.Needs.{needs}
+use Rattle.job.proofs.RangeLaws.{header-bounds}
 use Rattle.planning.specs.Envelope.{adjacentTraffic, runout}
 use Rattle.clear_offset.proofs.LengthLaws.{offset-domain, length-is}
 use Rattle.clear_offset.proofs.search.length_at.Statement.{statement}
@@ -14,8 +15,8 @@ raised-length-requires : tie.Need-raised-length-requires
 raised-length-requires c κs =
     let r = c .before in
     let start = r .before .before in
-    let fits = start .pre .0 .header in
-    (fits .panel-low, (fits .panel-top, rw (c .adjacent-reach .ensures, own-runout r) (offset-domain _ _ (start .pre .0) _ (start .pre .1))))
+    let bounds = header-bounds (start .args .header) (start .pre .0 .header) in
+    (bounds .panel-low, (bounds .panel-top, rw (c .adjacent-reach .ensures, own-runout r) (offset-domain _ _ (start .pre .0) _ (start .pre .1))))
 
 returns : tie.Need-returns
 returns c =

@@ -3,6 +3,7 @@ use mathlib.Core.Path.{sym, ap, _∙_}
 use borrow.Author.Needs.{needs}
 use borrow.Author.Tests.{lt-ltb}
 use Rattle.refusal.specs.Answer.{accepted}
+use Rattle.job.proofs.RangeLaws.{hazard-bounds}
 use Rattle.planning.specs.Envelope.{Traffic}
 use Rattle.planning.proofs.AdjacentLaws.{is-adjacent, adjacent-reaches}
 use Rattle.corners.specs.Corners.{approachPoints}
@@ -15,7 +16,7 @@ approach-lengths-requires c κs =
     let s = c .before in
     let a = s .args in
     let w = s .pre .0 in
-    let side = w .hazard .side in
+    let side = hazard-bounds (a .header) (a .hazard) (w .hazard) .side in
     let reach = adjacent-reaches (a .header) (a .hazard) side ∙ lt-ltb (a .hazard .near) (a .header .zone) (w .reach) in
     (w .header, (w .hazard, (w .clear, rw (c .adjacent-traffic .ensures) (is-adjacent (a .header) (a .hazard .side) side .beside, reach))))
 

@@ -1,11 +1,16 @@
 -- `corners::call::job_corners` meets its contract: 14, or the corners of the hazard as it is stored. Assumes nothing.
+use Prim.Native.Nat.{_≤_}
 use native.Mathlib.Omega.{arith}
 use borrow.Author.Needs.{needs}
+use Rattle.job.proofs.RangeLaws.{header-bounds}
 use Rattle.planning.proofs.ApproachedLaws.{stored-none, stored-unreached, stored-fits, stored-approached}
 use Rattle.corners.specs.Steps.{jobCorners}
 use Rattle.corners.proofs.CallLaws.{replies-as}
 use Rattle.corners.proofs.call.job_corners.Statement.{statement}
 use Rattle.corners.proofs.call.job_corners.Tie as tie
+
+few : (s : tie.Start) → s .args .t1 .header .count ≤ 256
+few s = header-bounds (s .args .t1 .header) (s .pre .0 .fits .header) .count
 
 returns : tie.Need-returns
 unfolding jobCorners
@@ -40,4 +45,4 @@ returns-3 c =
 pub job-corners-spec : {M : Type 1} → statement M
 job-corners-spec =
     tie.close
-    (tie.spec (λ c κs. search needs) returns (λ c. search needs) (λ c. search needs) (λ c κs. search needs) (λ c. search needs) (λ c κs. search needs) returns-2 hazard-corners-requires returns-3)
+    (tie.spec (λ c κs. search needs) returns (λ c. omega (arith, few (c .before .before .before))) (λ c. omega (arith, few (c .before .before .before))) (λ c κs. search needs) (λ c. search needs) (λ c κs. search needs) returns-2 hazard-corners-requires returns-3)

@@ -1,12 +1,23 @@
 -- `corners::points::approach_corners` meets its contract: the flare entered, or not. Assumes nothing.
+use Prim.Native.Nat.{ℕ, _≤_}
 use native.Mathlib.Omega.{arith}
 use mathlib.Core.Path.{refl}
 use mathlib.Core.Bool.{true, false}
-use borrow.Author.Needs.{needs}
+use Rattle.job.proofs.RangeLaws.{HeaderBounds, header-bounds, hazard-bounds}
 use Rattle.planning.specs.Reply.{trafficOf}
+use Rattle.corners.specs.Steps.{OnSheet, StationFits}
 use Rattle.corners.proofs.PointLaws.{lengths-past-straight, across-top, away-top, approach-reply}
 use Rattle.corners.proofs.points.approach_corners.Statement.{statement}
 use Rattle.corners.proofs.points.approach_corners.Tie as tie
+
+header : (s : tie.Start) → HeaderBounds (s .args .header)
+header s = header-bounds (s .args .header) (s .pre .0)
+
+-- A corner may be asked for up to 210,000 mm upstream of the hazard and 2,120,000 mm off the edge.
+corner-fits : (s : tie.Start) (distance offset : ℕ) → distance ≤ 210000 → offset ≤ 2120000 → StationFits (s .args .hazard) distance × ((offset ≤ 2120000) × OnSheet (s .args .sheet))
+corner-fits s distance offset near top =
+    let hazard = hazard-bounds (s .args .header) (s .args .hazard) (s .pre .1 .0) in
+    (record { start = omega (arith, hazard .long, hazard .ends, header s .road-end); end = omega (arith, hazard .ends, header s .road-end); near = near }, (top, s .pre .1 .1 .1))
 
 sub-away : tie.Need-sub-away
 sub-away c =
@@ -21,16 +32,22 @@ mul-away c =
 add-corner-at : tie.Need-add-corner-at
 add-corner-at c =
     let s = c .before .before .before .before .before .before .before in
-    omega (arith, s .pre .0 .offset-top, away-top (s .args .header) (s .pre .0) (s .args .lengths) (s .pre .1 .1 .0 .few))
+    omega (arith, header s .offset-top, away-top (s .args .header) (s .pre .0) (s .args .lengths) (s .pre .1 .1 .0 .few))
 
 corner-at-requires-2 : tie.Need-corner-at-requires-2
 corner-at-requires-2 c κs =
     let s = c .before .before .before .before .before .before .before in
-    let fits = s .pre .0 in
-    let hazard = s .pre .1 .0 in (
-      record { start = omega (arith, hazard .long, hazard .ends, fits .road-end); end = omega (arith, hazard .ends, fits .road-end); near = omega (arith, s .pre .1 .1 .0 .few) },
-      (omega (arith, fits .offset-top, away-top (s .args .header) fits (s .args .lengths) (s .pre .1 .1 .0 .few)), s .pre .1 .1 .1),
-    )
+    corner-fits s _ _ (omega (arith, s .pre .1 .1 .0 .few)) (omega (arith, header s .offset-top, away-top (s .args .header) (s .pre .0) (s .args .lengths) (s .pre .1 .1 .0 .few)))
+
+corner-at-requires-3 : tie.Need-corner-at-requires-3
+corner-at-requires-3 c κs =
+    let s = c .before .before .before .before .before .before .before .before in
+    corner-fits s _ _ (omega (arith, header s .straight-top)) (omega (arith, header s .offset-top))
+
+corner-at-requires-4 : tie.Need-corner-at-requires-4
+corner-at-requires-4 c κs =
+    let s = c .before .before .before .before in
+    corner-fits s _ _ (omega (arith, s .pre .1 .1 .0 .few)) (omega (arith, header s .offset-top))
 
 returns : tie.Need-returns
 returns c =
@@ -47,4 +64,5 @@ returns-2 c =
 pub approach-corners-spec : {M : Type 1} → statement M
 approach-corners-spec =
     tie.close
-    (tie.spec (λ c κs. search needs) sub-away mul-away (λ c. search needs) add-corner-at corner-at-requires-2 (λ c κs. search needs) returns (λ c κs. search needs) returns-2)
+    (tie.spec (λ c κs. corner-fits c _ _ (omega arith) (omega (arith, header c .offset-top))) sub-away mul-away
+    (λ c. omega (arith, header (c .before .before .before .before .before .before .before) .along-low)) add-corner-at corner-at-requires-2 corner-at-requires-3 returns corner-at-requires-4 returns-2)

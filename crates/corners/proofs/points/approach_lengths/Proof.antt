@@ -1,5 +1,6 @@
 -- `corners::points::approach_lengths` meets its contract: the approach crate's promises, asked in the formula's domain. Assumes nothing.
 use borrow.Author.Needs.{needs}
+use Rattle.job.proofs.RangeLaws.{header-bounds}
 use Rattle.planning.specs.Reply.{trafficOf}
 use Rattle.corners.proofs.PointLaws.{asked-domain, asked-lengths}
 use Rattle.corners.proofs.points.approach_lengths.Statement.{statement}
@@ -15,7 +16,8 @@ raised-length-requires c κs =
     let s = c .before .before .before in
     let fits = s .pre .0 in
     let domain = asked-domain (s .args .header) (s .args .hazard) (trafficOf (s .args .traffic)) fits (s .pre .1 .0) (s .pre .1 .1 .0) (s .pre .1 .1 .1 .0) (s .pre .1 .1 .1 .1) (c .before .before .runout-length .ensures) (c .before .adjacent-reach .ensures) in
-    (fits .panel-low, (fits .panel-top, domain))
+    let bounds = header-bounds (s .args .header) fits in
+    (bounds .panel-low, (bounds .panel-top, domain))
 
 returns : tie.Need-returns
 returns c =

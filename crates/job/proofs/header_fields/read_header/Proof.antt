@@ -3,9 +3,10 @@
 -- Assumes nothing.
 use Prim.Native.Nat.{_-_}
 use native.Mathlib.Omega.{arith}
-use mathlib.Core.Path.{_∙_}
+use mathlib.Core.Path.{refl, _∙_}
 use borrow.Author.Needs.{needs}
-use Rattle.job.proofs.HeaderLaws.{HeaderLeft, all-left, one-less, header-refused, header-plain, header-counted}
+use Rattle.job.proofs.ArrayLaws.{all-left}
+use Rattle.job.proofs.HeaderLaws.{HeaderLeft, header-number, header-refused, header-plain, header-counted}
 use Rattle.job.proofs.header_fields.read_header.Statement.{statement}
 use Rattle.job.proofs.header_fields.read_header.Tie as tie
 
@@ -18,14 +19,12 @@ abbrev μ-loop : tie.MeasureT-loop
 returns : tie.Need-returns Inv-loop μ-loop
 returns c =
     let r = c .before .before .before in
-    let l = r .before .before .before .loop in
-    header-refused (r .read-field .result) (l .inv) (r .before .before .loop-test .taken) (r .before .header-range .ensures) (r .read-field .ensures) (c .before .refusal .given .1)
+    header-refused (r .before .before .before .loop .inv) (r .before .before .loop-test .taken) (r .read-field .result) (r .before .header-range .ensures) (r .read-field .ensures) (c .before .refusal .given .1)
 
 loop-again : tie.Need-loop-again Inv-loop μ-loop
 loop-again c =
     let r = c .before .before .before in
-    let l = r .before .before .before .loop in
-    one-less (r .read-field .result) (l .inv) (r .before .before .loop-test .taken) (r .before .header-range .ensures) (r .read-field .ensures) (c .before .reading .given .1)
+    header-number (r .before .before .before .loop .inv) (r .before .before .loop-test .taken) (r .read-field .result) (r .before .header-range .ensures) (r .read-field .ensures) (c .before .reading .given .1)
 
 read-count-requires : tie.Need-read-count-requires Inv-loop μ-loop
 read-count-requires c κs = (c .before .before .loop .inv .room, c .if1 .taken)
@@ -39,6 +38,6 @@ returns-3 c = rw (c .header-with .ensures) (header-plain (c .before .before .bef
 pub read-header-spec : {M : Type 1} → statement M
 read-header-spec =
     tie.close
-    (tie.spec Inv-loop μ-loop (λ c. all-left) (λ c. search needs) (λ c. search needs) (λ c κs. search needs) (λ c. omega arith) (λ c κs. search needs)
+    (tie.spec Inv-loop μ-loop (λ c. all-left _ refl (omega arith)) (λ c. search needs) (λ c. search needs) (λ c κs. search needs) (λ c. omega arith) (λ c κs. search needs)
     (λ c. search needs) (λ c. omega arith) (λ c. search needs) (λ c. search needs) returns
     (λ c. omega arith) (λ c. omega arith) loop-again (λ c. search needs) read-count-requires returns-2 (λ c. search needs) (λ c κs. search needs) returns-3)

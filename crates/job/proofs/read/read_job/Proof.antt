@@ -5,6 +5,7 @@ use mathlib.Core.Path.{_≡_, sym, ap, _∙_}
 use borrow.Author.Needs.{needs}
 use Rattle.refusal.specs.Answer.{accepted}
 use Rattle.job.specs.Reply.{headerAt, headerAnswer}
+use Rattle.job.proofs.RangeLaws.{header-bounds}
 use Rattle.job.proofs.JobLaws.{header-at-fits}
 use Rattle.job.proofs.RestLaws.{job-step, replies-refused}
 use Rattle.job.proofs.read.read_job.Statement.{statement}
@@ -15,7 +16,7 @@ read : (c : tie.After-header) → headerAt (c .before .before .before .before .a
 read c = sym (c .before .before .read-header .ensures) ∙ ap headerAnswer (c .header .given .1)
 
 read-rest-requires : tie.Need-read-rest-requires
-read-rest-requires c κs = let fits = header-at-fits _ _ (read (c .before)) in (omega (arith, fits .road), fits .count)
+read-rest-requires c κs = let bounds = header-bounds _ (header-at-fits _ _ (read (c .before))) in (omega (arith, bounds .road), bounds .count)
 
 returns : tie.Need-returns
 returns c = rw (job-step (c .before .before .before .before .before .before .args .s .now), read (c .before .before)) (c .read-rest .ensures)

@@ -2,7 +2,7 @@
 use mathlib.Core.Path.{sym, ap, _∙_}
 use borrow.Author.Needs.{needs}
 use Rattle.open_memory.specs.Memory.{isOpenJob}
-use Rattle.kept_states.proofs.PartLaws.{sound-used, sound-unused}
+use Rattle.kept_states.proofs.StateLaws.{sound-used, sound-unused}
 use Rattle.kept_states.proofs.states.kept_sound.Statement.{statement}
 use Rattle.kept_states.proofs.states.kept_sound.Tie as tie
 

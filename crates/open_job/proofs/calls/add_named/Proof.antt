@@ -1,6 +1,6 @@
 -- `open_job::calls::add_named` meets its contract: the name, the room, then the tests of the hazard, and then it is put in. Assumes nothing.
 use native.Mathlib.Omega.{arith}
-use mathlib.Core.Path.{_≡_, sym, ap, _∙_}
+use mathlib.Core.Path.{_≡_, refl, sym, ap, _∙_}
 use mathlib.Core.Bool.{false}
 use lib.ListN.{length, length-map}
 use borrow.Author.Needs.{needs}
@@ -10,11 +10,11 @@ use Rattle.refusal.specs.Refusal.{outcome}
 use Rattle.refusal.specs.declared.Refusal.the-variants.{Name, Full}
 use Rattle.refusal.specs.declared.Outcome.{Outcome}
 use Rattle.open_memory.specs.Memory.{hazardGiven, standing, stands, isFull, admit}
-use Rattle.open_memory.proofs.RangeLaws.{hazard-ranged}
-use Rattle.open_memory.proofs.RuleLaws.{admitted, open-ranged, open-header, open-clear}
+use Rattle.open_memory.proofs.RuleLaws.{admitted, open-header, open-count, open-clear}
 use Rattle.open_memory.proofs.PlaceLaws.{rank-most}
 use Rattle.open_memory.proofs.WalkLaws.{standing-length}
-use Rattle.open_job.proofs.CallLaws.{changes-refused, changes-done, full-count, add-stands, add-full, add-tested, add-done}
+use Rattle.open_job.specs.Open.{addTo}
+use Rattle.open_job.proofs.CallLaws.{changes-refused, changes-done, full-count, add-done}
 use Rattle.open_job.proofs.calls.add_named.Statement.{statement}
 use Rattle.open_job.proofs.calls.add_named.Tie as tie
 
@@ -23,16 +23,17 @@ size : (c : tie.Start) → length (c .args .job .hazards) ≡ 256
 size c = simp length-map at (c .good .0 .1 .1 .1 .0 .1 .0 .1)
 
 place-of-requires : tie.Need-place-of-requires
-place-of-requires c κs = open-header (c .args .job) (c .pre) .count
+place-of-requires c κs = open-count (c .args .job) (c .pre)
 
 stands-at-requires : tie.Need-stands-at-requires
 stands-at-requires c κs = (c .before .pre, c .place-of .ensures)
 
 returns : tie.Need-returns
+unfolding addTo
 returns c =
     let t = c .before in
     let s = t .before .before .before in
-    changes-refused (s .args .job) (Name (s .args .name)) (add-stands (s .args .job) (s .pre) (s .args .name) (hazardGiven (s .args .hazard)) (sym (t .before .stands-at .ensures) ∙ t .if1 .taken)) (c .unchanged .ensures)
+    rw (s .pre, sym (t .before .stands-at .ensures) ∙ t .if1 .taken) (changes-refused (s .args .job) (Name (s .args .name)) refl (c .unchanged .ensures))
 
 -- The name does not stand.
 fresh : (c : tie.Else1) → let a = c .before .before .before .args in stands (a .name) (standing (a .job)) ≡ false
@@ -45,15 +46,15 @@ room c =
     full-count (s .args .job) (s .pre) (size s) ∙ lt-leb 256 (s .args .job .header .count) (omega arith)
 
 returns-2 : tie.Need-returns-2
+unfolding addTo
 returns-2 c =
     let t = c .before in
     let e = t .before .before .before in
     let s = e .before .before .before in
-    let full = full-count (s .args .job) (s .pre) (size s) ∙ le-leb 256 (s .args .job .header .count) (t .if2 .taken) in
-    changes-refused (s .args .job) Full (add-full (s .args .job) (s .pre) (s .args .name) (hazardGiven (s .args .hazard)) (fresh e) full) (c .unchanged2 .ensures)
+    rw (s .pre, fresh e, full-count (s .args .job) (s .pre) (size s) ∙ le-leb 256 (s .args .job .header .count) (t .if2 .taken)) (changes-refused (s .args .job) Full refl (c .unchanged2 .ensures))
 
 test-given-requires : tie.Need-test-given-requires
-test-given-requires c κs = let s = c .before .before .before .before .before .before in open-ranged (s .args .job) (s .pre)
+test-given-requires c κs = let s = c .before .before .before .before .before .before in open-header (s .args .job) (s .pre)
 
 may : (c : tie.After-enum-told) → let a = c .before .before .before .before .before .before .before .before .before .args in accepted tt ≡ admit (a .job .header) (a .name) (hazardGiven (a .hazard))
 may c = ap (λ (o : Outcome). outcome o tt) (sym (c .enum-told .given .1)) ∙ c .before .before .test-given .ensures
@@ -62,14 +63,14 @@ under-name-requires : tie.Need-under-name-requires
 under-name-requires c κs =
     let s = c .before .before .before .before .before .before .before .before .before in
     let z = hazardGiven (s .args .hazard) in
-    (open-ranged (s .args .job) (s .pre), hazard-ranged (s .args .job .header) z (admitted (s .args .job .header) (s .args .name) z (rw (sym (may c))) .fits))
+    (open-header (s .args .job) (s .pre), admitted (s .args .job .header) (s .args .name) z (rw (sym (may c))) .fits)
 
 put-in-requires : tie.Need-put-in-requires
 put-in-requires c κs =
     let t = c .before in
     let e = t .before .before .before .before .before .before in
     let s = e .before .before .before in
-    let few = open-header (s .args .job) (s .pre) .count in
+    let few = open-count (s .args .job) (s .pre) in
     let at = e .before .before .place-of .ensures in
     (open-clear (s .args .job) (s .pre) (size s), (omega (arith, t .before .before .before .if2 .left), omega (arith, rank-most (s .args .name) (standing (s .args .job)), standing-length (s .args .job) (size s) few)))
 
@@ -82,13 +83,13 @@ returns-3 c =
     rw (c .put-in .ensures, c .before .under-name .ensures) (changes-done (s .args .job) done)
 
 returns-4 : tie.Need-returns-4
+unfolding addTo
 returns-4 c =
     let x = c .before .before .outcome .given in
     let r = c .before .before .before .before in
     let e = r .before .before .before .before in
     let s = e .before .before .before in
-    changes-refused (s .args .job) (x .0 .0)
-    (add-tested (s .args .job) (s .pre) (s .args .name) (hazardGiven (s .args .hazard)) (fresh e) (room (r .before)) (x .0 .0) (ap (λ (o : Outcome). outcome o tt) (sym (x .1)) ∙ r .test-given .ensures)) (c .unchanged3 .ensures)
+    rw (s .pre, fresh e, room (r .before), sym (r .test-given .ensures) ∙ ap (λ (o : Outcome). outcome o tt) (x .1)) (changes-refused (s .args .job) (x .0 .0) refl (c .unchanged3 .ensures))
 
 pub add-named-spec : {M : Type 1} → statement M
 add-named-spec =

@@ -6,7 +6,8 @@ use borrow.Author.Needs.{needs}
 use Rattle.schedule.specs.Plan.{bytesWritten}
 use Rattle.open_memory.specs.Memory.{isOpenJob}
 use Rattle.open_memory.proofs.RuleLaws.{open-accepted}
-use Rattle.open_job.proofs.CallLaws.{schedule-bad, schedule-eight, schedule-stored, schedule-most, schedule-done}
+use Rattle.open_job.specs.Open.{scheduleOf}
+use Rattle.open_job.proofs.CallLaws.{schedule-eight, schedule-stored, schedule-most, schedule-done}
 use Rattle.open_job.proofs.calls.schedule.Statement.{statement}
 use Rattle.open_job.proofs.calls.schedule.Tie as tie
 
@@ -46,10 +47,8 @@ returns-2 c =
     rw (schedule-done (s .args .job) (s .args .side) (good t) (size s) (r .side-envelopes .result) (r .side-envelopes .ensures) (length (s .args .out .now)) (r .before .if2 .left)) (c .before .before .plan-envelopes .ensures)
 
 returns-3 : tie.Need-returns-3
-unfolding bytesWritten
-returns-3 c =
-    let a = c .before .before .before .args in
-    rw (schedule-bad (a .job) (a .side) (length (a .out .now)) (sym (c .before .is-open-job .ensures) ∙ c .if1 .left)) (refl, refl)
+unfolding bytesWritten scheduleOf
+returns-3 c = rw (sym (c .before .is-open-job .ensures) ∙ c .if1 .left) (refl, refl)
 
 pub schedule-spec : {M : Type 1} → statement M
 schedule-spec =

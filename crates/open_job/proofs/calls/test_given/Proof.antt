@@ -4,8 +4,8 @@ use mathlib.Core.Bool.{Bool, true}
 use borrow.Author.Needs.{needs}
 use Rattle.job.specs.Job.{unnamed}
 use Rattle.planning.specs.Envelope.{standsNear}
-use Rattle.open_memory.specs.Memory.{hazardGiven, hazardInRange}
-use Rattle.open_memory.proofs.RangeLaws.{header-fits, hazard-fits}
+use Rattle.job.specs.Fits.{hazardInRange}
+use Rattle.open_memory.specs.Memory.{hazardGiven}
 use Rattle.open_memory.proofs.RuleLaws.{admit-unranged}
 use Rattle.open_job.proofs.CallLaws.{given-near, given-clear}
 use Rattle.open_job.proofs.calls.test_given.Statement.{statement}
@@ -22,8 +22,7 @@ given c = c .unnamed .ensures ∙ ap unnamed (c .before .under-name .ensures)
 stands-near-requires : tie.Need-stands-near-requires
 stands-near-requires c κs =
     let s = c .before .before .before .before in
-    let z = hazardGiven (s .args .hazard) in
-    (header-fits (s .args .header) (s .pre), rw (given c) (hazard-fits (s .args .header) z (ranged (c .before .before))))
+    (s .pre, rw (given c) (ranged (c .before .before)))
 
 -- What the test said.
 told : (c : tie.After-stands-near) (b : Bool) → c .stands-near .result ≡ b → let a = c .before .before .before .before .before .args in standsNear (a .header) (hazardGiven (a .hazard)) ≡ b

@@ -2,8 +2,7 @@
 use native.Mathlib.Omega.{arith}
 use mathlib.Core.Path.{_≡_}
 use lib.ListN.{length, length-map}
-use borrow.Author.Needs.{needs}
-use Rattle.open_memory.proofs.RuleLaws.{open-header}
+use Rattle.open_memory.proofs.RuleLaws.{open-count}
 use Rattle.open_memory.proofs.WalkLaws.{stands-tested, stands-beyond}
 use Rattle.open_memory.proofs.places.stands_at.Statement.{statement}
 use Rattle.open_memory.proofs.places.stands_at.Tie as tie
@@ -13,10 +12,10 @@ size : (c : tie.Start) → length (c .args .t1 .hazards) ≡ 256
 size c = simp length-map at (c .good .0 .1 .1 .1 .0 .1 .0 .1)
 
 mul-p : tie.Need-mul-p
-mul-p c = let s = c .before .before in omega (arith, open-header (s .args .t1) (s .pre .0) .count)
+mul-p c = let s = c .before .before in omega (arith, open-count (s .args .t1) (s .pre .0))
 
 element-copy-out-p : tie.Need-element-copy-out-p
-element-copy-out-p c = let s = c .before .before in omega (arith, open-header (s .args .t1) (s .pre .0) .count)
+element-copy-out-p c = let s = c .before .before in omega (arith, open-count (s .args .t1) (s .pre .0))
 
 returns : tie.Need-returns
 returns c =

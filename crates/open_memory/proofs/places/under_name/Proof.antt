@@ -1,14 +1,13 @@
 -- `open_memory::places::under_name` meets its contract: numbers in range fit the narrower ones. Assumes nothing.
 use native.Mathlib.Omega.{arith}
 use borrow.Author.Needs.{needs}
-use Rattle.job.proofs.JobLaws.{HazardFits}
+use Rattle.job.proofs.RangeLaws.{HazardBounds, hazard-bounds}
 use Rattle.open_memory.specs.Memory.{hazardGiven}
-use Rattle.open_memory.proofs.RangeLaws.{hazard-fits}
 use Rattle.open_memory.proofs.places.under_name.Statement.{statement}
 use Rattle.open_memory.proofs.places.under_name.Tie as tie
 
-hazard : (c : tie.Start) → HazardFits (c .args .header) (hazardGiven (c .args .z))
-hazard c = hazard-fits (c .args .header) (hazardGiven (c .args .z)) (c .pre .1)
+hazard : (c : tie.Start) → HazardBounds (c .args .header) (hazardGiven (c .args .z))
+hazard c = hazard-bounds (c .args .header) (hazardGiven (c .args .z)) (c .pre .1)
 
 near : tie.Need-cast-t4
 near c = let s = c .before in record { fits = omega (arith, hazard s .offsets, hazard s .far-top) }

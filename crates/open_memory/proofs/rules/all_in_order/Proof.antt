@@ -4,7 +4,7 @@ use native.Mathlib.Omega.{arith}
 use mathlib.Core.Path.{_≡_, sym, _∙_}
 use lib.ListN.{length, length-map}
 use borrow.Author.Needs.{needs}
-use Rattle.open_memory.proofs.RangeLaws.{header-fits}
+use Rattle.job.proofs.RangeLaws.{header-bounds}
 use Rattle.open_memory.proofs.WalkLaws.{OrderLeft, order-start, order-next, order-not, order-all}
 use Rattle.open_memory.proofs.rules.all_in_order.Statement.{statement}
 use Rattle.open_memory.proofs.rules.all_in_order.Tie as tie
@@ -20,31 +20,31 @@ size : (c : tie.Start Inv-loop μ-loop) → length (c .args .t1 .hazards) ≡ 25
 size c = simp length-map at (c .good .0 .1 .1 .1 .0 .1 .0 .1)
 
 loop-holds : tie.Need-loop-holds Inv-loop μ-loop
-loop-holds c = let s = c .before in order-start (s .args .t1) (size s) (header-fits _ (s .pre) .count)
+loop-holds c = let s = c .before in order-start (s .args .t1) (size s) (header-bounds _ (s .pre) .count)
 
 mul-p : tie.Need-mul-p Inv-loop μ-loop
-mul-p c = let s = c .before .before .before in omega (arith, header-fits _ (s .pre) .count)
+mul-p c = let s = c .before .before .before in omega (arith, header-bounds _ (s .pre) .count)
 
 element-copy-out-p : tie.Need-element-copy-out-p Inv-loop μ-loop
-element-copy-out-p c = let s = c .before .before .before in omega (arith, header-fits _ (s .pre) .count)
+element-copy-out-p c = let s = c .before .before .before in omega (arith, header-bounds _ (s .pre) .count)
 
 loop-again : tie.Need-loop-again Inv-loop μ-loop
 loop-again c =
     let t = c .before .before .before .before .before in
     let s = t .before .before in
-    order-next (s .args .t1) (size s) (header-fits _ (s .pre) .count) (t .loop .inv) (omega arith) (sym (c .before .before .in-order-from .ensures) ∙ c .before .if1 .taken)
+    order-next (s .args .t1) (size s) (header-bounds _ (s .pre) .count) (t .loop .inv) (omega arith) (sym (c .before .before .in-order-from .ensures) ∙ c .before .if1 .taken)
 
 returns : tie.Need-returns Inv-loop μ-loop
 returns c =
     let t = c .before .before .before .before in
     let s = t .before .before in
-    order-not (s .args .t1) (size s) (header-fits _ (s .pre) .count) (t .loop .inv) (omega arith) (sym (c .before .in-order-from .ensures) ∙ c .if1 .left)
+    order-not (s .args .t1) (size s) (header-bounds _ (s .pre) .count) (t .loop .inv) (omega arith) (sym (c .before .in-order-from .ensures) ∙ c .if1 .left)
 
 returns-2 : tie.Need-returns-2 Inv-loop μ-loop
 returns-2 c =
     let t = c .before in
     let s = t .before .before in
-    order-all (s .args .t1) (size s) (header-fits _ (s .pre) .count) (t .loop .inv) (c .loop-test .left)
+    order-all (s .args .t1) (size s) (header-bounds _ (s .pre) .count) (t .loop .inv) (c .loop-test .left)
 
 pub all-in-order-spec : {M : Type 1} → statement M
 all-in-order-spec =

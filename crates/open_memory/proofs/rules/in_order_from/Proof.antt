@@ -4,8 +4,7 @@ use mathlib.Core.Path.{_≡_, sym, ap, _∙_}
 use mathlib.Core.Bool.{Bool}
 use borrow.Author.Needs.{needs}
 use Rattle.job.specs.Job.{unnamed}
-use Rattle.open_memory.specs.Memory.{hazardInRange}
-use Rattle.open_memory.proofs.RangeLaws.{header-fits, hazard-fits}
+use Rattle.job.specs.Fits.{hazardInRange}
 use Rattle.open_memory.proofs.OrderLaws.{order-ranged, order-unranged}
 use Rattle.open_memory.proofs.rules.in_order_from.Statement.{statement}
 use Rattle.open_memory.proofs.rules.in_order_from.Tie as tie
@@ -17,7 +16,7 @@ ranged c b e = let a = c .before .before .before .args in ap (hazardInRange (a .
 stands-near-requires : tie.Need-stands-near-requires
 stands-near-requires c κs =
     let s = c .before .before .before .before .before in
-    (header-fits (s .args .h) (s .pre), rw (c .unnamed .ensures) (hazard-fits (s .args .h) (unnamed (s .args .p)) (ranged (c .before .before) _ (c .before .if1 .taken))))
+    (s .pre, rw (c .unnamed .ensures) (ranged (c .before .before) _ (c .before .if1 .taken)))
 
 returns : tie.Need-returns
 returns c =

@@ -2,8 +2,8 @@
 use mathlib.Core.Path.{_≡_, sym, _∙_}
 use mathlib.Core.Bool.{true}
 use borrow.Author.Needs.{needs}
-use Rattle.open_memory.specs.Memory.{headerInRange}
-use Rattle.open_memory.proofs.RangeLaws.{header-fits}
+use Rattle.job.specs.Fits.{headerInRange}
+use Rattle.job.proofs.RangeLaws.{header-bounds}
 use Rattle.open_memory.proofs.OrderLaws.{open-not-header, open-not-all, open-rest}
 use Rattle.open_memory.proofs.rules.is_open_job.Statement.{statement}
 use Rattle.open_memory.proofs.rules.is_open_job.Tie as tie
@@ -16,7 +16,7 @@ all-in-order-requires : tie.Need-all-in-order-requires
 all-in-order-requires c κs = ranged c
 
 rest-unused-requires : tie.Need-rest-unused-requires
-rest-unused-requires c κs = header-fits _ (ranged (c .before .before)) .count
+rest-unused-requires c κs = header-bounds _ (ranged (c .before .before)) .count
 
 returns : tie.Need-returns
 returns c = c .rest-unused .ensures ∙ open-rest _ (ranged (c .before .before .before)) (sym (c .before .before .all-in-order .ensures) ∙ c .before .if2 .taken)

@@ -4,7 +4,7 @@ use mathlib.Core.Path.{sym, ap, _∙_}
 use borrow.Author.Needs.{needs}
 use Rattle.panels.specs.Promised.{Yard}
 use Rattle.panels.specs.Reply.{replied}
-use Rattle.panels.proofs.PanelLaws.{yard}
+use Rattle.panels.proofs.RefusedLaws.{yard}
 use Rattle.panels.proofs.ReplyLaws.{none-given, over-four, one-out, no-tries, too-many}
 use Rattle.panels.proofs.layout.layout.Statement.{statement}
 use Rattle.panels.proofs.layout.layout.Tie as tie

@@ -5,7 +5,8 @@ use native.Mathlib.Omega.{arith}
 use mathlib.Core.Path.{_≡_, refl, sym, ap, _∙_}
 use borrow.Author.Needs.{needs}
 use Rattle.job.specs.Reply.{unused}
-use Rattle.job.proofs.JobLaws.{HazardFits}
+use Rattle.job.specs.Fits.{HazardFits}
+use Rattle.job.proofs.RangeLaws.{hazard-bounds}
 use Rattle.planning.specs.declared.envelope.Tested.{Tested}
 use Rattle.planning.specs.Reply.{testedHazard, hazardAnswer}
 use Rattle.planning.proofs.AcceptLaws.{level-given, SoFar, element-fits, none-yet, hazard-taken, hazard-left-out, hazard-refused, all-done, replies-refused}
@@ -42,7 +43,7 @@ cast-levels c =
     let start = b .before .before .before .before .before .before in
     let envelope = c .before .before .before .before .tested .given in
     let given = level-given (start .args .t1 .header) (start .args .side) (b .before .before .before .before .loop .index) (b .before .unnamed .result) (envelope .0 .0 .stretch) (envelope .0 .0 .overhangs) (told b _ (envelope .1)) in
-    omega (arith, given, hazard-fits (b .before) .level-top)
+    omega (arith, given, hazard-bounds _ _ (hazard-fits (b .before)) .level-top)
 
 loop-again : tie.Need-loop-again Inv-loop μ-loop
 loop-again c =

@@ -1,4 +1,4 @@
--- `schedule::lookup::lookup` meets its contract: the part is cut from the slice of the side asked for, where `locate` found it. Assumes nothing.
+-- `queries::lookup::lookup` meets its contract: the part is cut from the slice of the side asked for, where `locate` found it. Assumes nothing.
 use mathlib.Core.Path.{_≡_, sym, ap, _∙_}
 use mathlib.Core.Logic.{⊎-elim}
 use Prim.Native.Nat.{_≤_}
@@ -7,7 +7,7 @@ use lib.ListN.{length}
 use denote.Ref.{now}
 use borrow.Author.Needs.{needs}
 use borrow.Author.Tests.{eq-eqb, ne-eqb}
-use Rattle.number.proofs.NumberLaws.{index-bytes}
+use Rattle.number.proofs.ByteLaws.{index-bytes}
 use Rattle.queries.specs.declared.reply.Located.the-variants as Located
 use Rattle.queries.specs.Lookup.{asked}
 use Rattle.queries.specs.Place.{between, locatedReply}

@@ -1,4 +1,4 @@
--- `schedule::lookup::lookup_outcome` meets its contract: what `locate` says, without the place. Assumes nothing.
+-- `queries::lookup::lookup_outcome` meets its contract: what `locate` says, without the place. Assumes nothing.
 use mathlib.Core.Path.{sym}
 use borrow.Author.Needs.{needs}
 use Rattle.queries.specs.Lookup.{outcomeOf}

@@ -1,4 +1,4 @@
--- `schedule::quantities::add_overlaps` meets its contract. The loop's invariant: the sums before `i` have grown by the run's overlaps, and no
+-- `queries::quantities::add_overlaps` meets its contract. The loop's invariant: the sums before `i` have grown by the run's overlaps, and no
 -- others. The measure is how many are left. Assumes nothing.
 use mathlib.Core.Path.{_≡_, refl, ap}
 use mathlib.Core.List.{List}

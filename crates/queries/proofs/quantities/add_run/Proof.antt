@@ -1,4 +1,4 @@
--- `schedule::quantities::add_run` meets its contract: a run of another level adds nothing. Assumes nothing.
+-- `queries::quantities::add_run` meets its contract: a run of another level adds nothing. Assumes nothing.
 use borrow.Author.Needs.{needs}
 use Rattle.queries.proofs.SumLaws.{grown-here, grown-none}
 use Rattle.queries.proofs.quantities.add_run.Statement.{statement}

@@ -1,4 +1,4 @@
--- `schedule::quantities::are_ranges` meets its contract. The loop's invariant: the numbers are ranges where those from `i` on are.
+-- `queries::quantities::are_ranges` meets its contract. The loop's invariant: the numbers are ranges where those from `i` on are.
 -- The measure is how many are left. Assumes nothing.
 use mathlib.Core.Path.{_≡_, refl, sym, _∙_}
 use Prim.Native.Nat.{_-_, _≤_}

@@ -1,11 +1,10 @@
--- `schedule::quantities::next_record` meets its contract: two numbers, one behind the other, and the run that they and the level make. Assumes nothing.
+-- `queries::quantities::next_record` meets its contract: two numbers, one behind the other, and the run that they and the level make. Assumes nothing.
 use mathlib.Core.Path.{_≡_, sym, _∙_}
 use borrow.Author.Needs.{needs}
-use Rattle.number.specs.Number.{readNumber, numberAtBy}
+use Rattle.number.specs.Number.{readNumber}
 use Rattle.number.specs.declared.Read.the-variants.{Number}
-use Rattle.number.proofs.NumberLaws.{read-bounds}
-use Rattle.queries.specs.Walk.{levelAt, recordAt}
-use Rattle.queries.proofs.WalkLaws.{no-number}
+use Rattle.number.proofs.ReadLaws.{read-bounds}
+use Rattle.queries.proofs.WalkLaws.{no-gap, no-length, two-numbers}
 use Rattle.queries.proofs.quantities.next_record.Statement.{statement}
 use Rattle.queries.proofs.quantities.next_record.Tie as tie
 
@@ -19,12 +18,10 @@ second : (c : tie.After-known-told2) → let b = c .before .before .before .befo
 second c = sym (c .before .before .before .read-number2 .ensures .0) ∙ c .before .length .given .1
 
 returns : tie.Need-returns
-unfolding recordAt numberAtBy
-returns c = rw (sym (c .before .read-number .ensures .0)) (sym (no-number _ _ (c .before .read-number .result) (c .match .keys2)))
+returns c = sym (no-gap _ _ _ _ (c .before .read-number .result) (sym (c .before .read-number .ensures .0)) (c .match .keys2))
 
 returns-2 : tie.Need-returns-2
-unfolding recordAt numberAtBy
-returns-2 c = let b = c .before .before in rw (first b, sym (c .before .read-number2 .ensures .0)) (sym (no-number _ _ (c .before .read-number2 .result) (c .match2 .keys2)))
+returns-2 c = sym (no-length _ _ _ _ _ _ (first (c .before .before)) (c .before .read-number2 .result) (sym (c .before .read-number2 .ensures .0)) (c .match2 .keys2))
 
 -- What was read is a number's value.
 read-run-requires : tie.Need-read-run-requires
@@ -33,8 +30,7 @@ read-run-requires c κs =
     (f .before .before .before .before .before .pre, (read-bounds _ _ _ _ (first f) .fits, read-bounds _ _ _ _ (second c) .fits))
 
 returns-3 : tie.Need-returns-3
-unfolding recordAt levelAt numberAtBy
-returns-3 c = let d = c .before in rw (first (d .before .before .before .before), second d) (c .read-run .ensures)
+returns-3 c = let d = c .before in rw (two-numbers _ _ _ _ _ _ (first (d .before .before .before .before)) _ _ (second d)) (c .read-run .ensures)
 
 pub next-record-spec : {M : Type 1} → statement M
 next-record-spec =

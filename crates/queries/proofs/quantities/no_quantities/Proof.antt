@@ -1,4 +1,4 @@
--- `schedule::quantities::no_quantities` meets its contract. Assumes nothing.
+-- `queries::quantities::no_quantities` meets its contract. Assumes nothing.
 use mathlib.Core.Path.{refl}
 use Rattle.queries.specs.Ranges.{replied}
 use Rattle.queries.proofs.quantities.no_quantities.Statement.{statement}

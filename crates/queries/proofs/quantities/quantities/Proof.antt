@@ -1,4 +1,4 @@
--- `schedule::quantities::quantities` meets its contract: 8, then 11, then the walk's sums are the quantities, or 10. Assumes nothing.
+-- `queries::quantities::quantities` meets its contract: 8, then 11, then the walk's sums are the quantities, or 10. Assumes nothing.
 use mathlib.Core.Path.{sym, subst, ap, _∙_}
 use mathlib.Core.Bool.{false≢true}
 use Prim.Native.Nat.{_≤_}
@@ -6,7 +6,6 @@ use native.Mathlib.Omega.{arith}
 use borrow.Author.Needs.{needs}
 use borrow.Author.Tests.{not-true, not-false}
 use lib.ListN.{length}
-use Rattle.number.proofs.NumberLaws.{Bytes, index-bytes}
 use Rattle.queries.specs.Ranges.{mostRanges, rangesOf, replied}
 use Rattle.queries.specs.Sums.{Tallied}
 use Rattle.queries.proofs.RangeLaws.{ranges-count}
@@ -30,9 +29,6 @@ returns-2 c =
     c .no-quantities2 .ensures ∙ sym (ap replied (quantities-many _ _ _ a (omega (arith, a .2 .pairs))))
 
 -- Before the walk.
-bytes : (c : tie.After-sums) → Bytes (c .before .before .before .before .before .before .args .schedule .now)
-bytes c = index-bytes _ (λ i. omega (arith, c .before .before .before .before .before .shared-slice-known .given i))
-
 few : (c : tie.After-sums) → length (rangesOf (c .before .before .before .before .before .before .args .ranges .now)) ≤ mostRanges
 few c = omega (arith, ranges-count (c .before .before .before .before .before .before .args .ranges .now))
 
@@ -40,13 +36,13 @@ returns-3 : tie.Need-returns-3
 returns-3 c =
     let d = c .before .before .before in
     let w = subst (Tallied _ _ _ _) (c .before .records .given .1) (d .walk-ranges .ensures) in
-    sym (quantities-over _ _ _ _ (bytes (d .before)) (good (d .before .before .before)) (few (d .before)) _ w)
+    sym (quantities-over _ _ _ _ (good (d .before .before .before)) (few (d .before)) _ w)
 
 returns-4 : tie.Need-returns-4
 returns-4 c =
     let d = c .before .before .before in
     let w = subst (Tallied _ _ _ _) (c .before .enum-told .given .1) (d .walk-ranges .ensures) in
-    c .no-quantities3 .ensures ∙ sym (quantities-bad _ _ _ _ (bytes (d .before)) (good (d .before .before .before)) (few (d .before)) w)
+    c .no-quantities3 .ensures ∙ sym (quantities-bad _ _ _ _ (good (d .before .before .before)) (few (d .before)) w)
 
 pub quantities-spec : {M : Type 1} → statement M
 quantities-spec =

@@ -1,4 +1,4 @@
--- `schedule::quantities::well_asked` meets its contract: three tests, one after the other. Assumes nothing.
+-- `queries::quantities::well_asked` meets its contract: three tests, one after the other. Assumes nothing.
 use native.Mathlib.Omega.{arith}
 use borrow.Author.Needs.{needs}
 use borrow.Author.Tests.{lt-leb, le-leb}

@@ -1,4 +1,4 @@
--- `schedule::quantity::overlap_sum` meets its contract: the walk's sum, or its refusal. Assumes nothing.
+-- `queries::quantity::overlap_sum` meets its contract: the walk's sum, or its refusal. Assumes nothing.
 use mathlib.Core.Path.{sym, ap, _∙_}
 use borrow.Author.Needs.{needs}
 use Rattle.queries.specs.Query.{sumReply}

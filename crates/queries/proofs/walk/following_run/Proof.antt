@@ -3,9 +3,10 @@ use mathlib.Core.Path.{_≡_, sym}
 use native.Mathlib.Omega.{arith}
 use Rattle.refusal.specs.Answer.{refused}
 use Rattle.runs.proofs.RunLaws.{Next}
+use Rattle.schedule.proofs.ScheduleLaws.{runAfter}
 use Rattle.queries.specs.Walk.{followingRun, recordReply}
 use Rattle.queries.specs.declared.walk.Record.the-variants as Record
-use Rattle.queries.proofs.WalkLaws.{runAfter, run-follows, run-refused}
+use Rattle.queries.proofs.WalkLaws.{run-follows, run-refused}
 use Rattle.queries.proofs.walk.following_run.Statement.{statement}
 use Rattle.queries.proofs.walk.following_run.Tie as tie
 

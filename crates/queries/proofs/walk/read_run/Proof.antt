@@ -1,10 +1,10 @@
--- `schedule::walk::read_run` meets its contract: the level's byte, and the run that it makes. Assumes nothing.
+-- `queries::walk::read_run` meets its contract: the level's byte, and the run that it makes. Assumes nothing.
 use mathlib.Core.Path.{sym, _∙_}
 use borrow.Author.Needs.{needs}
 use Prim.Native.Nat.{ℕ, _<_}
 use native.Mathlib.Omega.{arith}
 use lib.ListN.{getD}
-use Rattle.number.proofs.NumberLaws.{index-bytes}
+use Rattle.number.proofs.ByteLaws.{index-bytes}
 use Rattle.queries.proofs.WalkLaws.{level-ended, level-byte}
 use Rattle.queries.proofs.walk.read_run.Statement.{statement}
 use Rattle.queries.proofs.walk.read_run.Tie as tie

@@ -4,7 +4,7 @@ use native.Mathlib.Omega.{arith}
 use mathlib.Core.Path.{_≡_, sym, ap, _∙_}
 use borrow.Author.Needs.{needs}
 use Rattle.refusal.specs.Answer.{accepted}
-use Rattle.number.proofs.NumberLaws.{index-bytes}
+use Rattle.number.proofs.ByteLaws.{index-bytes}
 use Rattle.queries.specs.Lookup.{found, lookup}
 use Rattle.queries.specs.Place.{between, locatedReply}
 use Rattle.queries.proofs.PlaceLaws.{lookup-within}

@@ -1,6 +1,5 @@
 -- `replies::open::ending` meets its contract: the reply, and whether it was done. Assumes nothing.
 use borrow.Author.Needs.{needs}
-use Rattle.replies.specs.Interface.{replyOf}
 use Rattle.replies.proofs.open.ending.Statement.{statement}
 use Rattle.replies.proofs.open.ending.Tie as tie
 

@@ -2,15 +2,14 @@
 -- Assumes nothing.
 use Prim.Native.Nat.{ℕ, _+_, _≤_, _<_}
 use native.Mathlib.Omega.{arith}
-use mathlib.Core.Path.{_≡_, sym, subst}
+use mathlib.Core.Path.{_≡_, sym, subst, ap}
 use mathlib.Core.List.{List}
 use lib.ListN.{length, getD}
 use Rattle.runs.specs.declared.Stretch.{Stretch}
 use Rattle.runs.specs.Breaks.{breaksTo}
 use Rattle.runs.specs.Stand.{distinctTo, Stands}
 use Rattle.runs.specs.Steps.{breakPlaces}
-use Rattle.runs.proofs.SweepLaws.{count-falls, count-distinct}
-use Rattle.runs.proofs.RoomLaws.{distinct-some}
+use Rattle.runs.proofs.TopLaws.{distinct-some, count-falls, count-distinct}
 use Rattle.runs.proofs.PlaceLaws.{breaks-push}
 use Rattle.runs.proofs.StandLaws.{Standing, standing-fall, standing-end}
 use borrow.Author.Needs.{needs}
@@ -48,12 +47,12 @@ loop-again c =
     let a = c .before .before .before .before .before .before .before .before .args in
     let pre = c .before .before .before .before .before .before .before .before .pre in
     let d = c .above .result in
-    let fewer = count-distinct (a .tops .now) (pre .falling) (l .level) d (c .above .ensures .0) (c .before .before .before .loop-test .taken) (l .inv .2) in
+    let fewer = count-distinct (a .tops .now) (pre .falling) (l .level) (c .before .before .before .loop-test .taken) (l .inv .2) in
     let pushed = breaks-push (l .starts) (l .levels) (l .count) (getD (a .tops .now) (l .level) 0) d (omega (arith, place c)) (omega (arith, place c)) in (
       search needs,
       search needs,
       c .above .ensures .1,
-      omega (arith, fewer, l .inv .3),
+      omega (arith, fewer, ap (distinctTo (a .tops .now)) (c .above .ensures .0), l .inv .3),
       λ es G u h st. subst (Standing es G (a .s) (a .tops .now) d) (sym pushed) (standing-fall (l .inv .4 es G u h st) d (c .above .ensures .0) (c .before .before .before .loop-test .taken) (c .before .if1 .left)),
     )
 

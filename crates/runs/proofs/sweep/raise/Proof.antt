@@ -4,7 +4,7 @@ use Prim.Native.Nat.{_≤_, _-_}
 use native.Mathlib.Omega.{arith}
 use mathlib.Core.Path.{_≡_}
 use lib.ListN.{length}
-use Rattle.runs.proofs.PlaceLaws.{Raising, raising-none, raising-turn, raising-end}
+use Rattle.runs.proofs.TopLaws.{Raising, raising-none, raising-turn, raising-end}
 use borrow.Author.Needs.{needs}
 use Rattle.runs.proofs.sweep.raise.Statement.{statement}
 use Rattle.runs.proofs.sweep.raise.Tie as tie

@@ -1,7 +1,7 @@
 -- `runs::sweep::step` meets its contract: drained up to s; then nothing is left to do, or the level rises.
 -- Assumes nothing.
 use mathlib.Core.Path.{refl}
-use Rattle.runs.proofs.StandLaws.{skip, lift}
+use Rattle.runs.proofs.MeetLaws.{skip, lift}
 use borrow.Author.Needs.{needs}
 use Rattle.runs.proofs.sweep.step.Statement.{statement}
 use Rattle.runs.proofs.sweep.step.Tie as tie

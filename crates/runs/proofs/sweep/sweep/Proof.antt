@@ -6,7 +6,8 @@ use mathlib.Core.Path.{_≡_, refl}
 use lib.ListN.{length, replicate}
 use Rattle.runs.specs.Breaks.{breaksTo}
 use Rattle.runs.specs.Steps.{envelopesTo}
-use Rattle.runs.proofs.SweptLaws.{zeros, Sweeping, sweeping-first, sweeping-turn, sweeping-room, room-left}
+use Rattle.runs.proofs.IndexLaws.{zeros}
+use Rattle.runs.proofs.SweptLaws.{Sweeping, sweeping-first, sweeping-turn, sweeping-room, room-left}
 use borrow.Author.Needs.{needs}
 use Rattle.runs.proofs.sweep.sweep.Statement.{statement}
 use Rattle.runs.proofs.sweep.sweep.Tie as tie

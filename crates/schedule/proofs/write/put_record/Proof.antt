@@ -5,7 +5,7 @@ use mathlib.Core.Path.{ap, _∙_}
 use lib.ListN.{length}
 use borrow.Author.Needs.{needs}
 use Rattle.number.specs.Number.{writeNumber}
-use Rattle.number.proofs.NumberLaws.{placed-length}
+use Rattle.number.proofs.PlaceLaws.{placed-length}
 use Rattle.schedule.proofs.WriteLaws.{record-sum, record-placed}
 use Rattle.schedule.proofs.write.put_record.Statement.{statement}
 use Rattle.schedule.proofs.write.put_record.Tie as tie

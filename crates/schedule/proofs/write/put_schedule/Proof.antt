@@ -8,7 +8,7 @@ use mathlib.Core.Path.{_≡_, sym, ap, _∙_}
 use mathlib.Core.List.{List, _++_}
 use lib.ListN.{length, length-append}
 use Rattle.number.specs.Number.{writeNumber, placed}
-use Rattle.number.proofs.NumberLaws.{placed-append, placed-length, placed-none}
+use Rattle.number.proofs.PlaceLaws.{placed-append, placed-length, placed-none}
 use Rattle.runs.specs.declared.RunList.{RunList}
 use Rattle.runs.specs.RunList.{runsOf, lastEnd}
 use Rattle.schedule.specs.Schedule.{writeRecord, writeRecords, writeScheduleBy, writeSchedule}

@@ -3,7 +3,7 @@ use Prim.Native.Nat.{ℕ, _-_, _≤_}
 use native.Mathlib.Omega.{arith}
 use borrow.Author.Needs.{needs}
 use Rattle.number.specs.Number.{greatest, groupCount}
-use Rattle.number.proofs.NumberLaws.{number-length, group-count}
+use Rattle.number.proofs.WriteLaws.{number-length, group-count}
 use Rattle.schedule.proofs.WriteLaws.{record-groups}
 use Rattle.schedule.proofs.write.record_length.Statement.{statement}
 use Rattle.schedule.proofs.write.record_length.Tie as tie

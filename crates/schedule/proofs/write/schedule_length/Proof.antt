@@ -7,7 +7,7 @@ use lib.ListN.{length, length-append}
 use borrow.Author.Needs.{needs}
 use Rattle.runs.specs.RunList.{lastEnd}
 use Rattle.number.specs.Number.{writeNumber}
-use Rattle.number.proofs.NumberLaws.{number-length, group-count}
+use Rattle.number.proofs.WriteLaws.{number-length, group-count}
 use Rattle.schedule.specs.Schedule.{writeRecords, writeScheduleBy}
 use Rattle.runs.proofs.StoredLaws.{firstRuns, run, runs-length, count-top}
 use Rattle.schedule.proofs.WriteLaws.{run-fits, record-short, records-more, last-more, records-none, last-none}

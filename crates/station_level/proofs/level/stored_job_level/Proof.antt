@@ -3,6 +3,7 @@ use mathlib.Core.Path.{sym, ap, _∙_}
 use borrow.Author.Needs.{needs}
 use Rattle.refusal.specs.Answer.{accepted}
 use Rattle.job.specs.Job.{jobOf}
+use Rattle.job.proofs.RangeLaws.{header-bounds}
 use Rattle.planning.proofs.SideLaws.{stored-envelopes}
 use Rattle.station_level.proofs.LevelLaws.{tested-done, tested-refused}
 use Rattle.station_level.proofs.level.stored_job_level.Statement.{statement}
@@ -12,7 +13,7 @@ required-level-requires : tie.Need-required-level-requires
 required-level-requires c κs =
     let r = c .before .before .before .before in
     let s = r .before in
-    (stored-envelopes (jobOf (s .args .job)) (s .args .side) (r .side-envelopes .result) (r .side-envelopes .ensures) (s .pre) (c .before .before .enum-told .given .1), s .pre .header .continuity-top)
+    (stored-envelopes (jobOf (s .args .job)) (s .args .side) (r .side-envelopes .result) (r .side-envelopes .ensures) (s .pre) (c .before .before .enum-told .given .1), header-bounds (s .args .job .header) (s .pre .header) .continuity-top)
 
 returns : tie.Need-returns
 returns c =

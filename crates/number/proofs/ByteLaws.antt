@@ -1,0 +1,42 @@
+-- Lists of bytes.
+-- Assumes nothing.
+use Prim.Native.Nat.{ℕ, zero, suc, _/_, _<_}
+use native.Mathlib.Omega.{arith}
+use native.Mathlib.Decide.{decLt}
+use mathlib.Core.List.{List, [], _∷_, List·Memᴰ, List·Memᴰ·tail, List·Memᴰ·not-nil}
+use lib.ListN.{drop, getD}
+use Rattle.refusal.proofs.EachLaws.{cons-each}
+use Rattle.number.specs.Number.{writeIn, writeNumberBy, writeNumber}
+use Rattle.number.proofs.WriteLaws.{write-last, write-more}
+
+abbrev pub Bytes : List ℕ → Type 0
+Bytes s = (x : ℕ) → List·Memᴰ x s → x < 256
+
+no-bytes : Bytes []
+no-bytes x m = absurd (List·Memᴰ·not-nil m)
+
+pub tail-bytes : {x : ℕ} {xs : List ℕ} → Bytes (x ∷ xs) → Bytes xs
+tail-bytes b z m = b z (List·Memᴰ·tail m)
+
+pub drop-bytes : (at : ℕ) (s : List ℕ) → Bytes s → Bytes (drop at s)
+drop-bytes zero s b = b
+drop-bytes (suc at) [] b = b
+drop-bytes (suc at) (x ∷ s) b = drop-bytes at s (tail-bytes b)
+
+-- A list whose elements are bytes by index, as a slice's are.
+pub index-bytes : (s : List ℕ) → ((i : ℕ) → getD s i 0 < 256) → Bytes s
+index-bytes [] h = no-bytes
+index-bytes (y ∷ s) h = cons-each (λ x. x < 256) (h 0) (index-bytes s (λ i. h (suc i)))
+
+writeIn-bytes : (k n : ℕ) → Bytes (writeIn k n)
+unfolding writeIn
+writeIn-bytes zero n = no-bytes
+writeIn-bytes (suc k) n = go (decLt n 128) (writeIn-bytes k (n / 128))
+  where
+    go : Dec (n < 128) → Bytes (writeIn k (n / 128)) → Bytes (writeIn (suc k) n)
+    go (yes l) r = rw (write-last k n l) (cons-each (λ x. x < 256) (omega arith) no-bytes)
+    go (no l) r = rw (write-more k n (omega arith)) (cons-each (λ x. x < 256) (omega arith) r)
+
+pub write-bytes : (n : ℕ) → Bytes (writeNumber n)
+unfolding writeNumberBy
+write-bytes n = writeIn-bytes 6 n

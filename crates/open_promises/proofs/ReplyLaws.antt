@@ -1,0 +1,45 @@
+-- What the calls reply, on memory that keeps the rules.
+-- Assumes nothing.
+use Prim.Native.Nat.{ℕ}
+use mathlib.Core.Path.{_≡_, refl, sym, ap, _∙_}
+use mathlib.Core.Bool.{Bool, true, false}
+use lib.Dec.{leb}
+use borrow.Author.Tests.{leb-false}
+use Rattle.refusal.specs.Answer.{accepted, _>>=_}
+use Rattle.refusal.specs.Refusal.{unless-refuse}
+use Rattle.refusal.specs.declared.Refusal.the-variants as Row
+use Rattle.refusal.proofs.AnswerLaws.{behind}
+use Rattle.job.specs.declared.Hazard.{Hazard}
+use Rattle.open_job.specs.Open.{addTo, withdrawFrom, scheduleOf, replied}
+use Rattle.kept_states.specs.declared.OpenStates.{OpenStates}
+use Rattle.kept_states.specs.States.{greatestStateNumber, stateOf, isUsed, keptStates, keptUnder, statesFrom, areOpenStates, addIn, withdrawIn, scheduleIn, keepIn, returnIn}
+use Rattle.kept_states.proofs.StateLaws.{none-above, not-used}
+
+module _ (m : OpenStates) (good : areOpenStates m ≡ true) where
+  -- Add, withdraw and schedule as on the state now.
+  pub add-now : (name : ℕ) (z : Hazard) → replied (addIn m name z) ≡ replied (addTo (m .now) name z)
+  unfolding addIn
+  add-now name z = rw good (behind (addTo (m .now) name z) _ _)
+
+  pub withdraw-now : (name : ℕ) → replied (withdrawIn m name) ≡ replied (withdrawFrom (m .now) name)
+  unfolding withdrawIn
+  withdraw-now name = rw good (behind (withdrawFrom (m .now) name) _ _)
+
+  pub schedule-now : (side room : ℕ) → scheduleIn m side room ≡ scheduleOf (m .now) side room
+  unfolding scheduleIn
+  schedule-now side room = rw good
+
+  pub keep-replied : (number : ℕ) → replied (keepIn m number) ≡ replied (unless-refuse (leb number greatestStateNumber) Row.State)
+  unfolding keepIn
+  keep-replied number = rw good (behind (unless-refuse (leb number greatestStateNumber) Row.State) _ _)
+
+  -- Above 7 nothing is kept.
+  pub return-replied : (number : ℕ) → replied (returnIn m number) ≡ replied (unless-refuse (isUsed (keptUnder m number)) Row.State)
+  unfolding returnIn
+  return-replied number = rw good (go (leb number greatestStateNumber) refl)
+    where
+      go : (b : Bool) → leb number greatestStateNumber ≡ b
+          → replied (unless-refuse b Row.State >>= λ _. unless-refuse (isUsed (keptUnder m number)) Row.State >>= λ _. accepted (statesFrom (stateOf (m .now .header) (keptUnder m number)) (keptStates m)))
+          ≡ replied (unless-refuse (isUsed (keptUnder m number)) Row.State)
+      go true e = behind (unless-refuse (isUsed (keptUnder m number)) Row.State) _ _
+      go false e = sym (ap (λ (b : Bool). replied (unless-refuse b Row.State)) (ap isUsed (none-above m number (leb-false number 7 e)) ∙ not-used))
