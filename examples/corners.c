@@ -17,19 +17,17 @@
 #include <stdio.h>
 
 #include <barrier.h>
+#include <barrier_help.h>
 
-#include "number_form.h"
-
-/* A hazard as the job has it, and what barrier_corners replies for it. */
-struct drawn {
-    uint64_t side, start, end, near_offset, far_offset, level;
-    barrier_corners_reply corners;
-};
-
-/* What the picture needs of the header, and the hazards. */
+/*
+ * The job, whose hazards have their stations from the sheet corner on, as the
+ * corners are counted; and what barrier_corners replies for each hazard.
+ */
 struct job {
-    uint64_t begin, end, clear_zone, way, offset, count;
-    struct drawn hazards[BARRIER_HAZARDS_MAX];
+    barrier_help_header header;
+    barrier_hazard hazards[BARRIER_HAZARDS_MAX];
+    barrier_corners_reply corners[BARRIER_HAZARDS_MAX];
+    size_t count;
 };
 
 /* From millimetres to the picture.  Along and across have scales of their own. */
@@ -41,43 +39,35 @@ struct frame {
     double height;
 };
 
-enum { WIDTH = 1000, TOP = 84, SIDE_DEPTH = 170, ROAD_LEAST = 40, LINE = 18, GAP = 44 };
+enum {
+    WIDTH = 1000,
+    TOP = 84,
+    SIDE_DEPTH = 170,
+    ROAD_LEAST = 40,
+    LINE = 18,
+    GAP = 44,
+    TWO_LABELS = 360 /* the room of two labels with the longest stations */
+};
 
 static struct job job;
 
-/*
- * Only for a job that is not refused, so its numbers are all there.  Stations
- * are kept from the sheet corner on, as the corners are.
- */
-static void read_job(const uint8_t *bytes, size_t bytes_len)
+/* Reads a job that is not refused; 0 where it cannot be read. */
+static int read_job(const uint8_t *bytes, size_t bytes_len)
 {
-    size_t at = 0;
-    uint64_t header[16];
-    /* Kind 2 has a panel length before its hazard count. */
-    const int numbers = bytes[0] == 2 ? 15 : 14;
-    for (int i = 1; i <= numbers; i++)
-        header[i] = get_number(bytes, &at);
-    job.begin = header[2];
-    job.end = header[3];
-    job.clear_zone = header[6];
-    job.way = header[7];
-    job.offset = header[8];
-    job.count = header[numbers];
-    for (uint64_t i = 0; i < job.count; i++) {
-        struct drawn *hazard = &job.hazards[i];
-        hazard->side = get_number(bytes, &at);
-        hazard->start = get_number(bytes, &at) - job.begin;
-        hazard->end = get_number(bytes, &at) - job.begin;
-        hazard->near_offset = get_number(bytes, &at);
-        hazard->far_offset = get_number(bytes, &at);
-        hazard->level = get_number(bytes, &at);
-        hazard->corners = barrier_corners(bytes, bytes_len, i, job.begin, 0);
+    if (barrier_help_read_job(bytes, bytes_len, &job.header, job.hazards, BARRIER_HAZARDS_MAX,
+                              &job.count) != BARRIER_HELP_OK)
+        return 0;
+    for (size_t i = 0; i < job.count; i++) {
+        job.hazards[i].start -= job.header.begin;
+        job.hazards[i].end -= job.header.begin;
+        job.corners[i] = barrier_corners(bytes, bytes_len, i, job.header.begin, 0);
     }
+    return 1;
 }
 
-static int has_approach(const struct drawn *hazard)
+static int has_approach(size_t index)
 {
-    return hazard->corners.number == BARRIER_DONE;
+    return job.corners[index].number == BARRIER_DONE;
 }
 
 static double lesser(double a, double b)
@@ -94,15 +84,15 @@ static double greater(double a, double b)
 static struct frame frame_of_job(void)
 {
     struct frame frame;
-    double first = 0, last = (double)(job.end - job.begin);
-    double deepest = 1.25 * (double)job.clear_zone;
-    for (uint64_t i = 0; i < job.count; i++) {
-        const struct drawn *hazard = &job.hazards[i];
-        double from = (double)hazard->start, to = (double)hazard->end;
-        if (has_approach(hazard)) {
-            from = lesser(from, hazard->corners.upstream.station);
-            to = greater(to, hazard->corners.upstream.station);
-            deepest = greater(deepest, hazard->corners.upstream.offset);
+    double first = 0, last = (double)(job.header.end - job.header.begin);
+    double deepest = 1.25 * (double)job.header.clear_zone;
+    for (size_t i = 0; i < job.count; i++) {
+        const barrier_corner upstream = job.corners[i].upstream;
+        double from = (double)job.hazards[i].start, to = (double)job.hazards[i].end;
+        if (has_approach(i)) {
+            from = lesser(from, upstream.station);
+            to = greater(to, upstream.station);
+            deepest = greater(deepest, upstream.offset);
         }
         first = i == 0 ? from : lesser(first, from);
         last = i == 0 ? to : greater(last, to);
@@ -115,7 +105,7 @@ static struct frame frame_of_job(void)
     frame.left_edge = TOP + SIDE_DEPTH;
     /* The job does not say how wide a one-way road is. */
     frame.right_edge =
-        frame.left_edge + greater(ROAD_LEAST, 2 * (double)job.way * frame.across);
+        frame.left_edge + greater(ROAD_LEAST, 2 * (double)job.header.centreline * frame.across);
     frame.height = frame.right_edge + SIDE_DEPTH + GAP + LINE * (double)(job.count + 1);
     return frame;
 }
@@ -139,33 +129,39 @@ static void print_rect(double x1, double y1, double x2, double y2, const char *f
            greater(x2 - x1, 1), greater(greater(y1, y2) - top, 1), fill);
 }
 
-/* An end of the road that is in the picture, with its station. */
-static void print_road_end(double x, double top, double bottom, const char *name, uint64_t station)
+/*
+ * An end of the road that is in the picture, with its station under it, in that
+ * row.  The label goes from its line inwards: no station is cut at the edge.
+ */
+static void print_road_end(double x, double top, double bottom, int row, const char *name,
+                           uint64_t station)
 {
     printf("  <path d=\"M%.1f %.1fV%.1f\" stroke=\"#52606d\"/>\n", x, top, bottom);
-    printf("  <text x=\"%.1f\" y=\"%.1f\" text-anchor=\"middle\" fill=\"#52606d\">%s %" PRIu64
+    printf("  <text x=\"%.1f\" y=\"%.1f\" text-anchor=\"%s\" fill=\"#52606d\">%s %" PRIu64
            "</text>\n",
-           x, bottom + 16, name, station);
+           x, bottom + 16 + LINE * row, x < WIDTH / 2 ? "start" : "end", name, station);
 }
 
 /* The road ends where its job does, and the approaches may go on. */
 static void print_road(const struct frame *frame)
 {
     const double begin = greater(x_of(frame, 0), 0);
-    const double end = lesser(x_of(frame, (double)(job.end - job.begin)), WIDTH);
+    const double end = lesser(x_of(frame, (double)(job.header.end - job.header.begin)), WIDTH);
     const double top = y_of(frame, BARRIER_LEFT, frame->deepest);
     const double bottom = y_of(frame, BARRIER_RIGHT, frame->deepest);
     print_rect(begin, top, end, bottom, "#f3f6ec");
     print_rect(begin, frame->left_edge, end, frame->right_edge, "#dde2e7");
     for (int side = BARRIER_RIGHT; side <= BARRIER_LEFT; side++) {
-        const double zone = y_of(frame, (uint64_t)side, (double)job.clear_zone);
+        const double zone = y_of(frame, (uint64_t)side, (double)job.header.clear_zone);
         printf("  <path d=\"M%.1f %.1fH%.1f\" stroke=\"#b84e12\" stroke-dasharray=\"2 4\"/>\n", begin,
                zone, end);
     }
     if (begin > 0)
-        print_road_end(begin, top, bottom, "road begin", job.begin);
+        print_road_end(begin, top, bottom, 0, "road begin", job.header.begin);
+    /* Ends that are near one another have their labels in two rows. */
     if (end < WIDTH)
-        print_road_end(end, top, bottom, "road end", job.end);
+        print_road_end(end, top, bottom, begin > 0 && end - begin < TWO_LABELS, "road end",
+                       job.header.end);
 }
 
 static void print_dot(const struct frame *frame, uint64_t side, barrier_corner corner)
@@ -175,12 +171,13 @@ static void print_dot(const struct frame *frame, uint64_t side, barrier_corner c
 }
 
 /* The approach through its corners, then the barrier beside the hazard. */
-static void print_approach(const struct frame *frame, const struct drawn *hazard)
+static void print_approach(const struct frame *frame, size_t index)
 {
+    const barrier_hazard *hazard = &job.hazards[index];
     const uint64_t side = hazard->side;
-    const barrier_corner upstream = hazard->corners.upstream;
-    const barrier_corner flare = hazard->corners.flare;
-    const barrier_corner end = hazard->corners.hazard;
+    const barrier_corner upstream = job.corners[index].upstream;
+    const barrier_corner flare = job.corners[index].flare;
+    const barrier_corner end = job.corners[index].hazard;
     /* Where the traffic comes from lower stations, the corner is at the start. */
     const int rising = upstream.station < end.station;
     const double other_end = (double)(rising ? hazard->end : hazard->start);
@@ -190,23 +187,33 @@ static void print_approach(const struct frame *frame, const struct drawn *hazard
            x_of(frame, flare.station), y_of(frame, side, flare.offset), x_of(frame, end.station),
            y_of(frame, side, end.offset));
     printf("  <path d=\"M%.1f %.1fH%.1f\" stroke=\"#6fb0da\" stroke-width=\"3\"/>\n",
-           x_of(frame, end.station), y_of(frame, side, (double)job.offset), x_of(frame, other_end));
+           x_of(frame, end.station), y_of(frame, side, (double)job.header.barrier_offset), x_of(frame, other_end));
     print_dot(frame, side, upstream);
     print_dot(frame, side, flare);
     print_dot(frame, side, end);
 }
 
-static void print_hazard(const struct frame *frame, uint64_t index)
+/* The foot of a hazard's number: beyond its far edge, and not on the clear zone's line. */
+static double number_foot(const struct frame *frame, uint64_t side, double far_edge)
 {
-    const struct drawn *hazard = &job.hazards[index];
+    const double zone = y_of(frame, side, (double)job.header.clear_zone);
+    const double foot = side == BARRIER_RIGHT ? far_edge + 14 : far_edge - 5;
+    if (zone < foot - 16 || zone > foot + 5)
+        return foot;
+    return side == BARRIER_RIGHT ? zone + 17 : zone - 6;
+}
+
+static void print_hazard(const struct frame *frame, size_t index)
+{
+    const barrier_hazard *hazard = &job.hazards[index];
     const double start = x_of(frame, (double)hazard->start);
     const double far_edge = y_of(frame, hazard->side, (double)hazard->far_offset);
     print_rect(start, y_of(frame, hazard->side, (double)hazard->near_offset),
                x_of(frame, (double)hazard->end), far_edge, "#b3362b");
-    printf("  <text x=\"%.1f\" y=\"%.1f\" fill=\"#b3362b\">%" PRIu64 "</text>\n", start,
-           hazard->side == BARRIER_RIGHT ? far_edge + 14 : far_edge - 5, index);
-    if (has_approach(hazard))
-        print_approach(frame, hazard);
+    printf("  <text x=\"%.1f\" y=\"%.1f\" fill=\"#b3362b\">%zu</text>\n", start,
+           number_foot(frame, hazard->side, far_edge), index);
+    if (has_approach(index))
+        print_approach(frame, index);
 }
 
 static void print_corner(const char *name, barrier_corner corner)
@@ -215,16 +222,16 @@ static void print_corner(const char *name, barrier_corner corner)
 }
 
 /* The same as numbers, exactly: every corner is a whole count of millimetres. */
-static void print_numbers(const struct frame *frame, uint64_t index)
+static void print_numbers(const struct frame *frame, size_t index)
 {
-    const struct drawn *hazard = &job.hazards[index];
+    const barrier_corners_reply *corners = &job.corners[index];
     const double y = frame->height - LINE * (double)(job.count - index) + 4;
-    printf("  <text x=\"20\" y=\"%.1f\">hazard %" PRIu64 ", %s: ", y, index,
-           hazard->side == BARRIER_RIGHT ? "right" : "left");
-    if (has_approach(hazard)) {
-        print_corner("upstream", hazard->corners.upstream);
-        print_corner(", flare", hazard->corners.flare);
-        print_corner(", hazard", hazard->corners.hazard);
+    printf("  <text x=\"20\" y=\"%.1f\">hazard %zu, %s: ", y, index,
+           job.hazards[index].side == BARRIER_RIGHT ? "right" : "left");
+    if (has_approach(index)) {
+        print_corner("upstream", corners->upstream);
+        print_corner(", flare", corners->flare);
+        print_corner(", hazard", corners->hazard);
     } else {
         printf("adjacent traffic does not reach it");
     }
@@ -244,11 +251,11 @@ static void print_picture(void)
            "traffic</text>\n");
     printf("  <text x=\"20\" y=\"44\" fill=\"#52606d\">From above, not to scale across. Corners in "
            "millimetres from sheet corner (%" PRIu64 ", 0), the road&#8217;s begin.</text>\n",
-           job.begin);
+           job.header.begin);
     print_road(&frame);
-    for (uint64_t i = 0; i < job.count; i++)
+    for (size_t i = 0; i < job.count; i++)
         print_hazard(&frame, i);
-    for (uint64_t i = 0; i < job.count; i++)
+    for (size_t i = 0; i < job.count; i++)
         print_numbers(&frame, i);
     printf("</svg>\n");
 }
@@ -266,11 +273,16 @@ int main(void)
        or one that is not reached. */
     const barrier_corners_reply tried = barrier_corners(bytes, bytes_len, 0, 0, 0);
     if (tried.number != BARRIER_DONE && tried.number != BARRIER_NO_APPROACH) {
-        fprintf(stderr, "corners: the job is refused %" PRIu64 " with %" PRIu64 "\n", tried.number,
-                tried.value);
+        char words[BARRIER_HELP_TEXT_MAX];
+        barrier_help_refusal(BARRIER_HELP_CORNERS, tried.number, tried.value, words, sizeof words);
+        fprintf(stderr, "corners: the job is refused %" PRIu64 " with %" PRIu64 ", %s\n",
+                tried.number, tried.value, words);
         return 1;
     }
-    read_job(bytes, bytes_len);
+    if (!read_job(bytes, bytes_len)) {
+        fprintf(stderr, "corners: the job cannot be read\n");
+        return 1;
+    }
     print_picture();
     if (fflush(stdout) != 0 || ferror(stdout)) {
         fprintf(stderr, "corners: standard output cannot be written\n");

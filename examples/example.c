@@ -1,5 +1,5 @@
 /*
- * The first program: plans document 01's printed example, looks up the barrier
+ * The calls in turn: plans the sample job of barrier.h, looks up the barrier
  * at some stations, asks for the level at two of them without the schedule,
  * prices it by lots, asks for the corners of its approach and for offsets that
  * keep a gate clear, plans a job whose approach runs into the neighbouring
@@ -7,54 +7,44 @@
  * what it should: a schedule that cannot be read must not be priced as one
  * without barriers.
  *
+ * It stands alone: copied elsewhere it needs the two installed headers and the
+ * engine.  first.c is shorter.
+ *
  *     cc example.c $(pkg-config --cflags --libs barrier_engine) -o example
  */
 #include <inttypes.h>
 #include <stdio.h>
 
 #include <barrier.h>
+#include <barrier_help.h>
 
-#include "number_form.h"
+enum { ROAD_END = 1000000 };
 
-/* The header, 14 numbers, and one hazard: a culvert headwall on the right. */
-enum { JOB_NUMBERS = 20, ROAD_END = 1000000 };
-/* The places, from 0, of the numbers that are changed below. */
-enum { FLARE_ACROSS = 10, FIRST_STATION = 15, NEAR_OFFSET = 17 };
+/* The sample job: one kilometre of road, millimetres. */
+static const barrier_help_header printed_header = {
+    1,           /* kind: approaches as long as they come out */
+    0, ROAD_END, /* A, B: road begin and end */
+    101000, 0,   /* LF, LO: runout lengths, forward; no opposite traffic */
+    9000,        /* C: clear-zone width */
+    0,           /* W: travelled-way edge to centreline */
+    3000,        /* M: barrier offset */
+    1000,        /* D: deflection allowance */
+    15, 1,       /* a, b: flare, 1 across for 15 along */
+    13340,       /* T: straight barrier before the flare */
+    0,           /* G: continuity limit */
+    0            /* panel length: of kind 2 alone */
+};
 
-static const uint64_t printed_job[JOB_NUMBERS] = {
-    1,               /* kind */
-    0, ROAD_END,     /* road begin and end: one kilometre */
-    101000, 0,       /* runout lengths: forward; no opposite traffic */
-    9000,            /* clear-zone width */
-    0,               /* travelled-way edge to centreline */
-    3000,            /* barrier offset */
-    1000,            /* deflection allowance */
-    15, 1,           /* flare: 1 across for 15 along */
-    13340,           /* straight barrier before the flare */
-    0,               /* continuity limit */
-    1,               /* hazard count */
-    BARRIER_RIGHT,   /* hazard: side, */
-    200000, 210000,  /* first and end station, */
-    5000, 9000,      /* near and far offset, */
-    BARRIER_NC_3     /* containment level */
+/* Its one hazard: a culvert headwall on the right. */
+static const barrier_hazard headwall = {
+    BARRIER_RIGHT,
+    200000, 210000, /* first and end station */
+    5000, 9000,     /* near and far offset */
+    BARRIER_NC_3    /* containment level */
 };
 
 /* The price of one millimetre of barrier in cents: 120.00 a metre. */
 static const uint64_t CENTS_A_MILLIMETRE = 12;
-
-static size_t write_job(const uint64_t *numbers, uint8_t *job)
-{
-    size_t length = 0;
-    for (int i = 0; i < JOB_NUMBERS; i++)
-        length += put_number(job + length, numbers[i]);
-    return length;
-}
-
-static void copy_printed_job(uint64_t *numbers)
-{
-    for (int i = 0; i < JOB_NUMBERS; i++)
-        numbers[i] = printed_job[i];
-}
 
 static void print_bytes(const char *name, const uint8_t *bytes, size_t length)
 {
@@ -64,70 +54,16 @@ static void print_bytes(const char *name, const uint8_t *bytes, size_t length)
     printf("\n");
 }
 
-/* A refusal's value means something else for each number. */
-static void print_refusal(const char *what, barrier_reply reply)
+/*
+ * A refusal's number and value mean something else for each call, so the words
+ * are asked for with the call that replied.
+ */
+static void print_refusal(const char *what, enum barrier_help_call call, uint64_t number,
+                          uint64_t value)
 {
-    const uint64_t value = reply.value;
-    printf("  %s: refused %" PRIu64 " with %" PRIu64 ", ", what, reply.number, value);
-    switch (reply.number) {
-    case BARRIER_JOB_ENDED:
-        printf("the job ends before or inside the number at byte %" PRIu64 "\n", value);
-        break;
-    case BARRIER_NUMBER_MALFORMED:
-        printf("no number in the right form begins at byte %" PRIu64 "\n", value);
-        break;
-    case BARRIER_HEADER_RANGE:
-        printf("header number %" PRIu64 " is outside its range\n", value);
-        break;
-    case BARRIER_HAZARD_RANGE:
-        printf("a field of hazard %" PRIu64 " is outside its range\n", value);
-        break;
-    case BARRIER_HAZARD_NEAR:
-        printf("hazard %" PRIu64 " leaves the barrier no room to deflect\n", value);
-        break;
-    case BARRIER_JOB_LEFT_OVER:
-        printf("bytes are left over from byte %" PRIu64 " on\n", value);
-        break;
-    case BARRIER_ARGUMENT:
-        printf("no such side, level or sheet corner, or a range that ends before it begins\n");
-        break;
-    case BARRIER_OUTPUT_SHORT:
-        printf("the schedule takes %" PRIu64 " bytes\n", value);
-        break;
-    case BARRIER_NO_SCHEDULE:
-        printf("these bytes are not a schedule\n");
-        break;
-    case BARRIER_TOO_MANY_RANGES:
-        printf("more than %d ranges\n", BARRIER_RANGES_MAX);
-        break;
-    case BARRIER_NAME:
-        printf("the name %" PRIu64 " stands already, or does not stand\n", value);
-        break;
-    case BARRIER_STATE:
-        printf("no such state number, or nothing is kept under it\n");
-        break;
-    case BARRIER_NO_APPROACH:
-        printf("no such hazard, or adjacent traffic does not reach it\n");
-        break;
-    case BARRIER_FULL:
-        printf("%d hazards stand already\n", BARRIER_HAZARDS_MAX);
-        break;
-    case BARRIER_LENGTHS:
-        printf("no panel length, too many, or one outside its range\n");
-        break;
-    case BARRIER_LIMIT:
-        printf("a limit of no tries, or of more than %d\n", BARRIER_TRIES_MAX);
-        break;
-    default:
-        printf("a number that barrier.h does not have\n");
-    }
-}
-
-/* A plan's reply without its overhangs: a refusal has none. */
-static barrier_reply without_overhangs(barrier_plan_reply planned)
-{
-    const barrier_reply reply = {planned.number, planned.value};
-    return reply;
+    char words[BARRIER_HELP_TEXT_MAX];
+    barrier_help_refusal(call, number, value, words, sizeof words);
+    printf("  %s: refused %" PRIu64 " with %" PRIu64 ", %s\n", what, number, value, words);
 }
 
 /*
@@ -139,7 +75,7 @@ static size_t plan(const uint8_t *job, size_t job_len, uint64_t side, uint8_t *o
     const barrier_plan_reply reply =
         barrier_plan(job, job_len, side, out, BARRIER_SCHEDULE_MAX);
     if (reply.number != BARRIER_DONE) {
-        print_refusal("plan", without_overhangs(reply));
+        print_refusal("plan", BARRIER_HELP_PLAN, reply.number, reply.value);
         return 0;
     }
     return (size_t)reply.value;
@@ -152,21 +88,23 @@ static int print_station(const uint8_t *right, size_t right_len, uint64_t statio
         barrier_lookup(right, right_len, NULL, 0, BARRIER_RIGHT, station);
     if (record.number != BARRIER_DONE) {
         /* Not the same as "no barrier": these bytes could not be read. */
-        const barrier_reply refusal = {record.number, 0};
-        print_refusal("lookup", refusal);
+        print_refusal("lookup", BARRIER_HELP_LOOKUP, record.number, 0);
         return 0;
     }
     if (!record.found) {
         printf("  station %" PRIu64 ": no barrier\n", station);
         return 1;
     }
+    /* The record's three numbers: distance from the run before, length, level. */
+    uint64_t numbers[3] = {0, 0, 0};
     size_t at = (size_t)record.start;
-    const uint64_t distance = get_number(right, &at);
-    const uint64_t length = get_number(right, &at);
-    const uint64_t level = get_number(right, &at);
+    for (int i = 0; i < 3; i++)
+        if (barrier_help_get_number(right, right_len, &at, &numbers[i]) != BARRIER_HELP_OK)
+            return 0;
     printf("  station %" PRIu64 ": bytes [%" PRIu64 ", %" PRIu64 "): ", station, record.start,
            record.end);
-    printf("%" PRIu64 " mm free, then %" PRIu64 " mm at NC-%" PRIu64 "\n", distance, length, level);
+    printf("%" PRIu64 " mm free, then %" PRIu64 " mm at NC-%" PRIu64 "\n", numbers[0], numbers[1],
+           numbers[2]);
     return 1;
 }
 
@@ -185,7 +123,7 @@ static int print_level(const uint8_t *job, size_t job_len, uint64_t station)
 {
     const barrier_reply reply = barrier_level(job, job_len, BARRIER_RIGHT, station);
     if (reply.number != BARRIER_DONE) {
-        print_refusal("level", reply);
+        print_refusal("level", BARRIER_HELP_LEVEL, reply.number, reply.value);
         return 0;
     }
     if (reply.value == 0)
@@ -228,8 +166,7 @@ static int print_lots(const uint8_t *right, size_t right_len, uint64_t boundary)
     const barrier_quantities_reply reply =
         barrier_quantities(right, right_len, BARRIER_NC_3, lots, 4);
     if (reply.number != BARRIER_DONE) {
-        const barrier_reply refusal = {reply.number, reply.value};
-        print_refusal("lots", refusal);
+        print_refusal("lots", BARRIER_HELP_QUANTITIES, reply.number, reply.value);
         return 0;
     }
     for (int i = 0; i < 2; i++)
@@ -243,7 +180,7 @@ static int print_road(const uint8_t *right, size_t right_len)
 {
     const barrier_reply reply = barrier_quantity(right, right_len, BARRIER_NC_3, 0, ROAD_END);
     if (reply.number != BARRIER_DONE) {
-        print_refusal("road", reply);
+        print_refusal("road", BARRIER_HELP_QUANTITY, reply.number, reply.value);
         return 0;
     }
     print_range(0, ROAD_END, reply.value);
@@ -270,8 +207,7 @@ static int print_sheet(const uint8_t *job, size_t job_len, uint64_t station, uin
 {
     const barrier_corners_reply reply = barrier_corners(job, job_len, 0, station, offset);
     if (reply.number != BARRIER_DONE) {
-        const barrier_reply refusal = {reply.number, reply.value};
-        print_refusal("corners", refusal);
+        print_refusal("corners", BARRIER_HELP_CORNERS, reply.number, reply.value);
         return 0;
     }
     printf("  from sheet corner (%" PRIu64 ", %" PRIu64 ")\n", station, offset);
@@ -292,8 +228,7 @@ static int print_offset(const uint8_t *job, size_t job_len, uint64_t longest)
 {
     const barrier_offset_reply reply = barrier_offset(job, job_len, 0, longest);
     if (reply.number != BARRIER_DONE) {
-        const barrier_reply refusal = {reply.number, reply.value};
-        print_refusal("offset", refusal);
+        print_refusal("offset", BARRIER_HELP_OFFSET, reply.number, reply.value);
         return 0;
     }
     /* Offset 0 is an offset: whether there is one, found alone says. */
@@ -316,7 +251,7 @@ static int print_offsets(const uint8_t *job, size_t job_len)
 }
 
 /*
- * Case K8's second job: without flare, and the headwall from 67,333 on, one
+ * The sample job without flare, and the headwall from 67,333 on, one
  * millimetre nearer to the road's begin than its approach is long.  The
  * schedule begins with the road.  What hangs over stands in the neighbouring
  * contract and is in no quantity of this one, so that office has to be told;
@@ -324,17 +259,17 @@ static int print_offsets(const uint8_t *job, size_t job_len)
  */
 static int print_overhang(void)
 {
-    uint64_t numbers[JOB_NUMBERS];
-    uint8_t job[JOB_NUMBERS * NUMBER_BYTES_MAX];
+    barrier_help_header header = printed_header;
+    barrier_hazard hazard = headwall;
+    uint8_t job[BARRIER_JOB_LONGEST];
     uint8_t out[BARRIER_SCHEDULE_MAX];
-    copy_printed_job(numbers);
-    numbers[FLARE_ACROSS] = 0;
-    numbers[FIRST_STATION] = 67333;
-    const size_t job_len = write_job(numbers, job);
+    header.flare_across = 0;
+    hazard.start = 67333;
+    const size_t job_len = barrier_help_write_job(&header, &hazard, 1, job, sizeof job);
     const barrier_plan_reply reply =
         barrier_plan(job, job_len, BARRIER_RIGHT, out, sizeof out);
     if (reply.number != BARRIER_DONE) {
-        print_refusal("plan", without_overhangs(reply));
+        print_refusal("plan", BARRIER_HELP_PLAN, reply.number, reply.value);
         return 0;
     }
     printf("An approach that runs into the neighbouring contract\n");
@@ -344,42 +279,39 @@ static int print_overhang(void)
     return 1;
 }
 
-/* A call that has to be refused; 0 if it is done. */
-static int print_refused(const char *what, barrier_reply reply)
+/* A plan that has to be refused; 0 if it is done. */
+static int print_refused(const char *what, barrier_plan_reply reply)
 {
     if (reply.number == BARRIER_DONE) {
         printf("  %s: done, but it should be refused\n", what);
         return 0;
     }
-    print_refusal(what, reply);
+    print_refusal(what, BARRIER_HELP_PLAN, reply.number, reply.value);
     return 1;
 }
 
 /* The same job with the headwall one millimetre too near, and a short output. */
 static int print_refusals(const uint8_t *job, size_t job_len)
 {
-    uint64_t numbers[JOB_NUMBERS];
-    uint8_t near_job[JOB_NUMBERS * NUMBER_BYTES_MAX];
+    barrier_hazard hazard = headwall;
+    uint8_t near_job[BARRIER_JOB_LONGEST];
     uint8_t out[BARRIER_SCHEDULE_MAX];
-    copy_printed_job(numbers);
-    numbers[NEAR_OFFSET] = 3999;
-    const size_t near_len = write_job(numbers, near_job);
+    hazard.near_offset = 3999;
+    const size_t near_len =
+        barrier_help_write_job(&printed_header, &hazard, 1, near_job, sizeof near_job);
     printf("Refusals\n");
-    const barrier_plan_reply too_near =
-        barrier_plan(near_job, near_len, BARRIER_RIGHT, out, sizeof out);
-    if (!print_refused("near offset 3999", without_overhangs(too_near)))
-        return 0;
-    const barrier_plan_reply too_short = barrier_plan(job, job_len, BARRIER_RIGHT, out, 7);
-    return print_refused("room for 7 bytes", without_overhangs(too_short));
+    return print_refused("near offset 3999",
+                         barrier_plan(near_job, near_len, BARRIER_RIGHT, out, sizeof out)) &&
+           print_refused("room for 7 bytes", barrier_plan(job, job_len, BARRIER_RIGHT, out, 7));
 }
 
 /* Everything in turn; 0 where a call does not do what it should. */
 static int show(void)
 {
-    uint8_t job[JOB_NUMBERS * NUMBER_BYTES_MAX];
+    uint8_t job[BARRIER_JOB_LONGEST];
     uint8_t right[BARRIER_SCHEDULE_MAX];
     uint8_t left[BARRIER_SCHEDULE_MAX];
-    const size_t job_len = write_job(printed_job, job);
+    const size_t job_len = barrier_help_write_job(&printed_header, &headwall, 1, job, sizeof job);
 
     const size_t right_len = plan(job, job_len, BARRIER_RIGHT, right);
     if (right_len == 0)
@@ -388,7 +320,7 @@ static int show(void)
     if (left_len == 0)
         return 0;
 
-    printf("The printed example\n");
+    printf("The sample job\n");
     print_bytes("job", job, job_len);
     print_bytes("right schedule", right, right_len);
     print_bytes("left schedule", left, left_len);

@@ -1,6 +1,9 @@
 /*
- * Turns the text form of a job into its bytes: text from standard input, bytes
- * to standard output.
+ * Turns the text form of a job into its bytes, and with -r bytes into text:
+ * from standard input to standard output.
+ *
+ *     jobtext <my.job >my.bytes
+ *     jobtext -r <my.bytes >my.job
  *
  *     road 0 1000000                              begin and end station
  *     runout-forward 101000
@@ -27,14 +30,19 @@
  * A number is anything that 64 bits hold, and a side may be a number too.
  * Whether a number is right is for the engine to judge, not for this program.
  * Text that it cannot read it reports with the line, and writes no bytes.
+ *
+ * With -r it reads a job of kind 1 or 2, of up to 256 hazards, whose numbers may
+ * be out of their ranges.  The text gives the same bytes again.  Bytes that it
+ * cannot read it reports, and writes no text; listing then has the engine's
+ * refusal, with the place.
  */
 #include <errno.h>
-#include <stdint.h>
+#include <inttypes.h>
 #include <stdio.h>
 #include <stdlib.h>
 #include <string.h>
 
-#include "number_form.h"
+#include <barrier_help.h>
 
 /* The header numbers of kind 2: kind 1 has them without the panel length. */
 enum { HEADER_NUMBERS = 15, HAZARD_NUMBERS = 6, KIND = 1, PANEL = 14, HAZARD_COUNT = 15 };
@@ -107,14 +115,15 @@ static uint64_t side_of(const char *word)
 
 static void add_hazard_number(struct job *job, uint64_t value)
 {
-    if (job->hazards_room - job->hazards_len < NUMBER_BYTES_MAX) {
-        job->hazards_room = 2 * job->hazards_room + NUMBER_BYTES_MAX;
+    if (job->hazards_room - job->hazards_len < BARRIER_HELP_NUMBER_MAX) {
+        job->hazards_room = 2 * job->hazards_room + BARRIER_HELP_NUMBER_MAX;
         uint8_t *more = (uint8_t *)realloc(job->hazards, job->hazards_room);
         if (more == NULL)
             stop("out of memory", "");
         job->hazards = more;
     }
-    job->hazards_len += put_number(job->hazards + job->hazards_len, value);
+    job->hazards_len += barrier_help_put_number(value, job->hazards + job->hazards_len,
+                                                job->hazards_room - job->hazards_len);
 }
 
 static void read_hazard(struct job *job, char **words, size_t count)
@@ -208,16 +217,9 @@ static void complete(struct job *job)
             stop("the text ends without the field", fields[i].name);
 }
 
-static int write_bytes(const struct job *job)
+/* Ends the program's work: 1 where what was written did not get there. */
+static int written(void)
 {
-    uint8_t header[HEADER_NUMBERS * NUMBER_BYTES_MAX];
-    size_t length = 0;
-    for (size_t number = 1; number <= HEADER_NUMBERS; number++)
-        if (job->given[number])
-            length += put_number(header + length, job->header[number]);
-    fwrite(header, 1, length, stdout);
-    if (job->hazards_len > 0)
-        fwrite(job->hazards, 1, job->hazards_len, stdout);
     if (fflush(stdout) != 0 || ferror(stdout)) {
         fprintf(stderr, "jobtext: standard output cannot be written\n");
         return 1;
@@ -225,7 +227,24 @@ static int write_bytes(const struct job *job)
     return 0;
 }
 
-int main(void)
+/* Number by number and not with barrier_help_write_job: a text may ask for a
+   hazard count or a kind that does not fit the rest. */
+static int write_bytes(const struct job *job)
+{
+    uint8_t header[HEADER_NUMBERS * BARRIER_HELP_NUMBER_MAX];
+    size_t length = 0;
+    for (size_t number = 1; number <= HEADER_NUMBERS; number++)
+        if (job->given[number])
+            length += barrier_help_put_number(job->header[number], header + length,
+                                              sizeof header - length);
+    fwrite(header, 1, length, stdout);
+    if (job->hazards_len > 0)
+        fwrite(job->hazards, 1, job->hazards_len, stdout);
+    return written();
+}
+
+/* Text to bytes. */
+static int to_bytes(void)
 {
     static struct job job;
     read_text(&job);
@@ -233,4 +252,85 @@ int main(void)
     const int status = write_bytes(&job);
     free(job.hazards);
     return status;
+}
+
+static void print_header(const barrier_help_header *header)
+{
+    printf("road %" PRIu64 " %" PRIu64 "\n", header->begin, header->end);
+    printf("runout-forward %" PRIu64 "\n", header->runout_forward);
+    printf("runout-opposite %" PRIu64 "\n", header->runout_opposite);
+    printf("clear-zone %" PRIu64 "\n", header->clear_zone);
+    printf("centreline %" PRIu64 "\n", header->centreline);
+    printf("barrier-offset %" PRIu64 "\n", header->barrier_offset);
+    printf("deflection %" PRIu64 "\n", header->deflection);
+    printf("flare %" PRIu64 " %" PRIu64 "\n", header->flare_along, header->flare_across);
+    printf("straight %" PRIu64 "\n", header->straight);
+    printf("continuity %" PRIu64 "\n", header->continuity);
+    if (header->kind == 2)
+        printf("panel %" PRIu64 "\n", header->panel);
+}
+
+/* A side that is neither right nor left stands as its number. */
+static void print_hazard(const barrier_hazard *hazard)
+{
+    if (hazard->side <= BARRIER_LEFT)
+        printf("hazard %s", hazard->side == BARRIER_RIGHT ? "right" : "left");
+    else
+        printf("hazard %" PRIu64, hazard->side);
+    printf(" %" PRIu64 " %" PRIu64 " %" PRIu64 " %" PRIu64 " %" PRIu64 "\n", hazard->start,
+           hazard->end, hazard->near_offset, hazard->far_offset, hazard->level);
+}
+
+/* Why bytes are not read as a job. */
+static const char *unread(enum barrier_help_result result)
+{
+    switch (result) {
+    case BARRIER_HELP_ENDS_EARLY:
+        return "the bytes end inside the job";
+    case BARRIER_HELP_NO_NUMBER:
+        return "a number is not in its form";
+    case BARRIER_HELP_NO_ROOM:
+        return "the job has more than 256 hazards";
+    case BARRIER_HELP_LEFT_OVER:
+        return "bytes are left over behind the job";
+    default:
+        return "the job is neither of kind 1 nor of kind 2";
+    }
+}
+
+/* Bytes to text. */
+static int to_text(void)
+{
+    /* More than the longest job that is read, whose kind takes one byte, so that
+       a longer one shows. */
+    enum { NUMBERS = BARRIER_HELP_HEADER_NUMBERS + BARRIER_HELP_HAZARD_NUMBERS * BARRIER_HAZARDS_MAX };
+    static uint8_t bytes[NUMBERS * BARRIER_HELP_NUMBER_MAX];
+    static barrier_hazard hazards[BARRIER_HAZARDS_MAX];
+    barrier_help_header header;
+    size_t count;
+    const size_t length = fread(bytes, 1, sizeof bytes, stdin);
+    if (ferror(stdin)) {
+        fprintf(stderr, "jobtext: standard input cannot be read\n");
+        return 1;
+    }
+    const enum barrier_help_result result =
+        barrier_help_read_job(bytes, length, &header, hazards, BARRIER_HAZARDS_MAX, &count);
+    if (result != BARRIER_HELP_OK) {
+        fprintf(stderr, "jobtext: %s\n", unread(result));
+        return 1;
+    }
+    print_header(&header);
+    for (size_t i = 0; i < count; i++)
+        print_hazard(&hazards[i]);
+    return written();
+}
+
+int main(int argc, char **argv)
+{
+    if (argc == 1)
+        return to_bytes();
+    if (argc == 2 && strcmp(argv[1], "-r") == 0)
+        return to_text();
+    fprintf(stderr, "jobtext: text to bytes, or with -r bytes to text\n");
+    return 1;
 }

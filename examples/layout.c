@@ -1,6 +1,6 @@
 /*
- * Panels for one run: a yard stocks two panel lengths, and the run of document
- * 01's printed example is laid from them, with more and more tries; then runs
+ * Panels for one run: a yard stocks two panel lengths, and the run of the
+ * sample job is laid from them, with more and more tries; then runs
  * at the ends of what these lengths cover, and refusals.  It ends with 1 where a
  * call does not do what it should.
  *
@@ -46,7 +46,7 @@ static int print_layout(uint64_t run, uint64_t limit)
 static int print_tries(void)
 {
     static const uint64_t limits[] = {94, 95, 137, 138, BARRIER_TRIES_MAX};
-    printf("Panels of 4000 and 2500, the printed example's run\n");
+    printf("Panels of 4000 and 2500, the sample job's run\n");
     for (size_t i = 0; i < sizeof limits / sizeof limits[0]; i++)
         if (!print_layout(RUN, limits[i]))
             return 0;

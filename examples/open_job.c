@@ -1,5 +1,5 @@
 /*
- * An open job: the header of document 01's printed example, to which hazards
+ * An open job: the header of the sample job of barrier.h, to which hazards
  * come as a controller meets them; then a variant, tried and taken back; then
  * hazards by the road's begin.  It ends with 1 where a call does not do what it
  * should.
@@ -10,23 +10,20 @@
 #include <stdio.h>
 
 #include <barrier.h>
+#include <barrier_help.h>
 
-#include "number_form.h"
-
-enum { HEADER_NUMBERS = 14 };
-
-static const uint64_t header[HEADER_NUMBERS] = {
-    1,               /* kind */
-    0, 1000000,      /* road begin and end: one kilometre */
-    101000, 0,       /* runout lengths: forward; no opposite traffic */
-    9000,            /* clear-zone width */
-    0,               /* travelled-way edge to centreline */
-    3000,            /* barrier offset */
-    1000,            /* deflection allowance */
-    15, 1,           /* flare: 1 across for 15 along */
-    13340,           /* straight barrier before the flare */
-    0,               /* continuity limit */
-    0                /* hazard count: none yet */
+static const barrier_help_header header = {
+    1,               /* kind: approaches as long as they come out */
+    0, 1000000,      /* A, B: road begin and end, one kilometre */
+    101000, 0,       /* LF, LO: runout lengths, forward; no opposite traffic */
+    9000,            /* C: clear-zone width */
+    0,               /* W: travelled-way edge to centreline */
+    3000,            /* M: barrier offset */
+    1000,            /* D: deflection allowance */
+    15, 1,           /* a, b: flare, 1 across for 15 along */
+    13340,           /* T: straight barrier before the flare */
+    0,               /* G: continuity limit */
+    0                /* panel length: of kind 2 alone */
 };
 
 /* The names under which the hazards stand: their drawing numbers. */
@@ -55,10 +52,8 @@ static int ends_with(const char *what, barrier_reply reply, uint64_t wanted)
 
 static int open_header(barrier_open_job *job)
 {
-    uint8_t bytes[HEADER_NUMBERS * NUMBER_BYTES_MAX];
-    size_t length = 0;
-    for (int i = 0; i < HEADER_NUMBERS; i++)
-        length += put_number(bytes + length, header[i]);
+    uint8_t bytes[BARRIER_JOB_LONGEST];
+    const size_t length = barrier_help_write_job(&header, NULL, 0, bytes, sizeof bytes);
     return ends_with("open", barrier_open(job, bytes, length), BARRIER_DONE);
 }
 
@@ -66,20 +61,17 @@ static int open_header(barrier_open_job *job)
 static int print_runs(const barrier_open_job *job)
 {
     static uint8_t schedule[BARRIER_SCHEDULE_MAX];
-    size_t at = 0;
-    uint64_t end = 0;
+    barrier_help_run run;
     const barrier_plan_reply planned =
         barrier_open_schedule(job, BARRIER_RIGHT, schedule, sizeof schedule);
     const barrier_reply reply = {planned.number, planned.value};
     if (!ends_with("schedule", reply, BARRIER_DONE))
         return 0;
-    for (uint64_t count = get_number(schedule, &at); count > 0; count--) {
-        /* A record has the distance from the run before, not the station. */
-        const uint64_t start = end + get_number(schedule, &at);
-        end = start + get_number(schedule, &at);
-        const uint64_t level = get_number(schedule, &at);
-        printf("    [%" PRIu64 ", %" PRIu64 ") at NC-%" PRIu64 "\n", start, end, level);
-    }
+    barrier_help_walk walk = barrier_help_walk_of(schedule, (size_t)planned.value);
+    while (barrier_help_next_run(&walk, &run))
+        printf("    [%" PRIu64 ", %" PRIu64 ") at NC-%" PRIu64 "\n", run.start, run.end, run.level);
+    if (walk.result != BARRIER_HELP_OK)
+        return 0;
     /* Not in the runs: it stands in the neighbouring contract. */
     if (planned.before > 0 || planned.after > 0)
         printf("    overhang: %" PRIu64 " mm before the road, %" PRIu64 " mm behind it\n",

@@ -3,7 +3,7 @@
  *
  * A job goes in: one straight road and its roadside hazards.  A schedule comes
  * out: the runs of safety barrier along one side of the road, each with its
- * containment level.  There are fourteen calls:
+ * containment level.  There are fifteen calls:
  *
  *     barrier_plan           writes the schedule of one side of a job
  *     barrier_level          gives the level that a job requires at a station
@@ -20,33 +20,97 @@
  *     barrier_open_schedule  writes the schedule of one side of an open job
  *     barrier_keep           keeps the state of an open job under a number
  *     barrier_return         returns an open job to a state that is kept
+ *     barrier_version        gives the version of the engine that is linked
  *
- * This file is the manual; examples/example.c is a first program,
- * examples/open_job.c one with an open job, examples/layout.c one that lays
- * panels, and examples/corners.c draws a job.
+ * This file is the manual.  barrier_help.h, beside it, has what a program
+ * writes around the calls: jobs to bytes and back, schedules run by run,
+ * refusals in words, metres.  examples/first.c is a first program,
+ * examples/day.c a controller's day; examples/README.md lists the others, in
+ * Rust and Python too.  Paths are those of the repository.
  *
  * CONTENTS
  *
  *     Stations and ranges          Open jobs
- *     The number form              Refusals, and their order
- *     The job                      Memory
- *     What is planned              Threads
- *     Overhangs                    Linking
- *     The schedule                 Constants
- *     Corner points                The calls
- *     Panels for one run
+ *     Sides and traffic            Refusals, and what can be done
+ *     The number form              Memory
+ *     The job                      Threads
+ *     What is planned              Platform and linking
+ *     Overhangs                    Versions
+ *     The schedule                 What has to be believed
+ *     Corner points                Constants
+ *     Panels for one run           The calls
+ *
+ * Three things that no refusal warns of: where traffic drives on the left the
+ * sides are handed over swapped ("Sides and traffic"); a curve is planned as if
+ * it were straight ("The job"); barrier that has to stand beyond the ends of
+ * the road is in no schedule ("Overhangs").
  *
  * ---------------------------------------------------------------------------
  * STATIONS AND RANGES
  *
- * Lengths, offsets and stations are whole millimetres.  Station t names the
- * millimetre from t to t + 1.  A range [s, e) has the millimetres s to e - 1:
- * its end station is not in it.  So two lots that share a boundary have no
- * millimetre in common, and a run that begins on the boundary is in the second
- * lot alone.
+ * Lengths, offsets and stations are whole millimetres.  The engine rounds
+ * nothing that it is given.  Where a reading is finer than that, round a hazard
+ * outwards: first station and near offset down, end station and far offset up,
+ * so that the hazard that is planned is never the smaller one.
+ * barrier_help_mm_of_text_down and barrier_help_mm_of_text_up do it.
+ *
+ * Station t names the millimetre from t to t + 1.  A range [s, e) has the
+ * millimetres s to e - 1: its end station is not in it.  So two lots that share
+ * a boundary have no millimetre in common, and a run that begins on the
+ * boundary is in the second lot alone.
  *
  * Stations may be counted from a datum far away: a road can end at station
  * 1000000000000, a million kilometres from it.  So a station takes 64 bits.
+ *
+ * No station is below 0.  Where a road has such stations, add one number to all
+ * stations of the job and subtract it from those that come back; lengths,
+ * offsets, overhangs and quantities stay as they are.
+ *
+ *     a road from -250000 on, moved by 250000: the hazard [-50000, -40000) is
+ *     handed over as [200000, 210000), and its run [155773, 210000) is
+ *     [-94227, -40000) of the road
+ *
+ * ---------------------------------------------------------------------------
+ * SIDES AND TRAFFIC
+ *
+ * Forward traffic travels towards rising stations, opposite traffic towards
+ * falling ones.  Right and left are those of one who looks towards rising
+ * stations.  For each side, the traffic that drives beside it is adjacent to
+ * it, and the other one is the far traffic:
+ *
+ *     side             adjacent    far
+ *     BARRIER_RIGHT    forward     opposite
+ *     BARRIER_LEFT     opposite    forward
+ *
+ * That is so where traffic drives on the right.  WHERE IT DRIVES ON THE LEFT,
+ * SWAP THE SIDES: hand over a hazard on the left as BARRIER_RIGHT and one on
+ * the right as BARRIER_LEFT, and ask for them so too; the schedule of
+ * BARRIER_RIGHT is then that of the left side.  LF and LO stay as they are.
+ *
+ *     A two-way road, LF and LO 101000, C 9000, W 3500, M 3000, D 1000, no
+ *     flare, and one hazard [200000, 210000), n 5000, f 9000:
+ *
+ *     traffic drives   hazard on    hand over        run
+ *     on the right     the right    BARRIER_RIGHT    [132666, 238056)
+ *     on the right     the left     BARRIER_LEFT     [171944, 277334)
+ *     on the left      the left     BARRIER_RIGHT    [132666, 238056)
+ *     on the left      the right    BARRIER_LEFT     [171944, 277334)
+ *
+ * With its sides not swapped, the third of these gets the fourth's run: its
+ * barrier begins 39278 mm too late, and nothing shows it.
+ *
+ * With LO = 0 the road is one-way, or one carriageway of a separated road.
+ * Forward traffic is then adjacent to both sides and there is no far traffic,
+ * so that swapping alters no length.  But it still travels towards rising
+ * stations.  A CARRIAGEWAY WHOSE TRAFFIC TRAVELS TOWARDS FALLING STATIONS IS
+ * TURNED ROUND BY THE CALLER: a hazard or a range [s, e) is handed over as
+ * [A + B - e, A + B - s), a station t that is asked for as A + B - 1 - t, left
+ * for right.  Runs are turned back as ranges are, a corner's station x is
+ * A + B - x, and the overhangs before and after change places.
+ *
+ *     The sample job's hazard [200000, 210000) is handed over as
+ *     [790000, 800000), and its run [745773, 800000) is [200000, 254227) of the
+ *     road
  *
  * ---------------------------------------------------------------------------
  * THE NUMBER FORM
@@ -72,12 +136,14 @@
  *      2     A     road begin                               0 to 999999999999
  *      3     B     road end,                                A + 1 to
  *                  B - A at most 2000000000                 1000000000000
- *      4     LF    runout length of forward traffic,
- *                  which travels towards rising stations    1 to 200000
+ *      4     LF    runout length of forward traffic         1 to 200000
  *      5     LO    runout length of opposite traffic;
  *                  0 means one-way or separated             0 to 200000
- *      6     C     clear-zone width                         1 to 30000
- *      7     W     travelled-way edge to centreline         0 to 20000
+ *      6     C     clear-zone width, from the travelled-
+ *                  way edge; for far traffic from the
+ *                  centreline                               1 to 30000
+ *      7     W     travelled-way edge to centreline;
+ *                  not used where LO is 0                   0 to 20000
  *      8     M     barrier offset from that edge            0 to 20000
  *      9     D     deflection allowance                     1 to 5000
  *     10     a     flare: b across for a along; here a      1 to 100
@@ -108,13 +174,43 @@
  *
  * and nothing behind them.  The hazards may stand in any order.
  *
+ * The sample job of this manual, which examples/first.c plans, is a one-way
+ * road of 1 km with one hazard, a culvert headwall:
+ *
+ *     1 0 1000000 101000 0 9000 0 3000 1000 15 1 13340 0 1
+ *     0 200000 210000 5000 9000 3
+ *
+ *     01 00 C0 84 3D 88 95 06 00 A8 46 00 B8 17 E8 07 0F 01 9C 68 00 01
+ *     00 C0 9A 0C D0 E8 0C 88 27 A8 46 03
+ *
+ *   - The runout length is how far along the road a vehicle that leaves it goes
+ *     before it comes to rest.  Runout lengths, clear-zone widths and flares
+ *     are in the tables of road norms, by speed and traffic; the engine has no
+ *     such table, and chooses no level.
+ *   - NC-1 to NC-6 are the containment levels of the Mexican draft norm
+ *     PROY-NOM-037-SICT2-2025, 5.1.1 and Table 2.  Of a level the engine uses
+ *     the number alone, and takes the greater one for the stronger barrier.
+ *     Levels of another norm are handed over as 1 to 6 in rising strength.
+ *   - M and D are those of the one barrier type that the job is planned with,
+ *     on both sides and at every level.  For a barrier of another type, or at
+ *     another offset, plan another job: schedules of two jobs are not joined,
+ *     and no gap between them is closed.
+ *   - A point, a tree or a pole, is a hazard of one millimetre: e = s + 1 (a
+ *     hazard with e = s is refused 4).  Its near and far offset may be equal.
+ *   - A gap of exactly G stays open.  Where a norm joins barriers that are
+ *     80 m apart or nearer, G is 80001; nearer than 50 m, 50000.
+ *   - The road is straight.  Curves are outside the engine: it is not told of
+ *     them, so that it refuses none, and what it replies for one is wrong
+ *     where the norm has another construction for it.  The norm named above
+ *     has one for radii of 900 m and less (5.4.4.2).
+ *   - Runs are the length of need alone.  Terminals, transitions between
+ *     barriers and the least length of a barrier system are not in them.
+ *
  * ---------------------------------------------------------------------------
  * WHAT IS PLANNED
  *
- * The adjacent traffic of the right side is forward, of the left side
- * opposite; the other one is the far traffic.  With LO = 0 forward traffic is
- * adjacent to both sides and there is no far traffic.  Forward traffic
- * approaches a hazard from lower stations, opposite traffic from higher ones.
+ * Forward traffic approaches a hazard from lower stations, opposite traffic
+ * from higher ones ("Sides and traffic").
  *
  *     traffic     reaches the hazard if   reach R               offset m
  *     adjacent    n < C                   lesser of f and C     M
@@ -129,6 +225,7 @@
  * b = 0 is at most T, the barrier ends in its straight part, before the flare
  * begins, and that is the approach length: it is tested for each traffic with
  * its own L, R and m.  So this length is at most the runout length.
+ * docs/figures/flare.svg shows where all of these lie.
  *
  *     L 101000, R 9000, m 3000, flare 1 across for 15 along:
  *     without flare 67334; with T = 13340 the barrier flares, length 44227;
@@ -179,9 +276,8 @@
  * reaches has no envelope and does not count.  No overhang is above 209979: the
  * greatest runout length, 200000, in panels of 9999.
  *
- *     Document 01's case K8, its second job: a hazard [67333, 210000) on a road
- *     from 0 on, approached from lower stations, without flare; its approach
- *     length is 67334.  The envelope begins 1 mm before the road:
+ *     The sample job without flare (b 0) has the approach length 67334.  With
+ *     its hazard [67333, 210000), the envelope begins 1 mm before the road:
  *     run [0, 210000), before 1, after 0.
  *     With the hazard from 67334 on: the same run, before 0, after 0.
  *
@@ -189,10 +285,10 @@
  * hazard is not protected, though, until barrier stands along the overhang too:
  * from A - before to A, or from B to B + after.  (A - before may be below 0:
  * reckon it in signed numbers.)  That stretch is the neighbouring contract's.
- * Nothing of it is in the schedule, nor in any
- * quantity or price taken from it, so tell the neighbour's office: which side,
- * which end of the road, how many millimetres.  The level there is that of the
- * hazards which hang over; the reply does not have it.
+ * Nothing of it is in the schedule, nor in any quantity or price taken from it,
+ * so tell the neighbour's office: which side, which end of the road, how many
+ * millimetres.  The level there is that of the hazards which hang over; the
+ * reply does not have it.
  *
  * ---------------------------------------------------------------------------
  * THE SCHEDULE
@@ -205,11 +301,16 @@
  *     length      in millimetres, 1 or more
  *     level       1 to 6
  *
- * A side without runs has the schedule 00, one byte.  Two runs may touch
- * (distance 0) where their levels differ.  No run ends above 1000000000000.
- * Two jobs that require the same levels on a side have equal schedules of that
- * side, byte for byte; so schedules can be compared with memcmp.  Their
- * overhangs may differ: nothing outside the road is in a schedule.
+ *     The sample job's right side, one run [155773, 210000) at NC-3:
+ *     01 FD C0 09 D3 A7 03 03
+ *
+ * barrier_help_next_run walks over a schedule and gives start, end and level of
+ * each run.  A side without runs has the schedule 00, one byte.  Two runs may
+ * touch (distance 0) where their levels differ.  No run ends above
+ * 1000000000000.  Two jobs that require the same levels on a side have equal
+ * schedules of that side, byte for byte; so schedules can be compared with
+ * memcmp.  Their overhangs may differ: nothing outside the road is in a
+ * schedule.
  *
  * ---------------------------------------------------------------------------
  * CORNER POINTS
@@ -224,10 +325,11 @@
  *     hazard      the hazard's end on the
  *                 side of the approach      s or e            M
  *
- * It is the approach of the adjacent traffic alone.  Forward traffic comes from
- * lower stations and has the first of each two; opposite traffic comes from
- * higher ones and has the second.  l is the approach length, as raised to whole
- * panels.  The flare takes the upstream end away from the road, to the offset
+ * It is the approach of the adjacent traffic alone; there are no corners of the
+ * far traffic's.  Forward traffic comes from lower stations and has the first
+ * of each two; opposite traffic comes from higher ones and has the second.  l
+ * is the approach length, as raised to whole panels.  The flare takes the
+ * upstream end away from the road, to the offset
  *
  *     M + b * (l - T) / a, rounded down
  *
@@ -235,7 +337,7 @@
  * above T before it is raised.  Otherwise the barrier does not bend: the
  * upstream end is at offset M, and the flare's corner is the same as that one.
  *
- *     The printed example, case K1: length 44227, above T = 13340.
+ *     The sample job: length 44227, above T = 13340 (docs/figures/flare.svg).
  *
  *         offset
  *          5059   upstream
@@ -291,8 +393,8 @@
  * or not, overruns by less.  So where the overrun is the floor, more tries are
  * of no use.  The floor may be out of reach, though.
  *
- *     Lengths 4000 and 2500, run 54227, that of the printed example: the
- *     divisor is 500, its multiple 54500, the floor 273.
+ *     Lengths 4000 and 2500, run 54227, that of the sample job: the divisor
+ *     is 500, its multiple 54500, the floor 273.
  *
  *     limit           layout     overrun    tries
  *     1 to 94         none                  the limit
@@ -314,7 +416,7 @@
  * a job can stay open: a header, and up to 256 hazards that come and go, each
  * under a name from 0 to 65535: the number of its drawing, say.
  *
- *     barrier_open_job job;
+ *     barrier_open_job job;                         55544 bytes
  *     barrier_open(&job, bytes, bytes_len);         a header, no hazard
  *     barrier_add(&job, 7, headwall);               it stands under 7
  *     barrier_add(&job, 1020, tree);
@@ -337,6 +439,9 @@
  *     by a withdrawal is used again, under whichever name.
  *   - A refused call alters nothing, neither the open job nor the output.
  *   - Opening memory that has an open job already starts anew.
+ *   - What stands comes back with barrier_help_standing, under its names;
+ *     written with barrier_help_write_job it is the job for barrier_level,
+ *     barrier_corners and barrier_offset.
  *
  * A hazard that is withdrawn, or left out of a job, alters levels near it
  * alone: on its own side, from G millimetres before its envelope to G
@@ -382,7 +487,7 @@
  * happens to be what some calls would have left, and is taken for that.
  *
  * ---------------------------------------------------------------------------
- * REFUSALS, AND THEIR ORDER
+ * REFUSALS, AND WHAT CAN BE DONE
  *
  * A call is done (number 0) or refused.  A refusal has a number and a value:
  *
@@ -399,8 +504,7 @@
  *      5      the same                  reached hazard with n < M + D: the
  *                                       barrier has no room to deflect
  *      6                                no longer given, and not used again;
- *                                       before version 1.0.0, an envelope that
- *                                       leaves the road, now an overhang
+ *                                       what it was for is an overhang now
  *      7      index of the first        bytes behind the last hazard
  *             byte left over
  *      8      0                         side above 1, level not 1 to 6, p > q
@@ -448,10 +552,25 @@
  *
  * A job to which none of 1 to 5 and 7 applies is accepted, on both sides alike.
  *
- * Refusal 10 is for any fault anywhere in the schedule, also behind the record
- * that is wanted: a count above 511 or not that of the records, a number not
- * in shortest form, bytes left over, a length of 0, a level outside 1 to 6, an
- * end above 1000000000000, touching runs of one level.
+ * barrier_help_refusal says a refusal in words, barrier_help_remedy what can be
+ * done about it.  Beside that:
+ *
+ *   - Only the first fault of a job is returned, and no others: mend it and
+ *     call again.  To have the faults of all hazards at once, open the header
+ *     and add them one by one: each add answers for its own.
+ *   - 1, 2, 7 and 10 are of bytes, and so of the program that wrote or kept
+ *     them; a user can do nothing about them.
+ *   - 3 names the header's number: barrier_help_header_name and
+ *     barrier_help_header_range have the words.
+ *   - 4 names the hazard and not the field.  To show which, test the six ranges
+ *     in the table's order: barrier_help_hazard_fault does it.
+ *   - 5: measure n again, or plan with a smaller M or with a barrier that
+ *     deflects less; M and D are those of the whole job.
+ *   - 10 is for any fault anywhere in the schedule, also behind the record that
+ *     is wanted: a count above 511 or not that of the records, a number not in
+ *     shortest form, bytes left over, a length of 0, a level outside 1 to 6, an
+ *     end above 1000000000000, touching runs of one level.  It never means that
+ *     no barrier stands there.
  *
  * ---------------------------------------------------------------------------
  * MEMORY
@@ -490,48 +609,78 @@
  * open job itself, and each of the others less than 2 KiB.
  *
  * ---------------------------------------------------------------------------
- * LINKING
+ * PLATFORM AND LINKING
+ *
+ * The engine is machine code for x86-64, with the System V calling convention,
+ * in ELF files: Linux on PCs and servers.  There is none for Windows or macOS,
+ * for ARM, which many controllers have, nor for 32-bit or big-endian machines:
+ * the back end of the toolchain that makes it makes this one alone.  Jobs and
+ * schedules are bytes that do not depend on the machine.
  *
  * `pkg-config --cflags --libs barrier_engine` prints the flags; they name this
- * header's folder and the archive libbarrier_engine.a.  The archive is for
- * x86-64, position independent, so that it links into programs and shared
- * libraries alike, exports the fourteen calls alone, and asks the C library for
- * nothing but block copies and fills (memcpy, memset and their kin).
+ * header's folder and the archive libbarrier_engine.a.  The archive is position
+ * independent, so that it links into programs and shared libraries alike,
+ * exports the fifteen calls alone, and asks the C library for nothing but block
+ * copies and fills (memcpy, memset and their kin).
  *
- * A program is compiled with the header of the archive that it links: the
- * linker does not see where they differ.  A program compiled with an earlier
- * header still links, but it has to be compiled anew where the first number of
- * the version has gone up since:
+ * The same engine is installed as a shared library too, libbarrier_engine.so.3,
+ * where 3 is the version's first number: `pkg-config --cflags --libs
+ * barrier_engine_shared` names it, and so does -lbarrier_engine, because
+ * linkers prefer a shared library to an archive of the same name.  In CMake,
+ * find_package(barrier_engine 3.2) gives the targets barrier_engine::static
+ * and barrier_engine::shared.
  *
- *   - In version 1.0.0 barrier_plan and barrier_open_schedule reply with a
- *     longer struct, which is handed over in another way: the call takes its
- *     arguments for others and writes over the job's bytes or other memory.  In
- *     the program's text, barrier_reply becomes barrier_plan_reply there, and
- *     what it did for refusal 6 (the name BARRIER_ENVELOPE_OFF_ROAD is gone) it
- *     does for an overhang.
- *   - In version 2.0.0 an open job takes more room: the calls write behind the
- *     end of one for which an earlier header made room.  In the program's text,
- *     what holds a station, a schedule's first distance or BARRIER_STATION_MAX
- *     becomes a 64-bit number, and what reads or writes the number form takes
- *     six bytes.  BARRIER_STACK_MAX is greater, 36864 after 24576: a thread's
- *     stack that was made for the earlier one is too small.  So are buffers of
- *     the earlier BARRIER_SCHEDULE_MAX, 5623, and BARRIER_JOB_LONGEST, 4648.
- *     What was accepted before gets the same replies.
- *     Of what was refused, roads, runs and sheet corners beyond 2000000000 are
- *     taken, and a number above 4294967295 is no longer refused 2 for that, but
- *     3 or 4 where it is too great for its field.
- *   - In version 3.0.0 barrier_add and barrier_withdraw take a name in 16 bits
- *     and no longer in 8: what an earlier header's call hands over in the upper
- *     eight is not said, so that another name may be meant.  In the program's
- *     text, what holds a name becomes a uint16_t; what counts the names by
- *     BARRIER_NAME_MAX now has 65536 of them.  Lists of calls with names to 255
- *     alone reply as before: where 256 hazards stand, all of these names do, so
- *     that an add is refused 12 and never 15.  An open job of version 2.0.0 is
- *     one of 3.0.0 too; the other way about, names above 255 are refused.
+ * A plug-in links the archive, and keeps its calls to itself:
  *
- * The open job has 5176 bytes in version 0.4.0, 5180 in 0.5.0 to 0.6.1, 46204
- * in 0.7.0 to 1.2.0, and 55544 from 2.0.0 on, where it is aligned to 8 and no
- * longer to 4.
+ *     cc -shared -fPIC plugin.c -o plugin.so \
+ *         $(pkg-config --cflags --libs barrier_engine) \
+ *         -Wl,--exclude-libs,libbarrier_engine.a
+ *
+ * Without the last flag the plug-in exports the calls, and where the program
+ * that loads it, or another plug-in, has an engine of another version, the
+ * loader may bind the calls of one to the other.
+ *
+ * ---------------------------------------------------------------------------
+ * VERSIONS
+ *
+ * A program is compiled with the header of the engine that it links: the linker
+ * does not see where they differ.  barrier_version says at run time which
+ * engine is there, and barrier_help_version_fits(barrier_version()) whether it
+ * is one for this header.  What stays and what changes, for programs already
+ * compiled:
+ *
+ *   - The third number goes up: the header says more, and no call is another.
+ *     What is compiled goes on.
+ *   - The second number goes up: calls are added, with their constants and
+ *     refusals.  What is compiled goes on with the later archive or shared
+ *     library as it is.  The other way about it need not: a program compiled
+ *     with a later header may ask for calls that an earlier engine lacks.
+ *   - The first number goes up: a call that was there takes or replies
+ *     something else, or a struct has another size.  Every object that was
+ *     compiled with the older header has to be compiled anew; with the archive
+ *     it still links, and then hands over other arguments or writes over
+ *     memory.  The shared library has another name then, so that a program
+ *     finds the one it was linked with or none.
+ *
+ * Structs, the values of constants, and the form of jobs and schedules stay
+ * while the first number stays.  What is stored between runs is best a job or a
+ * schedule: the fields of an open job may be others in a later version.  A job
+ * has no names and no kept states: store the names beside it.  CHANGELOG.md has
+ * what a program notices, by version.
+ *
+ * ---------------------------------------------------------------------------
+ * WHAT HAS TO BE BELIEVED
+ *
+ * That each call replies what its definition says, for every input, is proved;
+ * docs/PROMISES.md lists the definitions.  Beside them has to be believed: the
+ * toolchain that read the source, its prover, kernel and logic, and its back
+ * end, the assembler and the linker; that this header and the engine agree on
+ * the calling convention, which is tested; memcpy and its kin of the C library;
+ * the machine; and that the caller keeps to "Memory".  What the stack takes is
+ * measured.  barrier_help.h, the examples and the code for Rust and Python are
+ * tested and not proved.
+ *
+ * No licence is granted by this file or with it: that is the owner's to give.
  */
 #ifndef BARRIER_H
 #define BARRIER_H
@@ -544,15 +693,14 @@ extern "C" {
 #endif
 
 /*
- * The version of the engine that this header belongs to.  From 1.0.0 on the
- * first number goes up where a call that was there before is called or replies
- * in another way, or an open job has another size, so that programs already
- * compiled break ("Linking"): 1.0.0 is such a version for its replies, 2.0.0
- * for its open job, 3.0.0 for its names.  The second goes up with each
- * addition, so barrier_layout is there from 3.1.0 on; the third where the
- * header says more and no call is another.
+ * The version of the engine that this header belongs to ("Versions").  All
+ * calls but two are there from 3.0.0 on: barrier_layout from 3.1.0,
+ * barrier_version from 3.2.0.
  */
-#define BARRIER_VERSION "3.1.1"
+#define BARRIER_VERSION "3.2.0"
+#define BARRIER_VERSION_MAJOR 3
+#define BARRIER_VERSION_MINOR 2
+#define BARRIER_VERSION_PATCH 0
 
 /*
  * CONSTANTS
@@ -607,16 +755,18 @@ extern "C" {
 #define BARRIER_STACK_MAX 36864
 #define BARRIER_OPEN_STACK_MAX 65536
 
-/* The sides of the road.  Forward traffic runs beside the right one. */
+/*
+ * The sides of the road, of one who looks towards rising stations, where
+ * traffic drives on the right.  Where it drives on the left they are handed
+ * over swapped: forward traffic drives beside BARRIER_RIGHT ("Sides and
+ * traffic").
+ */
 enum barrier_side {
     BARRIER_RIGHT = 0,
     BARRIER_LEFT = 1
 };
 
-/*
- * The containment levels, lowest first.  Up to version 0.5.0 the tag was
- * barrier_level, which is a call now.
- */
+/* The containment levels, lowest first ("The job" says whose they are). */
 enum barrier_containment {
     BARRIER_NC_1 = 1,
     BARRIER_NC_2 = 2,
@@ -626,7 +776,7 @@ enum barrier_containment {
     BARRIER_NC_6 = 6
 };
 
-/* The numbers of the refusal table above, and 0.  No refusal has 6 any more. */
+/* The numbers of the refusal table above, and 0. */
 enum barrier_number {
     BARRIER_DONE = 0,
     BARRIER_JOB_ENDED = 1,
@@ -736,9 +886,6 @@ typedef struct {
  * the size first, lend none (NULL, 0): an accepted job is then refused 9 with
  * the bytes needed, since no schedule is empty.  That reply has overhang 0
  * whatever hangs over: take the overhangs from the call that is done.
- *
- * A job that any version from 0.3.0 on accepted gets the same bytes, and
- * overhang 0 at both ends if that version was before 1.0.0.
  */
 barrier_plan_reply barrier_plan(const uint8_t *job, size_t job_len, uint64_t side,
                                 uint8_t *out, size_t out_len);
@@ -842,7 +989,7 @@ typedef struct {
  * The job's other hazards do not count: an offset that is put into the header
  * is that of all of them, and one that stands nearer may then be refused 5.
  *
- *     The printed example: n 5000 and D 1000, so M is at most 4000.
+ *     The sample job: n 5000 and D 1000, so M is at most 4000.
  *
  *     longest          M
  *     63485 or more    0
@@ -906,12 +1053,13 @@ barrier_quantities_reply barrier_quantities(const uint8_t *schedule, size_t sche
  *     station             any station, on or off the road
  *
  * Done: found says whether a run of that side has the station.
- * Refused: 8 or 10, with found 0.
+ * Refused: 8 or 10, with found 0; the reply has no value, which would be 0.
  *
  * Only the schedule of the side asked for is read; the other one may be
  * anything, also NULL with length 0.  start and end are byte indices; the
  * record's first number is a distance, so the run's stations come from
- * adding up the records from the first on (examples/listing.c does it).
+ * adding up the records from the first on: with barrier_help_next_run, walk
+ * until run.start <= station < run.end.
  */
 barrier_record barrier_lookup(const uint8_t *right, size_t right_len,
                               const uint8_t *left, size_t left_len,
@@ -1112,6 +1260,14 @@ barrier_reply barrier_keep(barrier_open_job *job, uint64_t state);
  * Refused: 3 with 0, or 13 with 0.  The open job stays as it was.
  */
 barrier_reply barrier_return(barrier_open_job *job, uint64_t state);
+
+/*
+ * Version: that of the engine which is linked, or loaded, as one number:
+ * MAJOR * 1000000 + MINOR * 1000 + PATCH, 3002000 for 3.2.0.  The macros
+ * BARRIER_VERSION_MAJOR, BARRIER_VERSION_MINOR and BARRIER_VERSION_PATCH are
+ * this header's; where the two differ, "Versions" says what may be done.
+ */
+uint32_t barrier_version(void);
 
 #ifdef __cplusplus
 }

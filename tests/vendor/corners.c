@@ -2,7 +2,7 @@
  * The corner points of an approach, bit by bit, and the refusals of the call.
  * Ends with 1 where a reply is another.
  */
-#include "../../examples/number_form.h"
+#include "number_form.h"
 #include <barrier.h>
 #include <stdio.h>
 #include <string.h>

@@ -27,21 +27,28 @@ for name in example open_job layout; do
         grep -qx "$name: standard output cannot be written" "$tmp/said" || fail "$program, output full: $(cat "$tmp/said")"
     done
 done
-echo "examples: C and Rust print examples/example.out, open_job.out and layout.out, and end with 1 where the output is full"
+ends_with 0 "$BUILD/day" >"$tmp/printed"
+diff examples/day.out "$tmp/printed"
+ends_with 1 "$BUILD/day" >/dev/full
+grep -qx "day: standard output cannot be written" "$tmp/said" || fail "day, output full: $(cat "$tmp/said")"
+echo "examples: C and Rust print examples/example.out, open_job.out and layout.out, C examples/day.out, and end with 1 where the output is full"
 
 # The examples linked with calls that refuse; C and Rust have to say the same.
 # Arguments: the call that is refused, the program, and the last line printed.
-refused() {
+refused_in_c() {
     mkdir -p "$tmp/$1"
     $CC -std=c99 -Wall -Wextra -Werror -pedantic -fPIC -Iinclude -DREFUSED="$1" -c tests/vendor/refusing.c -o "$tmp/$1/refusing.o"
     ar rcs "$tmp/$1/libbarrier_engine.a" "$tmp/$1/refusing.o"
     $CC -std=c99 -Iinclude "examples/$2.c" -L"$tmp/$1" -lbarrier_engine -o "$tmp/$1/$2"
-    BARRIER_LIB_DIR="$tmp/$1" cargo build --quiet --locked --manifest-path examples/rust/Cargo.toml --target-dir "$tmp/rust"
     ends_with 1 "$tmp/$1/$2" >"$tmp/$1/c"
-    ends_with 1 "$tmp/rust/debug/$2" >"$tmp/$1/rust"
-    diff "$tmp/$1/c" "$tmp/$1/rust"
     last=$(tail -n 1 "$tmp/$1/c")
     [ "$last" = "$3" ] || fail "$1 refused: the last line is '$last'"
+}
+refused() {
+    refused_in_c "$@"
+    BARRIER_LIB_DIR="$tmp/$1" cargo build --quiet --locked --manifest-path examples/rust/Cargo.toml --target-dir "$tmp/rust"
+    ends_with 1 "$tmp/rust/debug/$2" >"$tmp/$1/rust"
+    diff "$tmp/$1/c" "$tmp/$1/rust"
 }
 refused plan example '  plan: refused 1 with 34, the job ends before or inside the number at byte 34'
 refused lookup example '  lookup: refused 10 with 0, these bytes are not a schedule'
@@ -70,3 +77,13 @@ refused nothing layout '  no length: done, but it should be refused'
 grep -qx '  run 54227, at most 94 tries: none covers it; 7 tries, floor 8' "$tmp/nothing/c" || fail "no layout"
 grep -qx '  run 54227, at most 95 tries: (3, 4), overrun 2; 7 tries, floor 8' "$tmp/nothing/c" || fail "the layout"
 echo "examples: C and Rust end with 1 at the first call refused, and at one that is not and should be"
+
+# In C alone: the words have the call in them.
+refused_in_c plan first 'the job ends before or inside the number at byte 34; overhang 0 and 0 mm'
+refused_in_c version day 'the engine that is linked is not one for this header'
+refused_in_c open day "    (hand over all of the job's bytes, with as many hazards as its hazard count says)"
+refused_in_c add day '    (side 0 or 1; stations that rise and lie on the road; offsets, near then far, that do not fall and are at most 60000 millimetres; level 1 to 6)'
+grep -qx '  add 101, headwall at 400.000 m: refused 4 with 101, a field of the hazard to be named 101 is outside its range' "$tmp/add/c" || fail "the words of an add"
+refused_in_c open_schedule day '    (open the job with barrier_open first, and let nothing else write to its memory)'
+grep -qx '  right: refused 3 with 0, the memory is not an open job' "$tmp/open_schedule/c" || fail "the words of an open job's memory"
+echo "examples: first.c and day.c end with 1 where a call is refused, and say of an open job what is one's"

@@ -37,7 +37,7 @@ envelopes() { # JOB
     grep '^hazard ' "examples/jobs/$1.job" | while read -r hazard side first end rest; do
         { grep -v '^hazard ' "examples/jobs/$1.job" && echo "$hazard $side $first $end $rest"; } >"$tmp/alone.job"
         "$BUILD/jobtext" <"$tmp/alone.job" >"$tmp/alone"
-        "$BUILD/listing" <"$tmp/alone" | awk -v first="$first" -v end="$end" '/^R/ { print "envelope", first, end, $2, $3, $4 }'
+        "$BUILD/listing" -p <"$tmp/alone" | awk -v first="$first" -v end="$end" '/^R/ { print "envelope", first, end, $2, $3, $4 }'
     done
 }
 
@@ -59,6 +59,26 @@ common='
     $1 == "R" { r++; distance[r] = $2 - end; start[r] = $2; end = $3; stop[r] = end; length_of[r] = $3 - $2; run[r] = $4; next }
     { field[$1] = $2; second[$1] = $3 }
 '
+
+# No label comes within 8 units of the edge, a letter being about half as wide as
+# the text is high.
+inside() { # FIGURE
+    sed '/<desc/,/<\/desc>/d; s/<\/text>/\n/g' "docs/figures/$1.svg" | awk '
+        function of(name) { return match($0, " " name "=\"[^\"]*\"") ? substr($0, RSTART + length(name) + 3, RLENGTH - length(name) - 4) : "" }
+        /<svg / { wide = of("width") + 0 }
+        /<g / { anchor = of("text-anchor") }
+        /<\/g>/ { anchor = "" }
+        /<text / {
+            sub(/.*<text /, "<text "); own = of("text-anchor"); if (own == "") own = anchor
+            size = of("font-size"); x = of("x") + 0; words = $0; gsub(/<[^>]*>/, "", words); gsub(/&[a-z]*;/, "_", words)
+            long = length(words) * (size ? size : 13) / 2
+            if (own == "end") x -= long; if (own == "middle") x -= long / 2
+            if (x < 8 || x + long > wide - 8) { print; found = 1 }
+            seen++
+        }
+        END { exit found || seen < 10 }' || fail "$1.svg has the labels above at its edge"
+}
+for figure in envelope flare schedule; do inside "$figure"; done
 
 # The schedule of one side: envelopes, levels, records and bytes.
 facts levels >"$tmp/levels"
@@ -118,7 +138,6 @@ awk "$common"'
     END {
         c = field["clear-zone"]; lf = field["runout-forward"]; lo = field["runout-opposite"]
         m = field["barrier-offset"]; w = field["centreline"]
-        print "Case K4: two-way road, no flare. Lengths and stations in millimetres; the scale across is six times that along."
         print "C " thousands(c); print "C " thousands(c)
         print "n " thousands(near); print "f " thousands(far)
         print "barrier over the envelope, NC-" run[1]
@@ -143,4 +162,49 @@ awk "$common"'
     }' "$tmp/k4" >"$tmp/shapes"
 drawn envelope "$tmp/shapes"
 described k4 envelope
-echo "figures: descriptions, numbers and bars as the jobs levels and k4 and their stored outputs have them"
+
+# The approach of one hazard, with a flare; the far offset is at the clear zone.
+facts printed >"$tmp/printed"
+approach='
+    $1 == "hazard" { near = $5; far = $6 }
+    END {
+        c = field["clear-zone"]; l = field["runout-forward"]; m = field["barrier-offset"]
+        a = field["flare"]; b = second["flare"]; t = field["straight"]
+        length_ = first[1] - start[1]; bend = first[1] - t; end_ = m + int(b * (length_ - t) / a)
+    }
+'
+awk "$common$approach"'
+    END {
+        print "clear zone C " thousands(c); print "n " thousands(near); print "f " thousands(far)
+        print "station " thousands(start[1]); print "offset " thousands(end_)
+        print "station " thousands(bend)
+        print "flare, " b " across for " a " along"
+        print "barrier offset M " thousands(m)
+        print "in the flare " thousands(length_ - t); print "T " thousands(t)
+        print "approach length " thousands(length_); print "runout length LF " thousands(l)
+        print "run " thousands(length_of[1]) ", NC-" run[1]
+        print thousands(first[1] - l); print thousands(start[1]); print thousands(first[1]); print thousands(last[1])
+        whole = l * (a * c + b * t - a * m) / (b * l + a * c)
+        print "length: " thousands(l) " × (" a " × " thousands(c) " + " b " × " thousands(t) " − " a " × " thousands(m) ") / (" \
+            b " × " thousands(l) " + " a " × " thousands(c) ") = " thousands(int(whole)) sprintf(".%02d", (whole - int(whole)) * 100 + 0.5) ", up to " thousands(length_)
+        print "offset of the upstream end: " thousands(m) " + " b " × (" thousands(length_) " − " thousands(t) ") / " a " = " \
+            thousands(end_) sprintf(".%d", (b * (length_ - t) % a) * 10 / a + 0.5) ", down to " thousands(end_)
+    }' "$tmp/printed" >"$tmp/wanted"
+texts flare >"$tmp/texts"
+diff "$tmp/wanted" "$tmp/texts" || fail "flare.svg says something else than the printed job"
+awk "$common$approach"'
+    function along(station) { return tenth(60 + (station - 95000) / 150) }
+    function across(offset) { return tenth(180 + offset / 30) }
+    END {
+        print "<path d=\"M" along(start[1]) " " across(end_) "L" along(bend) " " across(m) "H" along(last[1]) "\""
+        print "<path d=\"M" along(first[1] - l) " 180L" along(first[1]) " " across(c) "\""
+        print "<rect x=\"" along(first[1]) "\" y=\"" across(near) "\" width=\"" tenth((last[1] - first[1]) / 150) "\" height=\"" tenth((far - near) / 30) "\""
+        print "<path d=\"M" along(start[1]) " 520H" along(bend) "\""
+        print "<path d=\"M" along(bend) " 520H" along(first[1]) "\""
+        print "<path d=\"M" along(start[1]) " 550H" along(first[1]) "\""
+        print "<path d=\"M" along(first[1] - l) " 580H" along(first[1]) "\""
+        print "<path d=\"M" along(start[1]) " 610H" along(stop[1]) "\""
+    }' "$tmp/printed" >"$tmp/shapes"
+drawn flare "$tmp/shapes"
+described printed flare
+echo "figures: descriptions, numbers and bars as the jobs levels, k4 and printed and their stored outputs have them"

@@ -28,6 +28,10 @@ $CC -std=c99 $warnings -Iinclude -x c - <<END
 struct aligned { char before; barrier_open_job job; };
 typedef char as_named[sizeof(barrier_open_job) == $size && offsetof(struct aligned, job) == 8 ? 1 : -1];
 END
+grep -q "^ \*     barrier_open_job job;  *$size bytes\$" include/barrier.h || {
+    echo "header: \"Open jobs\" does not say that an open job has $size bytes" >&2
+    exit 1
+}
 $CC -std=c99 $warnings -Wpadded -x c include/barrier.h
 rust_size=$(sed -n 's/.*size_of::<OpenJob>() == \([0-9_]*\).*/\1/p' examples/rust/src/barrier.rs | tr -d _)
 [ "$rust_size" = "$size" ] || {

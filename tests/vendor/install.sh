@@ -1,21 +1,41 @@
 #!/bin/sh
-# An installed engine: the first program builds with the flags that pkg-config
-# prints, as C99 and as C++, without a warning, and touches no memory that is
-# not its own.
+# An installed engine: the example that shows the calls, copied elsewhere, builds
+# with the flags that pkg-config prints, as C99 and as C++, without a warning,
+# and touches no memory that is not its own. Uninstalled, nothing is left of it.
 set -eu
 tmp=$(mktemp -d)
 trap 'rm -rf "$tmp"' EXIT
 # What the caller's make was told (PREFIX, say) is not for this one.
 install_to() {
-    MAKEFLAGS='' make -s -f Makefile.vendor install LIBDIR="$LIBDIR" "$@"
+    MAKEFLAGS='' make -s -f Makefile.vendor install LIBDIR="$LIBDIR" CC="$CC" "$@"
+}
+uninstall_from() {
+    MAKEFLAGS='' make -s -f Makefile.vendor uninstall LIBDIR="$LIBDIR" "$@"
+}
+# Every file, folder and link below a folder, and where links lead.
+tree() {
+    (cd "$1" && find . -printf '%y %p %l\n') | LC_ALL=C sort
 }
 
 # Staged, as packagers do: the files lie below DESTDIR and name PREFIX.
 install_to PREFIX=/opt/barrier DESTDIR="$tmp/stage"
-printf '%s\n' include/barrier.h lib/libbarrier_engine.a lib/pkgconfig/barrier_engine.pc >"$tmp/wanted"
-(cd "$tmp/stage/opt/barrier" && find . -type f) >"$tmp/files"
+major=$(sed -n 's/^#define BARRIER_VERSION_MAJOR //p' include/barrier.h)
+printf '%s\n' include/barrier.h include/barrier_help.h \
+    lib/cmake/barrier_engine/barrier_engineConfig.cmake lib/cmake/barrier_engine/barrier_engineConfigVersion.cmake \
+    lib/libbarrier_engine.a lib/libbarrier_engine.so "lib/libbarrier_engine.so.$major" \
+    lib/pkgconfig/barrier_engine.pc lib/pkgconfig/barrier_engine_shared.pc >"$tmp/wanted"
+(cd "$tmp/stage/opt/barrier" && find . ! -type d) >"$tmp/files"
 sed 's|^\./||' "$tmp/files" | LC_ALL=C sort >"$tmp/installed"
 diff "$tmp/wanted" "$tmp/installed"
+[ "$(readlink "$tmp/stage/opt/barrier/lib/libbarrier_engine.so")" = "libbarrier_engine.so.$major" ]
+if grep -rlI '@[A-Z]*@' "$tmp/stage"; then
+    echo "install: these files are not filled in" >&2
+    exit 1
+fi
+if grep -rlIF "$tmp" "$tmp/stage"; then
+    echo "install: these files name DESTDIR" >&2
+    exit 1
+fi
 grep -qx 'prefix=/opt/barrier' "$tmp/stage/opt/barrier/lib/pkgconfig/barrier_engine.pc"
 
 # A prefix that pkg-config's flags could not name.
@@ -25,7 +45,26 @@ for prefix in relative "$tmp/a b" "$tmp/a&b"; do
         exit 1
     fi
     grep -q "^PREFIX .* not '$prefix'$" "$tmp/said"
+    if uninstall_from PREFIX="$prefix" 2>"$tmp/said"; then
+        echo "install: uninstall takes the prefix '$prefix'" >&2
+        exit 1
+    fi
 done
+
+# Uninstalled: of a folder with files of others, those and the folders stay, and
+# nothing else; a second time there is nothing to do.
+mkdir -p "$tmp/shared/include" "$tmp/shared/lib/pkgconfig" "$tmp/shared/lib/cmake/other"
+touch "$tmp/shared/include/other.h" "$tmp/shared/lib/libbarrier_engine.so.1" "$tmp/shared/lib/pkgconfig/barrier_engine_other.pc"
+tree "$tmp/shared" >"$tmp/before"
+install_to PREFIX="$tmp/shared"
+uninstall_from PREFIX="$tmp/shared"
+tree "$tmp/shared" | diff "$tmp/before" -
+uninstall_from PREFIX="$tmp/shared"
+tree "$tmp/shared" | diff "$tmp/before" -
+uninstall_from PREFIX=/opt/barrier DESTDIR="$tmp/stage"
+[ -z "$(find "$tmp/stage" ! -type d)" ]
+[ ! -e "$tmp/stage/opt/barrier/lib/cmake/barrier_engine" ]
+echo "install: $(wc -l <"$tmp/wanted") files, and uninstall leaves none of them and all others"
 
 # In place.
 install_to PREFIX="$tmp/prefix"
@@ -37,11 +76,19 @@ grep -qx "#define BARRIER_VERSION \"$version\"" include/barrier.h
 
 # Flags are several words: they stand unquoted.
 warnings="-Wall -Wextra -Werror -pedantic"
-$CC -std=c99 $warnings -g examples/example.c $flags -o "$tmp/example_c"
-$CXX -std=c++11 $warnings -g -x c++ examples/example.c -x none $flags -o "$tmp/example_cxx"
+# Copied, so that nothing beside it is found.
+mkdir "$tmp/copied"
+cp examples/example.c "$tmp/copied"
+$CC -std=c99 $warnings -g "$tmp/copied/example.c" $flags -o "$tmp/example_c"
+$CXX -std=c++11 $warnings -g -x c++ "$tmp/copied/example.c" -x none $flags -o "$tmp/example_cxx"
 for program in "$tmp/example_c" "$tmp/example_cxx"; do
     "$program" >"$tmp/printed"
     diff examples/example.out "$tmp/printed"
+    # The archive is in it: no shared library has to be found.
+    if readelf -d "$program" | grep 'NEEDED.*barrier'; then
+        echo "install: pkg-config's barrier_engine takes the shared library" >&2
+        exit 1
+    fi
 done
 echo "install: $version, example.c builds with pkg-config's flags as C99 and C++11 and prints as stored"
 

@@ -12,10 +12,13 @@ fail() {
     echo "jobs: $1" >&2
     exit 1
 }
-# A program's status is looked at before what it printed.
+# Arguments: the wanted text, then a command. A program's status is looked at
+# before what it printed.
 prints() {
-    "$1" <"$2" >"$tmp/printed" || fail "$1 ends with $? for $job"
-    diff "$3" "$tmp/printed" || fail "$1 prints something else for $job"
+    wanted=$1
+    shift
+    "$@" <"$tmp/job" >"$tmp/printed" || fail "$* ends with $? for $job"
+    diff "$wanted" "$tmp/printed" || fail "$* prints something else for $job"
 }
 
 [ -z "$BARRIER" ] || [ -x "$BARRIER" ] || fail "there is no program $BARRIER"
@@ -28,12 +31,20 @@ for job in examples/jobs/*.job; do
         cat "${job%.job}.overhang" >>"$tmp/listed"
         hanging=$((hanging + 1))
     fi
-    prints "$BUILD/listing" "$tmp/job" "$tmp/listed"
-    [ -z "$BARRIER" ] || prints "$BARRIER" "$tmp/job" "${job%.job}.out"
+    prints "$tmp/listed" "$BUILD/listing" -p
+    [ -z "$BARRIER" ] || prints "${job%.job}.out" "$BARRIER"
+    # There and back: the text that is read from the bytes gives them again.
+    "$BUILD/jobtext" -r <"$tmp/job" >"$tmp/text" || fail "jobtext -r ends with $? for $job"
+    "$BUILD/jobtext" <"$tmp/text" >"$tmp/again" || fail "jobtext ends with $? for the text of $job"
+    cmp "$tmp/job" "$tmp/again" || fail "$job does not come back from its bytes"
+    # A text without comments and spare spaces comes back itself.
+    "$BUILD/jobtext" -r <"$tmp/again" | diff "$tmp/text" - || fail "the text of $job does not come back"
+    sed 's/#.*//; s/  */ /g; s/ $//; /^$/d' "$job" | LC_ALL=C sort >"$tmp/fields"
+    LC_ALL=C sort "$tmp/text" | diff "$tmp/fields" - || fail "the text of $job has other fields"
     count=$((count + 1))
 done
 [ "$hanging" -gt 0 ] || fail "no sample job hangs over"
-echo "jobs: $count sample jobs as stored, through the calls, $hanging of them with overhangs"
+echo "jobs: $count sample jobs as stored, through the calls, $hanging of them with overhangs; each comes back as text from its bytes"
 if [ -n "$BARRIER" ]; then
     echo "jobs: $count sample jobs as stored, through the program"
 else
@@ -42,8 +53,11 @@ fi
 
 # An input that cannot be read is not an empty job, and what could not be
 # written is not said to be done.
-if "$BUILD/listing" <. >"$tmp/printed" 2>"$tmp/said"; then fail "listing reads a folder"; fi
-[ ! -s "$tmp/printed" ] || fail "listing prints for a folder"
-if "$BUILD/listing" <"$tmp/job" >/dev/full 2>"$tmp/said"; then fail "listing writes to a full output"; fi
+for command in "$BUILD/listing" "$BUILD/listing -p" "$BUILD/jobtext -r"; do
+    # A command and its flag: they stand unquoted.
+    if $command <. >"$tmp/printed" 2>"$tmp/said"; then fail "$command reads a folder"; fi
+    [ ! -s "$tmp/printed" ] || fail "$command prints for a folder"
+    if $command <"$tmp/job" >/dev/full 2>"$tmp/said"; then fail "$command writes to a full output"; fi
+done
 if "$BUILD/jobtext" <"$job" >/dev/full 2>"$tmp/said"; then fail "jobtext writes to a full output"; fi
 echo "jobs: listing and jobtext end with 1 where they cannot read or write"

@@ -39,7 +39,7 @@ done
 # the printed job, a line behind it, and what the engine says.
 judged() {
     { sed "$1" "$printed" && echo "$2"; } | "$jobtext" >"$tmp/job" || fail "no bytes after $1 $2"
-    said=$("$BUILD/listing" <"$tmp/job")
+    said=$("$BUILD/listing" -p <"$tmp/job")
     [ "$said" = "$3" ] || fail "after $1 $2 the engine says $said"
 }
 judged '' 'hazards 2' 'refused 1 34'
@@ -100,4 +100,28 @@ unread 14 '14s/.*/panel 4000 4000/'
 unread "$last" '/^flare/s/^/#/'
 printf 'road 0\000 1\n' | "$jobtext" >"$tmp/job" 2>"$tmp/said" && fail "a zero byte was read"
 grep -q '^jobtext: line 1: ' "$tmp/said" || fail "a zero byte: $(cat "$tmp/said")"
-echo "jobtext: right bytes, wrong numbers passed on, unreadable text named by its line"
+
+# Bytes to text: numbers of 64 bits and sides that are none come back; bytes
+# that are no job are reported, and no text comes out. Arguments: what is said,
+# and the bytes in printf's form.
+{ sed '/^clear-zone/d; s/^hazard right/hazard 5/' "$printed" && echo 'clear-zone 18446744073709551615'; } | "$jobtext" >"$tmp/job"
+"$jobtext" -r <"$tmp/job" >"$tmp/text"
+grep -qx 'clear-zone 18446744073709551615' "$tmp/text" || fail "a number of 64 bits does not come back"
+grep -qx 'hazard 5 200000 210000 5000 9000 3' "$tmp/text" || fail "the side 5 does not come back"
+unreadable() {
+    status=0
+    printf "$2" | "$jobtext" -r >"$tmp/text" 2>"$tmp/said" || status=$?
+    [ "$status" -eq 1 ] || fail "status $status for bytes $2"
+    [ ! -s "$tmp/text" ] || fail "text from bytes $2"
+    [ "$(cat "$tmp/said")" = "jobtext: $1" ] || fail "for bytes $2 it says $(cat "$tmp/said")"
+}
+header='\001\000\002\001\000\001\000\000\001\001\000\000\000'
+unreadable 'the bytes end inside the job' ''
+unreadable 'the bytes end inside the job' "$header"
+unreadable 'the bytes end inside the job' "$header\001\000\000\001\000\000"
+unreadable 'bytes are left over behind the job' "$header\000\000"
+unreadable 'the job has more than 256 hazards' "$header\201\002"
+unreadable 'a number is not in its form' '\001\200\000'
+unreadable 'the job is neither of kind 1 nor of kind 2' '\003'
+if "$jobtext" -x <"$printed" >"$tmp/text" 2>"$tmp/said"; then fail "a flag that is none"; fi
+echo "jobtext: right bytes, wrong numbers passed on, unreadable text named by its line; bytes back to text, or reported"

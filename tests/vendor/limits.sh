@@ -41,12 +41,12 @@ begin=$((end - length))
     awk -v road="$begin $end" 'BEGIN { for (i = 0; i < 256; i++) print "hazard right " road " 60000 60000 6" }'
 } | "$BUILD/jobtext" >"$tmp/longest"
 [ "$(wc -c <"$tmp/longest")" -eq "$(constant BARRIER_JOB_LONGEST)" ] || fail "the longest job"
-[ "$("$BUILD/listing" <"$tmp/longest")" = "total 0 0" ] || fail "the longest job is not accepted"
+[ "$("$BUILD/listing" -p <"$tmp/longest")" = "total 0 0" ] || fail "the longest job is not accepted"
 
 # One millimetre more, at either end.
 for road in "$((begin - 1)) $end" "$begin $((end + 1))"; do
     { echo "road $road" && header 1 0; } | "$BUILD/jobtext" >"$tmp/job"
-    [ "$("$BUILD/listing" <"$tmp/job")" = "refused 3 3" ] || fail "the road $road is not refused"
+    [ "$("$BUILD/listing" -p <"$tmp/job")" = "refused 3 3" ] || fail "the road $road is not refused"
 done
 
 # One long low run with 255 short high ones in it.
@@ -59,7 +59,7 @@ done
             printf "hazard right %.0f %.0f 25000 30000 2\n", begin + i * 7000000, begin + i * 7000000 + 3000000
     }'
 } | "$BUILD/jobtext" >"$tmp/many"
-"$BUILD/listing" <"$tmp/many" >"$tmp/runs"
+"$BUILD/listing" -p <"$tmp/many" >"$tmp/runs"
 [ "$(grep -c '^R' "$tmp/runs")" -eq "$(constant BARRIER_RUNS_MAX)" ] || fail "511 runs"
 grep -qx "R $begin $((begin + 6999999)) 1" "$tmp/runs" || fail "the first run"
 grep -qx "R $((begin + 1788000000)) $end 1" "$tmp/runs" || fail "the last run"
@@ -86,7 +86,7 @@ for road in "0 $length" "$begin $end"; do
             panel 9999"
         awk -v road="$road" 'BEGIN { for (i = 0; i < 256; i++) print "hazard", i % 2, road, 1, 30000, 1 + i % 6 }'
     } | "$BUILD/jobtext" >"$tmp/hanging"
-    "$BUILD/listing" <"$tmp/hanging" >"$tmp/overhangs"
+    "$BUILD/listing" -p <"$tmp/hanging" >"$tmp/overhangs"
     printf '%s\n' "R $road 5" "L $road 6" "total $length $length" \
         "overhang R $most $most" "overhang L $most $most" >"$tmp/wanted"
     diff "$tmp/wanted" "$tmp/overhangs" || fail "the greatest overhang of the road $road"

@@ -5,7 +5,7 @@
  * the same hazards, and kept states carry the names. Ends with 1 where a reply
  * is another.
  */
-#include "../../examples/number_form.h"
+#include "number_form.h"
 #include <barrier.h>
 #include <stdio.h>
 #include <string.h>

@@ -3,7 +3,7 @@
  * ends, for panels and both rules of the length, and its refusals; and the
  * approach that is then drawn with it. Ends with 1 where a reply is another.
  */
-#include "../../examples/number_form.h"
+#include "number_form.h"
 #include <barrier.h>
 #include <stdio.h>
 

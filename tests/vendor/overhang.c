@@ -3,7 +3,7 @@
  * over at each end of the road, and the levels there; of a job and of an open
  * job, near the datum and far from it. Ends with 1 where a reply is another.
  */
-#include "../../examples/number_form.h"
+#include "number_form.h"
 #include <barrier.h>
 #include <stdio.h>
 #include <string.h>

@@ -22,7 +22,8 @@ enum {
     withdraw,
     open_schedule,
     keep,
-    return_to
+    return_to,
+    version
 };
 
 /* Overhangs that differ, so that it shows where the two are exchanged. */
@@ -197,4 +198,12 @@ barrier_reply barrier_return(barrier_open_job *job, uint64_t state)
     (void)job;
     (void)state;
     return REFUSED == return_to ? refused : done;
+}
+
+/* An engine that is not one for this header. */
+uint32_t barrier_version(void)
+{
+    return REFUSED == version ? 2000000
+                              : BARRIER_VERSION_MAJOR * UINT32_C(1000000) +
+                                    BARRIER_VERSION_MINOR * UINT32_C(1000) + BARRIER_VERSION_PATCH;
 }

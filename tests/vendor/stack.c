@@ -12,7 +12,7 @@
  * Ends with 1 where a call takes more, with 2 where one is refused.
  */
 #define _XOPEN_SOURCE 600
-#include "../../examples/number_form.h"
+#include "number_form.h"
 #include <barrier.h>
 #include <stdio.h>
 #include <string.h>

@@ -5,7 +5,7 @@
  * Corners and overhangs there have tests of their own (corners.c, overhang.c).
  * Ends with 1 where a reply is another.
  */
-#include "../../examples/number_form.h"
+#include "number_form.h"
 #include <barrier.h>
 #include <stdio.h>
 #include <string.h>

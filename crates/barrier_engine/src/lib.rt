@@ -18,7 +18,7 @@ ghost use Rattle.panels.specs.Panels.{panelsFor};
 ghost use Rattle.queries.specs.Quantity.{quantity};
 ghost use Rattle.queries.specs.Lookup.{lookup};
 ghost use Rattle.queries.specs.Ranges.{quantities};
-ghost use Rattle.replies.specs.Interface.{replyOf, planReplyOf, recordOf, quantitiesOf, CornersTold, smallestOf, layoutOf};
+ghost use Rattle.replies.specs.Interface.{replyOf, planReplyOf, recordOf, quantitiesOf, CornersTold, smallestOf, layoutOf, version};
 
 #[no_mangle]
 pub extern "C" fn barrier_plan(job: &[u8], side: u64, out: &mut [u8]) -> PlanReply
@@ -80,4 +80,12 @@ pub extern "C" fn barrier_layout(lengths: &[u64], run: u64, limit: u64) -> Layou
     ensures { λ r. ⌜ r ≡ layoutOf (panelsFor (now (lengths .entry)) run limit) ⌝ }
 {
     replies::layout::layout(lengths, run, limit)
+}
+
+// Which engine is linked: 1,000,000 times the first number of its version, 1,000 times the second, and the third.
+#[no_mangle]
+pub extern "C" fn barrier_version() -> u32
+    ensures { λ r. ⌜ r ≡ version ⌝ }
+{
+    3002000
 }

@@ -18,7 +18,7 @@ pub enum HazardRead {
 }
 
 // The range of the hazard number behind k others, where the hazard begins at start, at the near offset near; these go for the numbers behind them.
-fn hazard_range(k: usize, header: Header, start: u64, near: u64) -> Bounds
+pub fn hazard_range(k: usize, header: Header, start: u64, near: u64) -> Bounds
     requires { ⌜ k < 6 ⌝ }
     requires { ⌜ start < header .end ⌝ }
     ensures { λ r. ⌜ (r .0) to (r .1) ≡ getD (hazardRanges (header .begin) (header .end) start near) k (0 to 0) ⌝ }

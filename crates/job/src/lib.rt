@@ -2,6 +2,7 @@
 mod field; // a number with its range
 mod header_fields; // the header
 mod hazard_fields; // a hazard
+mod within; // a hazard, where enough bytes stand for it
 pub mod read; // the job
 
 ghost use mathlib.Core.Path.{_≡_};

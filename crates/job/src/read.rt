@@ -9,11 +9,12 @@ use super::header_fields::header_size;
 use super::header_fields::header_with;
 use super::header_fields::read_header;
 use super::named;
+use super::within::read_hazard_within;
 use refusal::Outcome;
 use refusal::Refusal;
 ghost use mathlib.Core.Path.{_≡_};
 ghost use mathlib.Core.List.{[]};
-ghost use Prim.Native.Nat.{_<_, _≤_};
+ghost use Prim.Native.Nat.{_-_, _<_, _≤_};
 ghost use Rattle.refusal.specs.Stored.{acceptedOr};
 ghost use Rattle.refusal.specs.declared.Outcome.the-variants.{Refused};
 ghost use Rattle.job.specs.Job.{readRest, readJob};
@@ -59,6 +60,13 @@ fn refused(refusal: Refusal) -> JobRead
     }
 }
 
+// How many indices have 36 bytes from them on: no hazard takes more.
+fn sure_indices(bytes: usize) -> usize
+    ensures { λ r. ⌜ r ≡ bytes - 35 ⌝ }
+{
+    if bytes < 35 { 0 } else { bytes - 35 }
+}
+
 // The hazards behind the header, from index first on; nothing may follow them.
 fn read_rest(s: &[u8], first: usize, header: Header) -> JobRead
     requires { ⌜ 0 < header .end ⌝ }
@@ -70,6 +78,17 @@ fn read_rest(s: &[u8], first: usize, header: Header) -> JobRead
     let count = header.count as usize;
     let mut at = first;
     let mut i: usize = 0;
+    let sure = sure_indices(s.len());
+    while i < count && at < sure {
+        match read_hazard_within(s, at, header, i) {
+            HazardRead::Hazard { hazard, next } => {
+                job.hazards[i] = named(0, hazard);
+                at = next;
+            }
+            HazardRead::Refused(early) => return refused(early),
+        }
+        i += 1;
+    }
     while i < count {
         match read_hazard(s, at, header, i) {
             HazardRead::Hazard { hazard, next } => {

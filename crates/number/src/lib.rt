@@ -1,4 +1,6 @@
 // The number form of document 01: reading a number, counting its groups, writing it into lent memory.
+pub mod within; // reading where the bytes are known to go on
+
 ghost use mathlib.Core.Path.{_≡_};
 ghost use Prim.Native.Nat.{_+_, _≤_};
 ghost use lib.ListN.{length};

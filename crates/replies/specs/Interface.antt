@@ -1,6 +1,6 @@
 -- The C interface's structs for each answer of the calls.
 -- Assumes nothing.
-use Prim.Native.Nat.{ℕ, _+_}
+use Prim.Native.Nat.{ℕ, _+_, _*_}
 use mathlib.Core.Path.{_≡_}
 use mathlib.Core.List.{[]}
 use Rattle.refusal.specs.Answer.{Answer, accepted, refused, _>>=_}
@@ -71,3 +71,7 @@ bestOf panels.none t f = record { number = 0; value = 0; found = 0; overrun = 0;
 unfoldable pub layoutOf : Answer Panels → LayoutReply
 layoutOf (accepted p) = bestOf (p .best) (p .tries) (p .floor)
 layoutOf (refused number value) = record { number = number; value = value; found = 0; overrun = 0; counts = layout.placesOf []; tries = 0; floor = 0 }
+
+-- Version 3.2.0, as one number.
+abbrev pub version : ℕ
+version = 3 * 1000000 + 2 * 1000 + 0

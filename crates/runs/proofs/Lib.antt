@@ -25,4 +25,5 @@ pub mod StoredLaws
 pub mod PlaceLaws
 pub mod SortLaws
 pub mod InsertLaws
+pub mod SpreadLaws
 pub mod KeyLaws

@@ -1,6 +1,7 @@
 // Levels: envelopes, the level that they require at each millimetre, and its runs, by value.
 pub mod required;
 mod sort;
+mod spread; // keys brought near to order
 mod sweep;
 
 // The millimetres [start, end) at a containment level.

@@ -170,7 +170,7 @@ fn step(
     Place { count, level: l }
 }
 
-fn greater(x: u64, y: u64) -> u64
+pub fn greater(x: u64, y: u64) -> u64
     ensures { λ r. ⌜ r ≡ max x y ⌝ }
 {
     if x < y { y } else { x }

@@ -1,4 +1,4 @@
-//! The first program: plans document 01's printed example, looks up the
+//! The calls in turn: plans the sample job of barrier.h, looks up the
 //! barrier at some stations, asks for the level at two of them without the
 //! schedule, prices it by lots, asks for the corners of its approach and for
 //! offsets that keep a gate clear, plans a job whose approach runs into the
@@ -8,56 +8,15 @@
 //!
 //! It prints the same text as examples/example.c.
 
-mod barrier;
-mod number_form;
-
 use std::io::{self, Write};
 use std::ops::Range;
 use std::process::ExitCode;
 
-use barrier::{Corner, Corners, Planned, Refusal, LEFT, NC_3, RIGHT, SCHEDULE_MAX};
-use number_form::{get_number, job_bytes};
+use example::barrier::{self, Corner, Corners, Refusal, Side, LEFT, NC_3, RIGHT, SCHEDULE_MAX};
+use example::printed;
+use example::show::{self, in_words, Stop};
 
-const ROAD_END: u64 = 1_000_000;
-
-/// The header, 14 numbers, and one hazard: a culvert headwall on the right.
-#[rustfmt::skip]
-const PRINTED_JOB: [u64; 20] = [
-    1,                  // kind
-    0, ROAD_END,        // road begin and end: one kilometre
-    101_000, 0,         // runout lengths: forward; no opposite traffic
-    9_000,              // clear-zone width
-    0,                  // travelled-way edge to centreline
-    3_000,              // barrier offset
-    1_000,              // deflection allowance
-    15, 1,              // flare: 1 across for 15 along
-    13_340,             // straight barrier before the flare
-    0,                  // continuity limit
-    1,                  // hazard count
-    RIGHT,              // hazard: side,
-    200_000, 210_000,   // first and end station,
-    5_000, 9_000,       // near and far offset,
-    NC_3,               // containment level
-];
-
-/// The places, from 0, of the numbers that are changed below.
-const FLARE_ACROSS: usize = 10;
-const FIRST_STATION: usize = 15;
-const NEAR_OFFSET: usize = 17;
-
-/// Why the program ends before everything is shown.
-enum Stop {
-    /// A call did not do what it should; it is printed.
-    Call,
-    /// Standard output cannot be written.
-    Output,
-}
-
-impl From<io::Error> for Stop {
-    fn from(_: io::Error) -> Stop {
-        Stop::Output
-    }
-}
+const ROAD_END: u64 = printed::HEADER.road_end;
 
 /// The price of one millimetre of barrier in cents: 120.00 a metre.
 const CENTS_A_MILLIMETRE: u64 = 12;
@@ -67,65 +26,9 @@ fn print_bytes(out: &mut impl Write, name: &str, bytes: &[u8]) -> io::Result<()>
     writeln!(out, "  {name}:{hex}")
 }
 
-/// A refusal's value means something else for each number.
-fn print_refusal(out: &mut impl Write, what: &str, refusal: Refusal) -> io::Result<()> {
-    let Refusal { number, value } = refusal;
-    write!(out, "  {what}: refused {number} with {value}, ")?;
-    match number {
-        barrier::JOB_ENDED => {
-            writeln!(
-                out,
-                "the job ends before or inside the number at byte {value}"
-            )
-        }
-        barrier::NUMBER_MALFORMED => {
-            writeln!(out, "no number in the right form begins at byte {value}")
-        }
-        barrier::HEADER_RANGE => writeln!(out, "header number {value} is outside its range"),
-        barrier::HAZARD_RANGE => writeln!(out, "a field of hazard {value} is outside its range"),
-        barrier::HAZARD_NEAR => {
-            writeln!(out, "hazard {value} leaves the barrier no room to deflect")
-        }
-        barrier::JOB_LEFT_OVER => writeln!(out, "bytes are left over from byte {value} on"),
-        barrier::ARGUMENT => {
-            writeln!(
-                out,
-                "no such side, level or sheet corner, or a range that ends before it begins"
-            )
-        }
-        barrier::OUTPUT_SHORT => writeln!(out, "the schedule takes {value} bytes"),
-        barrier::NO_SCHEDULE => writeln!(out, "these bytes are not a schedule"),
-        barrier::TOO_MANY_RANGES => writeln!(out, "more than 64 ranges"),
-        barrier::NAME => writeln!(out, "the name {value} stands already, or does not stand"),
-        barrier::STATE => writeln!(out, "no such state number, or nothing is kept under it"),
-        barrier::NO_APPROACH => {
-            writeln!(out, "no such hazard, or adjacent traffic does not reach it")
-        }
-        barrier::FULL => writeln!(out, "256 hazards stand already"),
-        barrier::LENGTHS => writeln!(out, "no panel length, too many, or one outside its range"),
-        barrier::LIMIT => writeln!(out, "a limit of no tries, or of more than 65536"),
-        _ => writeln!(out, "a number that barrier.h does not have"),
-    }
-}
-
 /// The answer of a call that must not be refused.
 fn done<T>(out: &mut impl Write, what: &str, answer: Result<T, Refusal>) -> Result<T, Stop> {
-    match answer {
-        Ok(answer) => Ok(answer),
-        Err(refusal) => {
-            print_refusal(out, what, refusal)?;
-            Err(Stop::Call)
-        }
-    }
-}
-
-/// Plans one side: its schedule, and the reply with its overhangs.
-fn plan(out: &mut impl Write, job: &[u8], side: u64) -> Result<(Vec<u8>, Planned), Stop> {
-    let mut schedule = vec![0; SCHEDULE_MAX];
-    let answer = barrier::plan(job, side, &mut schedule);
-    let planned = done(out, "plan", answer)?;
-    schedule.truncate(planned.written);
-    Ok((schedule, planned))
+    show::done(out, what, answer, in_words)
 }
 
 /// What stands on the right side at a station.
@@ -144,14 +47,12 @@ fn print_record(
     right: &[u8],
     station: u64,
     record: Range<usize>,
-) -> io::Result<()> {
+) -> Result<(), Stop> {
     let Range { start, end } = record;
-    let mut at = start;
-    let distance = get_number(right, &mut at);
-    let length = get_number(right, &mut at);
-    let level = get_number(right, &mut at);
+    let [distance, length, level] = barrier::decode_record(&right[start..end])?;
     write!(out, "  station {station}: bytes [{start}, {end}): ")?;
-    writeln!(out, "{distance} mm free, then {length} mm at NC-{level}")
+    writeln!(out, "{distance} mm free, then {length} mm at NC-{level}")?;
+    Ok(())
 }
 
 fn print_stations(out: &mut impl Write, right: &[u8]) -> Result<(), Stop> {
@@ -270,18 +171,22 @@ fn print_offsets(out: &mut impl Write, job: &[u8]) -> Result<(), Stop> {
     Ok(())
 }
 
-/// Case K8's second job: without flare, and the headwall from 67,333 on, one
+/// The sample job without flare, and the headwall from 67,333 on, one
 /// millimetre nearer to the road's begin than its approach is long. The
 /// schedule begins with the road. What hangs over stands in the neighbouring
 /// contract and is in no quantity of this one, so that office has to be told.
 fn print_overhang(out: &mut impl Write) -> Result<(), Stop> {
-    let mut numbers = PRINTED_JOB;
-    numbers[FLARE_ACROSS] = 0;
-    numbers[FIRST_STATION] = 67_333;
-    let (right, planned) = plan(out, &job_bytes(&numbers), RIGHT)?;
-    let Planned { before, after, .. } = planned;
+    let mut job = printed::job();
+    job.header.flare_across = 0;
+    job.hazards[0].start = 67_333;
+    let answer = barrier::plan_side(&job.encode(), RIGHT);
+    let Side {
+        schedule,
+        before,
+        after,
+    } = done(out, "plan", answer)?;
     writeln!(out, "An approach that runs into the neighbouring contract")?;
-    print_bytes(out, "right schedule", &right)?;
+    print_bytes(out, "right schedule", &schedule)?;
     write!(
         out,
         "  overhang on the right: {before} mm before the road, "
@@ -290,41 +195,25 @@ fn print_overhang(out: &mut impl Write) -> Result<(), Stop> {
     Ok(())
 }
 
-/// A call that has to be refused.
-fn print_refused<T>(
-    out: &mut impl Write,
-    what: &str,
-    answer: Result<T, Refusal>,
-) -> Result<(), Stop> {
-    match answer {
-        Ok(_) => {
-            writeln!(out, "  {what}: done, but it should be refused")?;
-            Err(Stop::Call)
-        }
-        Err(refusal) => Ok(print_refusal(out, what, refusal)?),
-    }
-}
-
 /// The same job with the headwall one millimetre too near, and a short output.
 fn print_refusals(out: &mut impl Write, job: &[u8]) -> Result<(), Stop> {
-    let mut numbers = PRINTED_JOB;
-    numbers[NEAR_OFFSET] = 3_999;
-    let near_job = job_bytes(&numbers);
+    let mut near_job = printed::job();
+    near_job.hazards[0].near_offset = 3_999;
     let mut room = [0; SCHEDULE_MAX];
     writeln!(out, "Refusals")?;
-    let answer = barrier::plan(&near_job, RIGHT, &mut room);
-    print_refused(out, "near offset 3999", answer)?;
+    let answer = barrier::plan(&near_job.encode(), RIGHT, &mut room);
+    show::refused(out, "near offset 3999", answer, in_words)?;
     let answer = barrier::plan(job, RIGHT, &mut room[..7]);
-    print_refused(out, "room for 7 bytes", answer)
+    show::refused(out, "room for 7 bytes", answer, in_words)
 }
 
 /// Everything in turn.
-fn show(out: &mut impl Write) -> Result<(), Stop> {
-    let job = job_bytes(&PRINTED_JOB);
-    let (right, _) = plan(out, &job, RIGHT)?;
-    let (left, _) = plan(out, &job, LEFT)?;
+fn print_all(out: &mut impl Write) -> Result<(), Stop> {
+    let job = printed::job().encode();
+    let right = done(out, "plan", barrier::plan_side(&job, RIGHT))?.schedule;
+    let left = done(out, "plan", barrier::plan_side(&job, LEFT))?.schedule;
 
-    writeln!(out, "The printed example")?;
+    writeln!(out, "The sample job")?;
     print_bytes(out, "job", &job)?;
     print_bytes(out, "right schedule", &right)?;
     print_bytes(out, "left schedule", &left)?;
@@ -337,18 +226,6 @@ fn show(out: &mut impl Write) -> Result<(), Stop> {
     print_refusals(out, &job)
 }
 
-/// println! would panic where standard output is full or closed.
 fn main() -> ExitCode {
-    let mut out = io::stdout().lock();
-    let shown = show(&mut out);
-    let flushed = out.flush().map_err(Stop::from);
-    match shown.and(flushed) {
-        Ok(()) => ExitCode::SUCCESS,
-        Err(Stop::Call) => ExitCode::FAILURE,
-        Err(Stop::Output) => {
-            // Where this cannot be written either, the status says it.
-            let _ = writeln!(io::stderr(), "example: standard output cannot be written");
-            ExitCode::FAILURE
-        }
-    }
+    show::program("example", print_all)
 }

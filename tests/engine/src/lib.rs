@@ -364,17 +364,7 @@ fn plan_in_room(job: &mut [u8], side: u64, room: &mut [u8], lent: Range<usize>) 
 /// The shipped calls for Rust, to be compared.
 pub fn shipped_calls() -> Calls {
     Calls {
-        plan: Box::new(
-            |job, side, room, lent| match barrier::plan(job, side, &mut room[lent]) {
-                Ok(planned) => PlanReply {
-                    number: 0,
-                    value: planned.written as u64,
-                    before: planned.before,
-                    after: planned.after,
-                },
-                Err(refusal) => reply(Err(refusal)).into(),
-            },
-        ),
+        plan: Box::new(|job, side, room, lent| planned(barrier::plan(job, side, &mut room[lent]))),
         quantity: Box::new(|schedule, level, p, q| reply(barrier::quantity(schedule, level, p, q))),
         quantities: Box::new(|schedule, level, ranges| shipped_quantities(schedule, level, ranges)),
         lookup: Box::new(|right, left, side, station| {
@@ -387,8 +377,66 @@ pub fn shipped_calls() -> Calls {
         offset: Box::new(|job, hazard, longest| {
             offset_of_hazard(barrier::offset(job, hazard, longest))
         }),
-        // Open jobs and layouts go through the pointers here too.
-        ..calls()
+        layout: Box::new(|lengths, run, limit| laid(barrier::layout(lengths, run, limit))),
+        open: Box::new(|memory, bytes| done(shipped_job(memory).open(bytes))),
+        add: Box::new(|memory, name, hazard| done(shipped_job(memory).add(name, hazard.into()))),
+        withdraw: Box::new(|memory, name| done(shipped_job(memory).withdraw(name))),
+        keep: Box::new(|memory, state| done(shipped_job(memory).keep(state))),
+        return_to: Box::new(|memory, state| done(shipped_job(memory).return_to(state))),
+        open_schedule: Box::new(|memory, side, room, lent| {
+            planned(shipped_job(memory).schedule(side, &mut room[lent]))
+        }),
+    }
+}
+
+/// The shipped open job in this memory, of which it is all.
+fn shipped_job(memory: &mut Memory) -> &mut barrier::OpenJob {
+    let job = open_job(memory).cast::<barrier::OpenJob>();
+    // SAFETY: the open job lies in the memory, aligned, which this reference alone
+    // holds; it has integers alone, so that any content is one.
+    unsafe { &mut *job }
+}
+
+fn planned(answer: Result<barrier::Planned, Refusal>) -> PlanReply {
+    match answer {
+        Ok(planned) => PlanReply {
+            number: 0,
+            value: planned.written as u64,
+            before: planned.before,
+            after: planned.after,
+        },
+        Err(refusal) => reply(Err(refusal)).into(),
+    }
+}
+
+fn done(answer: Result<(), Refusal>) -> Reply {
+    reply(answer.map(|()| 0))
+}
+
+fn laid(answer: Result<barrier::Layout, Refusal>) -> LayoutReply {
+    let nothing = LayoutReply {
+        number: 0,
+        value: 0,
+        found: 0,
+        overrun: 0,
+        counts: [0; 4],
+        tries: 0,
+        floor: 0,
+    };
+    match answer {
+        Ok(layout) => LayoutReply {
+            found: u64::from(layout.covering.is_some()),
+            overrun: layout.covering.map_or(0, |covering| covering.overrun),
+            counts: layout.covering.map_or([0; 4], |covering| covering.counts),
+            tries: layout.tries,
+            floor: layout.floor,
+            ..nothing
+        },
+        Err(Refusal { number, value, .. }) => LayoutReply {
+            number,
+            value,
+            ..nothing
+        },
     }
 }
 
@@ -417,7 +465,7 @@ fn contract(answer: Result<barrier::Quantities, Refusal>, ranges: usize) -> Cont
             contract.records = answer.records;
             contract.quantities[..ranges].copy_from_slice(&answer.quantities);
         }
-        Err(Refusal { number, value }) => {
+        Err(Refusal { number, value, .. }) => {
             contract.number = number;
             contract.value = value;
         }
@@ -428,7 +476,7 @@ fn contract(answer: Result<barrier::Quantities, Refusal>, ranges: usize) -> Cont
 fn reply(answer: Result<u64, Refusal>) -> Reply {
     match answer {
         Ok(value) => Reply { number: 0, value },
-        Err(Refusal { number, value }) => Reply { number, value },
+        Err(Refusal { number, value, .. }) => Reply { number, value },
     }
 }
 
@@ -444,7 +492,7 @@ fn corners_of(answer: Result<barrier::Corners, Refusal>) -> CornersReply {
             corners: [drawn.upstream, drawn.flare, drawn.hazard]
                 .map(|barrier::Corner { station, offset }| Corner { station, offset }),
         },
-        Err(Refusal { number, value }) => CornersReply {
+        Err(Refusal { number, value, .. }) => CornersReply {
             number,
             value,
             corners: [zero; 3],
@@ -456,7 +504,7 @@ fn offset_of_hazard(answer: Result<Option<u64>, Refusal>) -> OffsetReply {
     let (number, value, found) = match answer {
         Ok(Some(value)) => (0, value, 1),
         Ok(None) => (0, 0, 0),
-        Err(Refusal { number, value }) => (number, value, 0),
+        Err(Refusal { number, value, .. }) => (number, value, 0),
     };
     OffsetReply {
         number,

@@ -1,36 +1,16 @@
-//! An open job: the header of document 01's printed example, to which hazards
+//! An open job: the header of the sample job of barrier.h, to which hazards
 //! come as a controller meets them; then a variant, tried and taken back; then
 //! hazards by the road's begin. It ends with 1 where a call does not do what it
 //! should.
 //!
 //! It prints the same text as examples/open_job.c.
 
-#[path = "../barrier.rs"]
-mod barrier;
-#[path = "../number_form.rs"]
-mod number_form;
-
-use std::io::{self, Write};
+use std::io::Write;
 use std::process::ExitCode;
 
-use barrier::{Hazard, OpenJob, Planned, Refusal, NC_2, NC_3, NC_4, RIGHT, SCHEDULE_MAX};
-use number_form::{get_number, job_bytes};
-
-/// The header, 14 numbers, the last of them the hazard count.
-#[rustfmt::skip]
-const HEADER: [u64; 14] = [
-    1,               // kind
-    0, 1_000_000,    // road begin and end: one kilometre
-    101_000, 0,      // runout lengths: forward; no opposite traffic
-    9_000,           // clear-zone width
-    0,               // travelled-way edge to centreline
-    3_000,           // barrier offset
-    1_000,           // deflection allowance
-    15, 1,           // flare: 1 across for 15 along
-    13_340,          // straight barrier before the flare
-    0,               // continuity limit
-    0,               // hazard count: none yet
-];
+use example::barrier::{self, Hazard, OpenJob, Refusal, Side, NC_2, NC_3, NC_4, RIGHT};
+use example::printed;
+use example::show::{self, in_numbers, Stop};
 
 /// The names under which the hazards stand: their drawing numbers.
 const HEADWALL: u16 = 7;
@@ -42,52 +22,42 @@ const PIER: u16 = 1031;
 const BEFORE: u64 = 0;
 const NEVER_KEPT: u64 = 1;
 
-/// A hazard on the right side, its offsets those of the printed example.
+/// A hazard on the right side, its offsets those of the sample job.
 fn hazard(start: u64, end: u64, level: u64) -> Hazard {
     Hazard {
-        side: RIGHT,
         start,
         end,
-        near_offset: 5_000,
-        far_offset: 9_000,
         level,
+        ..printed::HEADWALL
     }
 }
 
-/// Why the program ends before everything is shown.
-enum Stop {
-    /// A call did not do what it should; it is printed.
-    Call,
-    /// Standard output cannot be written.
-    Output,
+/// A call that must not be refused, and is said to be done.
+fn done<T>(out: &mut impl Write, what: &str, answer: Result<T, Refusal>) -> Result<T, Stop> {
+    let answer = show::done(out, what, answer, in_numbers)?;
+    writeln!(out, "  {what}: done")?;
+    Ok(answer)
 }
 
-impl From<io::Error> for Stop {
-    fn from(_: io::Error) -> Stop {
-        Stop::Output
-    }
-}
-
-/// Prints how a call ended, 0 for done, and stops unless that is what is
-/// wanted.
-fn ends_with<T>(
+/// A call that has to be refused with that number.
+fn refused(
     out: &mut impl Write,
     what: &str,
-    answer: Result<T, Refusal>,
+    answer: Result<(), Refusal>,
     wanted: u64,
-) -> Result<Option<T>, Stop> {
-    let (number, answer) = match answer {
-        Ok(answer) => {
+) -> Result<(), Stop> {
+    let number = match answer {
+        Ok(()) => {
             writeln!(out, "  {what}: done")?;
-            (barrier::DONE, Some(answer))
+            barrier::DONE
         }
-        Err(Refusal { number, value }) => {
-            writeln!(out, "  {what}: refused {number} with {value}")?;
-            (number, None)
+        Err(refusal) => {
+            writeln!(out, "  {what}: {}", in_numbers(&refusal))?;
+            refusal.number
         }
     };
     if number == wanted {
-        Ok(answer)
+        Ok(())
     } else {
         Err(Stop::Call)
     }
@@ -95,22 +65,15 @@ fn ends_with<T>(
 
 /// The runs of the right side, as they are now, and its overhang.
 fn print_runs(out: &mut impl Write, job: &OpenJob) -> Result<(), Stop> {
-    let mut schedule = [0; SCHEDULE_MAX];
-    let answer = job.schedule(RIGHT, &mut schedule);
-    let Some(planned) = ends_with(out, "schedule", answer, barrier::DONE)? else {
-        return Err(Stop::Call);
-    };
-    let mut at = 0;
-    let mut end = 0;
-    for _ in 0..get_number(&schedule, &mut at) {
-        // A record has the distance from the run before, not the station.
-        let start = end + get_number(&schedule, &mut at);
-        end = start + get_number(&schedule, &mut at);
-        let level = get_number(&schedule, &mut at);
-        writeln!(out, "    [{start}, {end}) at NC-{level}")?;
+    let Side {
+        schedule,
+        before,
+        after,
+    } = done(out, "schedule", job.plan_side(RIGHT))?;
+    for run in barrier::decode_schedule(&schedule)? {
+        writeln!(out, "    [{}, {}) at NC-{}", run.start, run.end, run.level)?;
     }
     // Not in the runs: it stands in the neighbouring contract.
-    let Planned { before, after, .. } = planned;
     if before > 0 || after > 0 {
         write!(out, "    overhang: {before} mm before the road, ")?;
         writeln!(out, "{after} mm behind it")?;
@@ -120,21 +83,19 @@ fn print_runs(out: &mut impl Write, job: &OpenJob) -> Result<(), Stop> {
 
 /// Hazards come and go; the job then has the headwall and the pole.
 fn show_hazards(out: &mut impl Write) -> Result<OpenJob, Stop> {
-    let headwall = hazard(200_000, 210_000, NC_3);
+    let headwall = printed::HEADWALL;
     let pole = hazard(600_000, 600_300, NC_2);
 
     writeln!(out, "An open job")?;
-    let answer = OpenJob::new(&job_bytes(&HEADER));
-    let Some(mut job) = ends_with(out, "open", answer, barrier::DONE)? else {
-        return Err(Stop::Call);
-    };
-    ends_with(out, "add 7", job.add(HEADWALL, headwall), barrier::DONE)?;
-    ends_with(out, "add 20", job.add(POLE, pole), barrier::DONE)?;
-    ends_with(out, "add 7", job.add(HEADWALL, pole), barrier::NAME)?;
+    let answer = OpenJob::new(&printed::HEADER.encode());
+    let mut job = done(out, "open", answer)?;
+    done(out, "add 7", job.add(HEADWALL, headwall))?;
+    done(out, "add 20", job.add(POLE, pole))?;
+    refused(out, "add 7", job.add(HEADWALL, pole), barrier::NAME)?;
     print_runs(out, &job)?;
-    ends_with(out, "withdraw 7", job.withdraw(HEADWALL), barrier::DONE)?;
+    done(out, "withdraw 7", job.withdraw(HEADWALL))?;
     print_runs(out, &job)?;
-    ends_with(out, "add 7", job.add(HEADWALL, headwall), barrier::DONE)?;
+    done(out, "add 7", job.add(HEADWALL, headwall))?;
     print_runs(out, &job)?;
     Ok(job)
 }
@@ -144,13 +105,13 @@ fn show_variant(out: &mut impl Write, job: &mut OpenJob) -> Result<(), Stop> {
     let moved_pole = hazard(700_000, 700_300, NC_2);
 
     writeln!(out, "A variant")?;
-    ends_with(out, "keep 0", job.keep(BEFORE), barrier::DONE)?;
-    ends_with(out, "withdraw 20", job.withdraw(POLE), barrier::DONE)?;
-    ends_with(out, "add 20", job.add(POLE, moved_pole), barrier::DONE)?;
+    done(out, "keep 0", job.keep(BEFORE))?;
+    done(out, "withdraw 20", job.withdraw(POLE))?;
+    done(out, "add 20", job.add(POLE, moved_pole))?;
     print_runs(out, job)?;
-    ends_with(out, "return 0", job.return_to(BEFORE), barrier::DONE)?;
+    done(out, "return 0", job.return_to(BEFORE))?;
     print_runs(out, job)?;
-    ends_with(out, "return 1", job.return_to(NEVER_KEPT), barrier::STATE)?;
+    refused(out, "return 1", job.return_to(NEVER_KEPT), barrier::STATE)?;
     Ok(())
 }
 
@@ -161,32 +122,20 @@ fn show_overhang(out: &mut impl Write, job: &mut OpenJob) -> Result<(), Stop> {
     let pier = hazard(40_000, 42_000, NC_4);
 
     writeln!(out, "By the neighbouring contract")?;
-    ends_with(out, "add 1030", job.add(CULVERT, culvert), barrier::DONE)?;
-    ends_with(out, "add 1031", job.add(PIER, pier), barrier::DONE)?;
+    done(out, "add 1030", job.add(CULVERT, culvert))?;
+    done(out, "add 1031", job.add(PIER, pier))?;
     print_runs(out, job)?;
-    ends_with(out, "withdraw 1030", job.withdraw(CULVERT), barrier::DONE)?;
+    done(out, "withdraw 1030", job.withdraw(CULVERT))?;
     print_runs(out, job)
 }
 
 /// Everything in turn.
-fn show(out: &mut impl Write) -> Result<(), Stop> {
+fn print_all(out: &mut impl Write) -> Result<(), Stop> {
     let mut job = show_hazards(out)?;
     show_variant(out, &mut job)?;
     show_overhang(out, &mut job)
 }
 
-/// println! would panic where standard output is full or closed.
 fn main() -> ExitCode {
-    let mut out = io::stdout().lock();
-    let shown = show(&mut out);
-    let flushed = out.flush().map_err(Stop::from);
-    match shown.and(flushed) {
-        Ok(()) => ExitCode::SUCCESS,
-        Err(Stop::Call) => ExitCode::FAILURE,
-        Err(Stop::Output) => {
-            // Where this cannot be written either, the status says it.
-            let _ = writeln!(io::stderr(), "open_job: standard output cannot be written");
-            ExitCode::FAILURE
-        }
-    }
+    show::program("open_job", print_all)
 }

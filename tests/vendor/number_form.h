@@ -1,6 +1,7 @@
 /*
- * The number form of jobs and schedules (barrier.h, "The number form"), for
- * programs that make a job or read a schedule.  Copy it if it is of use.
+ * The number form of jobs and schedules (barrier.h, "The number form"), for the
+ * tests alone: written apart from barrier_help.h, so that each shows where the
+ * other is wrong.  Programs take barrier_help.h, which is bounded.
  */
 #ifndef NUMBER_FORM_H
 #define NUMBER_FORM_H

@@ -1,0 +1,192 @@
+/*
+ * The worked cases of the manual, reckoned by the engine.  Prints each as the
+ * manual has it, behind the name of the text that has to have it: `both` for
+ * barrier.h and README.md, `header` for barrier.h alone.  Ends with 1 where a
+ * call is refused that should not be, or the other way about.
+ */
+#include <barrier_help.h>
+#include <inttypes.h>
+#include <stdio.h>
+#include <stdlib.h>
+
+/* The sample job of the manual: one-way, with a flare. */
+static const barrier_help_header sample = {
+    .kind = 1, .end = 1000000, .runout_forward = 101000, .clear_zone = 9000, .straight = 13340,
+    .barrier_offset = 3000, .deflection = 1000, .flare_along = 15, .flare_across = 1};
+/* The two-way road of docs/figures/envelope.svg, without a flare. */
+static const barrier_help_header two_way = {
+    .kind = 1, .end = 1000000, .runout_forward = 101000, .runout_opposite = 101000,
+    .clear_zone = 9000, .centreline = 3500, .straight = 13340, .barrier_offset = 3000,
+    .deflection = 1000, .flare_along = 15};
+static const barrier_hazard headwall = {BARRIER_RIGHT, 200000, 210000, 5000, 9000, BARRIER_NC_3};
+
+static uint8_t job[BARRIER_JOB_LONGEST], out[BARRIER_SCHEDULE_MAX];
+static size_t job_len, out_len;
+
+static void stop(const char *what)
+{
+    fprintf(stderr, "manual: %s\n", what);
+    exit(1);
+}
+
+static barrier_plan_reply plan(const barrier_help_header *header, barrier_hazard hazard)
+{
+    job_len = barrier_help_write_job(header, &hazard, 1, job, sizeof job);
+    return barrier_plan(job, job_len, hazard.side, out, sizeof out);
+}
+
+/* The one run of a job's one hazard. */
+static barrier_help_run run_of(const barrier_help_header *header, barrier_hazard hazard)
+{
+    const barrier_plan_reply reply = plan(header, hazard);
+    barrier_help_walk walk;
+    barrier_help_run run, other;
+    if (reply.number != BARRIER_DONE || reply.before != 0 || reply.after != 0)
+        stop("a job is not planned on its road");
+    out_len = (size_t)reply.value;
+    walk = barrier_help_walk_of(out, out_len);
+    if (!barrier_help_next_run(&walk, &run) || barrier_help_next_run(&walk, &other))
+        stop("a schedule has not one run");
+    return run;
+}
+
+static barrier_hazard with_side(uint64_t side)
+{
+    barrier_hazard hazard = headwall;
+    hazard.side = side;
+    return hazard;
+}
+
+static barrier_hazard with_stations(uint64_t start, uint64_t end)
+{
+    barrier_hazard hazard = headwall;
+    hazard.start = start;
+    hazard.end = end;
+    return hazard;
+}
+
+static void bytes(const uint8_t *row, size_t length)
+{
+    size_t i;
+    printf("header");
+    for (i = 0; i < length; i++)
+        printf(" %02X", row[i]);
+    printf("\n");
+}
+
+/* Where traffic drives on the left, the sides are handed over swapped. */
+static void driving_side(void)
+{
+    static const char *const drives[2] = {"on the right", "on the left"};
+    static const char *const stands[2] = {"the right", "the left"};
+    static const char *const names[2] = {"BARRIER_RIGHT", "BARRIER_LEFT"};
+    uint64_t left_hand, side, handed;
+    barrier_help_run run, unswapped;
+    for (left_hand = 0; left_hand < 2; left_hand++)
+        for (handed = 0; handed < 2; handed++) {
+            side = handed ^ left_hand;
+            run = run_of(&two_way, with_side(handed));
+            printf("both %s %s %s [%" PRIu64 ", %" PRIu64 ")\n", drives[left_hand], stands[side],
+                   names[handed], run.start, run.end);
+        }
+    run = run_of(&two_way, with_side(BARRIER_RIGHT));
+    unswapped = run_of(&two_way, with_side(BARRIER_LEFT));
+    printf("both begins %" PRIu64 " mm too late\n", unswapped.start - run.start);
+    /* One-way, swapping alters no length. */
+    run = run_of(&sample, with_side(BARRIER_RIGHT));
+    unswapped = run_of(&sample, with_side(BARRIER_LEFT));
+    if (run.start != unswapped.start || run.end != unswapped.end)
+        stop("one-way, the sides have different runs");
+}
+
+/* A carriageway whose traffic travels towards falling stations is turned round. */
+static void turned_round(void)
+{
+    const uint64_t sum = sample.begin + sample.end;
+    const uint64_t start = sum - headwall.end, end = sum - headwall.start;
+    const barrier_help_run run = run_of(&sample, with_stations(start, end));
+    printf("both [%" PRIu64 ", %" PRIu64 ") is handed over as [%" PRIu64 ", %" PRIu64
+           "), and its run [%" PRIu64 ", %" PRIu64 ") is [%" PRIu64 ", %" PRIu64 ") of the road\n",
+           headwall.start, headwall.end, start, end, run.start, run.end, sum - run.end,
+           sum - run.start);
+}
+
+/* The run of the sample job's hazard with the whole road moved on, moved back. */
+static barrier_help_run moved_by(uint64_t by)
+{
+    barrier_help_header moved = sample;
+    barrier_help_run run;
+    moved.begin += by;
+    moved.end += by;
+    run = run_of(&moved, with_stations(headwall.start + by, headwall.end + by));
+    run.start -= by;
+    run.end -= by;
+    return run;
+}
+
+/* A road that begins below 0 is moved until it does not, and the run moved back. */
+static void below_zero(void)
+{
+    const int64_t by = 250000;
+    const barrier_help_run run = moved_by(0), farther = moved_by(750000);
+    if (run.start != farther.start || run.end != farther.end)
+        stop("a run depends on how far the road is moved");
+    printf("both a road from %" PRId64 " on, moved by %" PRId64 ": the hazard [%" PRId64 ", %" PRId64
+           ") is handed over as [%" PRIu64 ", %" PRIu64 "), and its run [%" PRIu64 ", %" PRIu64
+           ") is [%" PRId64 ", %" PRId64 ") of the road\n",
+           -by, by, (int64_t)headwall.start - by, (int64_t)headwall.end - by, headwall.start,
+           headwall.end, run.start, run.end, (int64_t)run.start - by, (int64_t)run.end - by);
+}
+
+/* A point is one millimetre long; one of no length is refused. */
+static void point(void)
+{
+    const barrier_help_run run = run_of(&sample, with_stations(200000, 200001));
+    const barrier_hazard none = with_stations(200000, 200000);
+    const barrier_plan_reply reply = plan(&sample, none);
+    if (run.end != 200001)
+        stop("a point's run does not end with it");
+    if (reply.number != BARRIER_HAZARD_RANGE ||
+        barrier_help_hazard_fault(sample.begin, sample.end, &none) != 2)
+        stop("a hazard without length is not refused 4 for its end");
+    printf("both e = s + 1\n");
+    printf("both e = s is refused 4\n");
+}
+
+/* Only the first fault is replied; an open job answers for each hazard by itself. */
+static void first_fault(void)
+{
+    static barrier_open_job open;
+    barrier_hazard faults[3];
+    barrier_plan_reply reply;
+    uint16_t i;
+    faults[0] = headwall;
+    faults[0].near_offset = 3999; /* refused 5 */
+    faults[1] = headwall;
+    faults[1].level = 7; /* refused 4 */
+    faults[2] = headwall;
+    faults[2].far_offset = 4999; /* refused 4 */
+    job_len = barrier_help_write_job(&sample, faults, 3, job, sizeof job);
+    reply = barrier_plan(job, job_len, BARRIER_RIGHT, out, sizeof out);
+    if (reply.number != BARRIER_HAZARD_RANGE || reply.value != 1)
+        stop("not the first fault, the range of hazard 1");
+    job_len = barrier_help_write_job(&sample, NULL, 0, job, sizeof job);
+    if (barrier_open(&open, job, job_len).number != BARRIER_DONE)
+        stop("the header is not opened");
+    for (i = 0; i < 3; i++)
+        if (barrier_add(&open, i, faults[i]).number != (i == 0 ? 5 : 4))
+            stop("an add does not answer for its hazard");
+}
+
+int main(void)
+{
+    run_of(&sample, headwall);
+    bytes(job, job_len);
+    bytes(out, out_len);
+    driving_side();
+    turned_round();
+    below_zero();
+    point();
+    first_fault();
+    return 0;
+}
