@@ -23,7 +23,7 @@ use Rattle.planning.specs.Required.{jobRuns}
 use Rattle.planning.proofs.EnvelopeLaws.{accepted-fits, domain-of}
 use Rattle.planning.proofs.FormulaLaws.{formula-level}
 use Rattle.planning.proofs.JobRunLaws.{job-runs}
-use Rattle.report.specs.Text.{rightWord, leftWord, runLine, runLines, totalLine, covered, runsReport, reportedBy, reported}
+use Rattle.report.specs.Text.{rightWord, leftWord, runLine, runLines, totalLine, covered, runsReport, reported}
 use Rattle.report.proofs.LineLaws.{lines-append}
 
 -- The word that a side's lines begin with.
@@ -58,7 +58,7 @@ module _ (s : List ℕ) (j : Job) (a : acceptJob s ≡ accepted j) (v t : ℕ) w
   }
 
   printed : (side : ℕ) → side ≤ 1 → (w : ShownRun (jobRuns j side) t) → v ≤ w .run .level → PrintedRun s (sideWord side) v t
-  unfolding runsReport reportedBy
+  unfolding runsReport reported
   printed zero l w h = line-printed rightWord (jobRuns j 0) w h [] (runLines leftWord (jobRuns j 1) ++ totalLine (covered (jobRuns j 0)) (covered (jobRuns j 1))) (rw a (append-assoc (runLines rightWord (jobRuns j 0)) _ _))
   printed (suc zero) l w h = line-printed leftWord (jobRuns j 1) w h (runLines rightWord (jobRuns j 0)) (totalLine (covered (jobRuns j 0)) (covered (jobRuns j 1))) (rw a (append-assoc (runLines rightWord (jobRuns j 0)) _ _))
   printed (suc (suc n)) l w h = absurd (omega arith)

@@ -11,7 +11,7 @@ use Rattle.job.specs.Job.{Job, withOffset}
 use Rattle.planning.specs.Envelope.{adjacentTraffic, acceptJob}
 use Rattle.planning.specs.Approached.{approachedHazard}
 use Rattle.planning.proofs.ApproachedLaws.{ApproachedFits}
-use Rattle.clear_offset.specs.Offset.{lengthAt, isAllowed, hazardOffset, smallestOffsetBy, smallestOffset}
+use Rattle.clear_offset.specs.Offset.{lengthAt, isAllowed, hazardOffset, smallestOffset}
 use Rattle.clear_offset.specs.Steps.{Clear, jobOffset}
 
 -- The header's own offset plays no part.
@@ -37,9 +37,9 @@ approached-clear a = record { header = a .header; hazard = a .hazard; reach = a 
 
 module _ (s : List ℕ) (index longest : ℕ) where
   pub offset-accepted : (j : Job) → acceptJob s ≡ accepted j → smallestOffset s index longest ≡ jobOffset j index longest
-  unfolding smallestOffsetBy jobOffset
+  unfolding smallestOffset jobOffset
   offset-accepted j e = rw e
 
   pub offset-refused : (k v : ℕ) → acceptJob s ≡ refused k v → smallestOffset s index longest ≡ refused k v
-  unfolding smallestOffsetBy
+  unfolding smallestOffset
   offset-refused k v e = rw e

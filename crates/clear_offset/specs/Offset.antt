@@ -7,11 +7,10 @@ use lib.Dec.{leb}
 use Rattle.refusal.specs.Choice.{if_then_else_}
 use Rattle.refusal.specs.Answer.{Answer, accepted, _>>=_}
 use Rattle.refusal.specs.Refusal.{refusal}
-use Rattle.refusal.specs.Limits.{Limits, limits}
 use Rattle.job.specs.declared.Header.{Header}
 use Rattle.job.specs.declared.Hazard.{Hazard}
 use Rattle.job.specs.Job.{withOffset}
-use Rattle.planning.specs.Envelope.{adjacentTraffic, lengthening, acceptJobBy}
+use Rattle.planning.specs.Envelope.{adjacentTraffic, lengthening, acceptJob}
 use Rattle.planning.specs.Approached.{approachedHazard}
 use Rattle.clear_offset.specs.declared.reply.Offset.{Offset}
 use Rattle.clear_offset.specs.declared.reply.Offset.the-variants as Offset
@@ -57,14 +56,11 @@ hazardOffset h z longest = leastOf (isAllowed h z longest) 20001 0
 
 -- "From an accepted job, a hazard index and a wanted longest adjacent approach". "A job that isn't accepted is refused as plan refuses it; after
 -- that, no such hazard, or one that adjacent traffic doesn't reach, is 14."
-unfoldable pub smallestOffsetBy : Limits → (s : List ℕ) (index longest : ℕ) → Answer Smallest
-smallestOffsetBy L s index longest =
-    acceptJobBy L s >>= λ j.
+unfoldable pub smallestOffset : (s : List ℕ) (index longest : ℕ) → Answer Smallest
+smallestOffset s index longest =
+    acceptJob s >>= λ j.
     approachedHazard j index >>= λ z.
     accepted (hazardOffset (j .header) z longest)
-
-abbrev pub smallestOffset : (s : List ℕ) (index longest : ℕ) → Answer Smallest
-smallestOffset = smallestOffsetBy limits
 
 abbrev pub offsetReply : Offset → Answer Smallest
 offsetReply (Offset.Smallest M) = accepted (offset M)

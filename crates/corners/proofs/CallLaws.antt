@@ -11,7 +11,7 @@ use Rattle.refusal.specs.Answer.{Answer, refused, _>>=_}
 use Rattle.refusal.proofs.TestLaws.{or-cases, or-false}
 use Rattle.planning.specs.Envelope.{acceptJob}
 use Rattle.corners.specs.declared.reply.Corners.{Corners}
-use Rattle.corners.specs.Corners.{Points, sheetTop, cornersOfBy, cornersOf}
+use Rattle.corners.specs.Corners.{Points, sheetTop, cornersOf}
 use Rattle.corners.specs.Reply.{Replies}
 use Rattle.corners.specs.Steps.{jobCorners}
 
@@ -29,10 +29,10 @@ module _ (x y : ℕ) where
 
   module _ (s : List ℕ) (i : ℕ) where
     pub off-sheet : (sheetTop < x) ⊎ (sheetTop < y) → cornersOf s i x y ≡ refused 8 0
-    unfolding cornersOfBy
+    unfolding cornersOf
     off-sheet (inl l) = rw (lt-leb x sheetTop l)
     off-sheet (inr l) = rw (lt-leb y sheetTop l, and-false (leb x sheetTop))
 
     pub on-sheet : x ≤ sheetTop → y ≤ sheetTop → cornersOf s i x y ≡ (acceptJob s >>= λ j. jobCorners x y j i)
-    unfolding cornersOfBy jobCorners
+    unfolding cornersOf jobCorners
     on-sheet k l = rw (le-leb x sheetTop k, le-leb y sheetTop l)

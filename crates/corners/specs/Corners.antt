@@ -10,11 +10,10 @@ use Rattle.refusal.specs.Choice.{if_then_else_}
 use Rattle.refusal.specs.Answer.{Answer, accepted, _>>=_}
 use Rattle.refusal.specs.Refusal.{unless-refuse}
 use Rattle.refusal.specs.declared.Refusal.the-variants as Row
-use Rattle.refusal.specs.Limits.{Limits, limits}
 use Rattle.approach.specs.Approach.{approachLength}
 use Rattle.job.specs.declared.Header.{Header}
 use Rattle.job.specs.declared.Hazard.{Hazard}
-use Rattle.planning.specs.Envelope.{Traffic, forward, opposite, adjacentTraffic, runout, reachOf, offsetOf, lengthening, acceptJobBy}
+use Rattle.planning.specs.Envelope.{Traffic, forward, opposite, adjacentTraffic, runout, reachOf, offsetOf, lengthening, acceptJob}
 use Rattle.planning.specs.Approached.{approachedHazard}
 
 -- The approach of a traffic
@@ -66,22 +65,16 @@ approachPoints x y h z t =
 
 -- "Both sheet corner numbers may now reach 1,000,000,000,000", each from 0.
 abbrev pub sheetTop : ℕ
-sheetTop = limits .sheetTop
-
-abbrev pub onSheetBy : Limits → (x y : ℕ) → Bool
-onSheetBy L x y = leb x (L .sheetTop) && leb y (L .sheetTop)
+sheetTop = 1000000000000
 
 abbrev pub onSheet : (x y : ℕ) → Bool
-onSheet = onSheetBy limits
+onSheet x y = leb x sheetTop && leb y sheetTop
 
 -- "For one hazard of a job give the corners of its adjacent approach". "A sheet corner out of range is 8", first of all; then "plan's
 -- without 9"; "then 14". 8 and 14 return 0.
-unfoldable pub cornersOfBy : Limits → (s : List ℕ) (hazard x y : ℕ) → Answer Points
-cornersOfBy L s i x y =
-    unless-refuse (onSheetBy L x y) Row.Argument >>= λ _.
-    acceptJobBy L s >>= λ j.
+unfoldable pub cornersOf : (s : List ℕ) (hazard x y : ℕ) → Answer Points
+cornersOf s i x y =
+    unless-refuse (onSheet x y) Row.Argument >>= λ _.
+    acceptJob s >>= λ j.
     approachedHazard j i >>= λ z.
     accepted (approachPoints x y (j .header) z (adjacentTraffic (j .header) (z .side)))
-
-abbrev pub cornersOf : (s : List ℕ) (hazard x y : ℕ) → Answer Points
-cornersOf = cornersOfBy limits

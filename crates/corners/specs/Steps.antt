@@ -3,7 +3,6 @@
 use Prim.Native.Nat.{ℕ, _≤_, _<_}
 use mathlib.Core.Path.{_≡_}
 use Rattle.refusal.specs.Answer.{Answer, accepted, _>>=_}
-use Rattle.refusal.specs.Limits.{limits}
 use Rattle.job.specs.declared.Header.{Header}
 use Rattle.job.specs.declared.Hazard.{Hazard}
 use Rattle.job.specs.Job.{Job}
@@ -28,8 +27,8 @@ pub record OnSheet (sheet : Sheet) : Type 0 where
 
 -- A hazard and a distance upstream of it whose numbers are far below 2 ^ 53, so that floats have them exactly.
 pub record StationFits (z : Hazard) (distance : ℕ) : Type 0 where
-  pub start : z .start ≤ limits .lastStation
-  pub end : z .end ≤ limits .lastStation
+  pub start : z .start ≤ 1000000000000
+  pub end : z .end ≤ 1000000000000
   pub near : distance ≤ 210000
 
 -- The lengths of a traffic's approach.

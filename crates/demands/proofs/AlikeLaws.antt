@@ -23,7 +23,7 @@ use Rattle.planning.proofs.EnvelopeLaws.{accepted-fits, from-cut}
 use Rattle.planning.proofs.JobRunLaws.{job-runs}
 use Rattle.planning.proofs.OverhangLaws.{greatest-before, greatest-after, greatest-only}
 use Rattle.schedule.specs.Schedule.{writeSchedule}
-use Rattle.schedule.specs.Plan.{fitted, planBy, plan}
+use Rattle.schedule.specs.Plan.{fitted, plan}
 use Rattle.schedule.specs.Planned.{Accepted}
 use Rattle.demands.specs.Demands.{Alike}
 use Rattle.demands.proofs.DemandLaws.{alike-reached, alike-cut}
@@ -33,7 +33,7 @@ unfolding overhang lengthening reaches reachOf offsetOf farther
 alike-overhang h k a z = ap (λ (x : Header). overhang x z) a
 
 plan-accepted : (s : List ℕ) (j : Job) → Accepted s j → (side room : ℕ) → plan s side room ≡ (unless-refuse (leb side 1) Row.Argument >>= λ _. fitted (writeSchedule (jobRuns j side)) (sideOverhangs j side) room)
-unfolding planBy
+unfolding plan
 plan-accepted s j a side room = rw a
 
 -- The second job has the first's hazards that give the side an envelope.

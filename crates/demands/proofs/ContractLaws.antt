@@ -14,7 +14,7 @@ use Rattle.number.proofs.ByteLaws.{Bytes}
 use Rattle.runs.proofs.IndexLaws.{zeros}
 use Rattle.schedule.specs.Schedule.{IsSchedule, readSchedule}
 use Rattle.queries.specs.Quantity.{quantity}
-use Rattle.queries.specs.Ranges.{rangesOf, areRanges, mostRanges, Counted, quantitiesBy, quantities, Replied, placesOf, replied}
+use Rattle.queries.specs.Ranges.{rangesOf, areRanges, mostRanges, Counted, quantities, Replied, placesOf, replied}
 use Rattle.schedule.proofs.ScheduleLaws.{schedule-runs}
 use Rattle.demands.proofs.QueryLaws.{schedule-ten, query-eight, query-eleven, query-ten, query-given, not-within, quantity-counts}
 use Rattle.queries.proofs.RangeLaws.{rangeAt, places-count, places-in, places-behind}
@@ -24,21 +24,21 @@ use Rattle.refusal.proofs.TestLaws.{impossible}
 module _ (s : List ℕ) (v : ℕ) (l : List ℕ) (b : Bytes s) where
   -- 8: a level that is not 1 to 6, a number without its partner, or "any p > q among them".
   pub quantities-eight : (quantities s v l ≡ refused 8 0) ↔ (AllRanged v l → ⊥)
-  unfolding quantitiesBy
+  unfolding quantities
   quantities-eight =
       let e = query-eight s (λ rs. counted rs v (rangesOf l)) b (leb 1 v && leb v 6 && areRanges l) (leb (length (rangesOf l)) mostRanges) in
       (λ x a. e .0 x (all-ranged v l .1 a), quantities-argument s v l)
 
   -- "More than 64 ranges is 11, after 8 and before 10."
   pub quantities-eleven : (quantities s v l ≡ refused 11 0) ↔ (AllRanged v l × (mostRanges < length (rangesOf l)))
-  unfolding quantitiesBy
+  unfolding quantities
   quantities-eleven =
       let e = query-eleven s (λ rs. counted rs v (rangesOf l)) b (leb 1 v && leb v 6 && areRanges l) (leb (length (rangesOf l)) mostRanges) in
       (λ x. (all-ranged v l .0 (e .0 x .0), not-within (length (rangesOf l)) mostRanges (e .0 x .1)), λ h. quantities-many s v l (h .0) (h .1))
 
   -- 10: the arguments are in their ranges, the ranges few, and the schedule isn't the writing of a run list.
   pub quantities-ten : (quantities s v l ≡ refused 10 0) ↔ (AllRanged v l × (length (rangesOf l) ≤ mostRanges) × (IsSchedule s → ⊥))
-  unfolding quantitiesBy
+  unfolding quantities
   quantities-ten =
       let e = query-ten s (λ rs. counted rs v (rangesOf l)) b (leb 1 v && leb v 6 && areRanges l) (leb (length (rangesOf l)) mostRanges) in
       (λ x. (all-ranged v l .0 (e .0 x .0), leb-true (length (rangesOf l)) mostRanges (e .0 x .1), e .0 x .2), λ h. quantities-none s v l (h .0) (h .1) (schedule-ten s b .1 (h .2)))
@@ -56,7 +56,7 @@ module _ (s : List ℕ) (v : ℕ) (l : List ℕ) (b : Bytes s) where
     pub places : length (r .places) ≡ mostRanges
 
   pub quantities-given : replied (quantities s v l) .answer ≡ accepted tt → Given (replied (quantities s v l))
-  unfolding replied quantitiesBy
+  unfolding replied quantities
   quantities-given = go (quantities s v l) refl
     where
       finish : AllRanged v l → length (rangesOf l) ≤ mostRanges → (w : IsSchedule s) → readSchedule s ≡ accepted (w .runs) → Given (replied (accepted (counted (w .runs) v (rangesOf l))))

@@ -13,18 +13,18 @@ use borrow.Author.Tests.{ltb-true}
 use Rattle.refusal.specs.Choice.{someOf, keep}
 use Rattle.refusal.specs.Answer.{refused}
 use Rattle.refusal.proofs.TestLaws.{impossible}
-use Rattle.number.specs.Number.{writeIn, writeNumberBy, scan, readNumberBy, numberAtBy}
+use Rattle.number.specs.Number.{writeIn, writeNumber, scan, readNumber, numberAt}
 use Rattle.approach.specs.Approach.{ceilDiv, formulaLength, approachLength}
 use Rattle.approach.specs.Panel.{raised, raisedLength}
 use Rattle.job.specs.declared.Header.{Header}
 use Rattle.job.specs.declared.Hazard.{Hazard}
-use Rattle.job.specs.Job.{Job, sharedRangesBy, headerRangesBy, hazardRanges, readFieldsBy, readHeaderBy, readHazardsBy, readRestBy, readJobBy}
+use Rattle.job.specs.Job.{Job, sharedRanges, headerRanges, hazardRanges, readFields, readHeader, readHazards, readRest, readJob}
 use Rattle.job.specs.Writing.{writeNumbers}
 use Rattle.job.proofs.RangeLaws.{header-bounds}
 use Rattle.planning.proofs.EnvelopeLaws.{accepted-fits}
 use Rattle.planning.proofs.ApproachedLaws.{reach-test, approached-fits}
-use Rattle.planning.specs.Envelope.{Traffic, forward, opposite, adjacentTraffic, farther, reachOf, offsetOf, reaches, reached, lengthening, envelope, standsNear, testHazard, testHazards, acceptJobBy}
-use Rattle.corners.specs.Corners.{upstreamBy, pointAt, lengthBefore, flareEntered, upstreamOffset, Points, approachPoints, sheetTop, cornersOfBy, cornersOf}
+use Rattle.planning.specs.Envelope.{Traffic, forward, opposite, adjacentTraffic, farther, reachOf, offsetOf, reaches, reached, lengthening, envelope, standsNear, testHazard, testHazards, acceptJob}
+use Rattle.corners.specs.Corners.{upstreamBy, pointAt, lengthBefore, flareEntered, upstreamOffset, Points, approachPoints, sheetTop, cornersOf}
 use Rattle.planning.specs.Approached.{hazardAt, approachedHazard}
 use Rattle.corners.specs.Steps.{jobCorners}
 use Rattle.corners.proofs.PointLaws.{raised-past-straight}
@@ -153,5 +153,5 @@ corners-lie s j i x y p accept e = go (sheet s i x y)
 
 -- Worked jobs, one theorem over the list.
 pub corner-cases-hold : map drawnCorners cornerCases ≡ map expectedCorners cornerCases
-unfolding header hazard cornerCases drawnCorners expectedCorners cornersOfBy approachedHazard approachPoints upstreamOffset flareEntered lengthBefore writeNumbers someOf keep writeIn writeNumberBy scan readNumberBy numberAtBy ceilDiv formulaLength approachLength raised raisedLength sharedRangesBy headerRangesBy hazardRanges readFieldsBy readHeaderBy readHazardsBy readRestBy readJobBy adjacentTraffic farther reachOf offsetOf reaches reached lengthening standsNear testHazard testHazards acceptJobBy
+unfolding header hazard cornerCases drawnCorners expectedCorners cornersOf approachedHazard approachPoints upstreamOffset flareEntered lengthBefore writeNumbers someOf keep writeIn writeNumber scan readNumber numberAt ceilDiv formulaLength approachLength raised raisedLength sharedRanges headerRanges hazardRanges readFields readHeader readHazards readRest readJob adjacentTraffic farther reachOf offsetOf reaches reached lengthening standsNear testHazard testHazards acceptJob
 corner-cases-hold = refl

@@ -26,8 +26,8 @@ use Rattle.schedule.proofs.PlanLaws.{output-length}
 use Rattle.demands.proofs.LookupLaws.{Finds, none-shown, lookup-written}
 use Rattle.planning.specs.Required.{jobLevel, jobRuns}
 use Rattle.queries.specs.Lookup.{Found, found, nowhere, asked}
-use Rattle.schedule.specs.Plan.{PlannedSide, fitted, planBy, plan, outputAfter}
-use Rattle.queries.specs.Quantity.{millimetres, quantityBy, quantity}
+use Rattle.schedule.specs.Plan.{PlannedSide, fitted, plan, outputAfter}
+use Rattle.queries.specs.Quantity.{millimetres, quantity}
 use Rattle.runs.proofs.LevelLaws.{required-more}
 use Rattle.runs.proofs.GapLaws.{required-is-highest}
 use Rattle.runs.proofs.LeastLaws.{required-covers, required-no-short-gap, required-least}
@@ -178,7 +178,7 @@ last-le p [] r = omega arith
 last-le p (q ∷ qs) r = omega (arith, r .0, last-le q qs (r .1))
 
 quantity-of : (w : List ℕ) (rs : List Stretch) (f : ℕ → ℕ) (v p q : ℕ) → readSchedule w ≡ accepted rs → shownLevel rs ≡ f → 1 ≤ v → v ≤ 6 → p ≤ q → quantity w v p q ≡ accepted (millimetres f v p q)
-unfolding quantityBy
+unfolding quantity
 quantity-of w rs f v p q e g a b c = rw (le-leb 1 v a, le-leb v 6 b, le-leb p q c, e, g)
 
 lots-total : (w : List ℕ) (rs : List Stretch) (f : ℕ → ℕ) (v : ℕ) → readSchedule w ≡ accepted rs → shownLevel rs ≡ f → 1 ≤ v → v ≤ 6
@@ -229,7 +229,7 @@ pub record PlannedJob (s : List ℕ) (side : ℕ) (w : List ℕ) : Type 0 where
   pub planned : Planned s side w
 
 pub plan-accepted : (s : List ℕ) (side room : ℕ) (p : PlannedSide) → plan s side room ≡ accepted p → PlannedJob s side (p .schedule)
-unfolding planBy fitted
+unfolding plan fitted
 plan-accepted s side room p e =
     let b1 = bound (unless-refuse (leb side 1) Row.Argument) _ p e in
     let b2 = bound (acceptJob s) _ p (b1 .rest) in

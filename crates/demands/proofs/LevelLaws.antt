@@ -13,14 +13,14 @@ use Rattle.number.proofs.ReadLaws.{read-number, after-number}
 use Rattle.job.specs.Job.{Job}
 use Rattle.runs.specs.declared.Stretch.{Stretch}
 use Rattle.runs.specs.RunList.{lastEnd}
-use Rattle.runs.proofs.RunLaws.{Next}
-use Rattle.runs.proofs.StoredLaws.{lastLevel, next-after, run-list-rising}
+use Rattle.runs.proofs.RunLaws.{Next, run-list-rising}
+use Rattle.runs.proofs.StoredLaws.{lastLevel, next-after}
 use Rattle.planning.specs.Envelope.{acceptJob}
 use Rattle.planning.specs.Required.{jobLevel, jobRuns}
 use Rattle.planning.proofs.RoadLaws.{level-off-road}
 use Rattle.planning.proofs.EnvelopeLaws.{accepted-fits}
 use Rattle.planning.proofs.JobRunLaws.{job-run-list}
-use Rattle.schedule.specs.Schedule.{writeRecordBy, writeRecord}
+use Rattle.schedule.specs.Schedule.{writeRecord}
 use Rattle.schedule.specs.Plan.{plan}
 use Rattle.schedule.proofs.PlanLaws.{plan-bad-side}
 use Rattle.station_level.specs.Level.{levelAt}
@@ -34,7 +34,7 @@ use Rattle.refusal.proofs.TestLaws.{impossible}
 
 -- The level in a run's record is the run's.
 record-level : (e v : ℕ) (r : Stretch) → Next e v r → recordLevel (writeRecord e r) ≡ accepted (r .level)
-unfolding recordLevel writeRecordBy
+unfolding recordLevel writeRecord
 record-level e v r n =
     rw (read-number w 0 gap (writeNumber len ++ writeNumber (r .level)) (omega (arith, n .long, n .ends)) refl)
     (rw (read-number w at2 len (writeNumber (r .level)) (omega (arith, n .ends)) q2)

@@ -7,8 +7,6 @@ pub mod ContractLaws
 pub mod LotLaws
 pub mod RefusalLaws
 pub mod CaseLaws
-pub mod BeforeLaws
-pub mod LimitLaws
 pub mod LevelLaws
 pub mod HazardLaws
 pub mod CornerLaws

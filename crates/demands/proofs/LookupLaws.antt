@@ -19,17 +19,16 @@ use Rattle.number.proofs.ReadLaws.{after-number}
 use Rattle.runs.specs.declared.Stretch.{Stretch}
 use Rattle.runs.specs.Level.{Has, has}
 use Rattle.runs.specs.RunList.{shownLevel}
-use Rattle.runs.proofs.RunLaws.{Rising, shown-in, shown-before, shown-after}
-use Rattle.runs.proofs.StoredLaws.{run-list-rising}
-use Rattle.schedule.specs.Schedule.{writeRecord, writeRecordsBy, writeRecords, writeScheduleBy, IsSchedule}
-use Rattle.queries.specs.Lookup.{Part, Found, found, nowhere, findRecordBy, findRecord, placeInBy, asked, lookupBy, lookup, FoundRun}
+use Rattle.runs.proofs.RunLaws.{Rising, shown-in, shown-before, shown-after, run-list-rising}
+use Rattle.schedule.specs.Schedule.{writeRecord, writeRecords, writeSchedule, IsSchedule}
+use Rattle.queries.specs.Lookup.{Part, Found, found, nowhere, findRecord, placeIn, asked, lookup, FoundRun}
 use Rattle.schedule.proofs.ScheduleLaws.{after-bytes, schedule-runs}
 
 part-of-split : (s : List ℕ) (i : ℕ) (w rest : List ℕ) → drop i s ≡ w ++ rest → take (length w) (drop i s) ≡ w
 part-of-split s i w rest e = rw e (take-append-seam w rest)
 
 find-found : (s : List ℕ) (e v i : ℕ) (rs : List Stretch) (rest : List ℕ) (t : ℕ) (p : Part) → Rising e v rs → drop i s ≡ writeRecords e rs ++ rest → findRecord e i rs t ≡ found p → FoundRun s e i rs t p
-unfolding findRecordBy writeRecordsBy
+unfolding findRecord writeRecords
 find-found s e v i [] rest t p up q f = impossible cc
 find-found s e v i (r ∷ rs) rest t p up q f =
     go (leb (r .start) t) refl (ltb t (r .end)) refl f (find-found s (r .end) (r .level) (i + length (writeRecord e r)) rs rest t p (up .1) later)
@@ -76,7 +75,7 @@ find-found s e v i (r ∷ rs) rest t p up q f =
 
 -- No run has the station where nothing is found.
 find-none : (e i : ℕ) (rs : List Stretch) (t : ℕ) → findRecord e i rs t ≡ nowhere → (r : Stretch) → List·Memᴰ r rs → Has r t → ⊥
-unfolding findRecordBy
+unfolding findRecord
 find-none e i [] t q r m h = List·Memᴰ·not-nil m
 find-none e i (x ∷ rs) t q r m h = go (has x t) refl q (List·Memᴰ·cases-cons m) (λ c k. find-none (x .end) (i + length (writeRecord e x)) rs t c r k h)
   where
@@ -109,7 +108,7 @@ pub record LookedIn (right left : List ℕ) (side : ℕ) (rs : List Stretch) (t 
   pub finds : Finds (asked side right left) rs t answer
 
 pub lookup-written : (right left : List ℕ) (side t : ℕ) → side ≤ 1 → (w : IsSchedule (asked side right left)) → LookedIn right left side (w .runs) t
-unfolding lookupBy placeInBy writeScheduleBy
+unfolding lookup placeIn writeSchedule
 lookup-written right left side t h w = record { answer = answer; replies = rw (le-leb side 1 h, schedule-runs (asked side right left) w); finds = go answer refl }
   where
     s : List ℕ

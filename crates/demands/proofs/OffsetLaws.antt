@@ -9,7 +9,7 @@ use Rattle.job.specs.Job.{Job}
 use Rattle.planning.proofs.EnvelopeLaws.{accepted-fits}
 use Rattle.planning.proofs.ApproachedLaws.{reach-test, approached-fits}
 use Rattle.planning.specs.Approached.{hazardAt}
-use Rattle.clear_offset.specs.Offset.{Smallest, offset, none, hazardOffset, smallestOffsetBy}
+use Rattle.clear_offset.specs.Offset.{Smallest, offset, none, hazardOffset, smallestOffset}
 use Rattle.clear_offset.proofs.SearchLaws.{least-exactly, none-exactly, nothing-wanted}
 use Rattle.clear_offset.proofs.OffsetLaws.{approached-clear}
 use Rattle.demands.specs.Offset.{Offset-given, Offset-none, Offset-zero, Offset-refusals, Offset-fourteen}
@@ -20,30 +20,30 @@ abbrev smallest : (longest : ℕ) → Job → Hazard → Smallest
 smallest longest j z = hazardOffset (j .header) z longest
 
 pub offset-given : Offset-given
-unfolding smallestOffsetBy
+unfolding smallestOffset
 offset-given s index longest M = (
   λ e. let (j, a, q) = told-given (smallest longest) s index (offset M) e in (j, a, least-exactly (j .header) (hazardAt j index) longest M .0 q),
   λ (j, a, l). told-approached (smallest longest) s index j a ∙ ap accepted (least-exactly (j .header) (hazardAt j index) longest M .1 l),
 )
 
 pub offset-none : Offset-none
-unfolding smallestOffsetBy
+unfolding smallestOffset
 offset-none s index longest = (
   λ e. let (j, a, q) = told-given (smallest longest) s index none e in (j, a, none-exactly (j .header) (hazardAt j index) longest .0 q),
   λ (j, a, l). told-approached (smallest longest) s index j a ∙ ap accepted (none-exactly (j .header) (hazardAt j index) longest .1 l),
 )
 
 pub offset-zero : Offset-zero
-unfolding smallestOffsetBy
+unfolding smallestOffset
 offset-zero s j index a =
     let fits = accepted-fits s j (a .job) in
     let near = ltb-true _ _ (sym (reach-test j fits index (a .there)) ∙ a .reach) in
     told-approached (smallest 0) s index j a ∙ ap accepted (nothing-wanted (j .header) (hazardAt j index) (approached-clear (approached-fits j fits index (a .there) near)))
 
 pub offset-fourteen : Offset-fourteen
-unfolding smallestOffsetBy
+unfolding smallestOffset
 offset-fourteen s index longest v = told-fourteen (smallest longest) s index v
 
 pub offset-refusals : Offset-refusals
-unfolding smallestOffsetBy
+unfolding smallestOffset
 offset-refusals s index longest side room k v h = told-refusals (smallest longest) s index side room k v h

@@ -19,8 +19,8 @@ use Rattle.number.proofs.ByteLaws.{Bytes}
 use Rattle.runs.specs.declared.Stretch.{Stretch}
 use Rattle.runs.specs.RunList.{shownLevel}
 use Rattle.schedule.specs.Schedule.{IsSchedule, readSchedule}
-use Rattle.queries.specs.Quantity.{millimetres, quantityBy, quantity}
-use Rattle.queries.specs.Lookup.{asked, lookupBy, lookup, Found, findRecord, placeInBy}
+use Rattle.queries.specs.Quantity.{millimetres, quantity}
+use Rattle.queries.specs.Lookup.{asked, lookup, Found, findRecord, placeIn}
 use Rattle.schedule.proofs.ScheduleLaws.{schedule-runs, refused-ten, schedule-read}
 use Rattle.queries.proofs.QuantityLaws.{Ranged, ranged}
 use Rattle.demands.proofs.DemandLaws.{millimetres-add}
@@ -107,7 +107,7 @@ pub record Counts (s : List ℕ) (v p q n : ℕ) : Type 0 where
   pub count : millimetres (shownLevel runs) v p q ≡ n
 
 pub quantity-counts : (s : List ℕ) (v p q n : ℕ) → (quantity s v p q ≡ accepted n) ↔ Counts s v p q n
-unfolding quantityBy
+unfolding quantity
 quantity-counts s v p q n = (to, from)
   where
     to : quantity s v p q ≡ accepted n → Counts s v p q n
@@ -132,7 +132,7 @@ quantity-add s w v p r q low top a b =
 
 -- 8: "level not 1 to 6, or p > q".
 pub quantity-eight : (s : List ℕ) (v p q : ℕ) → Bytes s → (quantity s v p q ≡ refused 8 0) ↔ (Ranged v p q → ⊥)
-unfolding quantityBy
+unfolding quantity
 quantity-eight s v p q b =
     let e = query-eight s (λ rs. millimetres (shownLevel rs) v p q) b (leb 1 v && leb v 6 && leb p q) true in
     let r = ranged v p q in
@@ -140,7 +140,7 @@ quantity-eight s v p q b =
 
 -- 10: the arguments are in their ranges, and the schedule isn't the writing of a run list.
 pub quantity-ten : (s : List ℕ) (v p q : ℕ) → Bytes s → (quantity s v p q ≡ refused 10 0) ↔ (Ranged v p q × (IsSchedule s → ⊥))
-unfolding quantityBy
+unfolding quantity
 quantity-ten s v p q b =
     let e = query-ten s (λ rs. millimetres (shownLevel rs) v p q) b (leb 1 v && leb v 6 && leb p q) true in
     let r = ranged v p q in
@@ -154,14 +154,14 @@ module _ (right left : List ℕ) (side t : ℕ) (b : Bytes (asked side right lef
 
   -- 8: "side above 1".
   pub lookup-eight : (lookup right left side t ≡ refused 8 0) ↔ (1 < side)
-  unfolding lookupBy placeInBy find
+  unfolding lookup placeIn find
   lookup-eight =
       let e = query-eight (asked side right left) find b (leb side 1) true in
       (λ x. not-within side 1 (e .0 x), λ h. e .1 (λ l. omega (arith, leb-true side 1 l)))
 
   -- 10: the asked side's schedule isn't the writing of a run list; the other side's is not looked at.
   pub lookup-ten : (lookup right left side t ≡ refused 10 0) ↔ ((side ≤ 1) × (IsSchedule (asked side right left) → ⊥))
-  unfolding lookupBy placeInBy find
+  unfolding lookup placeIn find
   lookup-ten =
       let e = query-ten (asked side right left) find b (leb side 1) true in
       (λ x. (leb-true side 1 (e .0 x .0), e .0 x .2), λ h. e .1 (le-leb side 1 (h .0), refl, h .1))

@@ -15,15 +15,15 @@ use Rattle.refusal.specs.Refusal.{unless-refuse, numberOf}
 use Rattle.refusal.specs.declared.Refusal.the-variants as Row
 use Rattle.number.specs.declared.Read.{Read}
 use Rattle.number.specs.declared.Read.the-variants.{Number, Ended, Malformed}
-use Rattle.number.specs.Number.{readNumber, readingOf, numberAtBy, numberAt}
+use Rattle.number.specs.Number.{readNumber, readingOf, numberAt}
 use Rattle.job.specs.declared.Header.{Header}
 use Rattle.job.specs.declared.Hazard.{Hazard}
-use Rattle.job.specs.Job.{Job, Range, within, nextInHeader, nextInHazard, readFieldsBy, readFields, moreNumbers, readHeaderBy, readHeader, headerOf, hazardOf, readHazardsBy, readHazards, readJobBy, readJob, readRestBy, outsideHeader, outsideHazard}
-use Rattle.planning.specs.Envelope.{sideOverhangs, standsNear, testHazard, testHazards, acceptJobBy, acceptJob}
+use Rattle.job.specs.Job.{Job, Range, within, nextInHeader, nextInHazard, readFields, moreNumbers, readHeader, headerOf, hazardOf, readHazards, readJob, readRest, outsideHeader, outsideHazard}
+use Rattle.planning.specs.Envelope.{sideOverhangs, standsNear, testHazard, testHazards, acceptJob}
 use Rattle.planning.proofs.OverhangLaws.{greatest-before, greatest-after}
 use Rattle.planning.specs.Required.{jobRuns}
 use Rattle.schedule.specs.Schedule.{writeSchedule}
-use Rattle.schedule.specs.Plan.{PlannedSide, fitted, planBy, plan}
+use Rattle.schedule.specs.Plan.{PlannedSide, fitted, plan}
 use Rattle.schedule.proofs.PlanLaws.{fitted-fits, fitted-short}
 use Rattle.schedule.proofs.PlanLaws.{plan-bad-side}
 use Rattle.demands.specs.Road.{Overhanging, Plan-overhangs, Plan-six}
@@ -47,7 +47,7 @@ test true r h = tt
 test false r h = (some-number r, h, no-six r)
 
 number-refusals : (s : List ℕ) (at : ℕ) → OneToSeven (numberAt s at)
-unfolding numberAtBy
+unfolding numberAt
 number-refusals s at = go (readNumber s at)
   where
     go : (r : Read) → OneToSeven (readingOf at r)
@@ -56,7 +56,7 @@ number-refusals s at = go (readNumber s at)
     go Malformed = (omega arith, omega arith, omega arith)
 
 fields-refusals : (rangeOf : List ℕ → Range) (outside : List ℕ → Refusal) (k : ℕ) (got s : List ℕ) (at : ℕ) → ((l : List ℕ) → numberOf (outside l) ≤ 7) → OneToSeven (readFields rangeOf outside k got s at)
-unfolding readFieldsBy
+unfolding readFields
 fields-refusals rangeOf outside zero got s at h = tt
 fields-refusals rangeOf outside (suc k) got s at h =
     both (numberAt s at) _ (number-refusals s at) (λ x.
@@ -64,14 +64,14 @@ fields-refusals rangeOf outside (suc k) got s at h =
     fields-refusals rangeOf outside k (got ++ x .value ∷ []) s (x .next) h))
 
 hazards-refusals : (h : Header) (k : ℕ) (got : List Hazard) (s : List ℕ) (at : ℕ) → OneToSeven (readHazards h k got s at)
-unfolding readHazardsBy
+unfolding readHazards
 hazards-refusals h zero got s at = tt
 hazards-refusals h (suc k) got s at =
     both (readFields (nextInHazard h) (outsideHazard (length got)) 6 [] s at) _ (fields-refusals (nextInHazard h) (outsideHazard (length got)) 6 [] s at (λ _. omega arith)) (λ z.
     hazards-refusals h k (got ++ hazardOf (z .numbers) ∷ []) s (z .next))
 
 read-refusals : (s : List ℕ) → OneToSeven (readJob s)
-unfolding readJobBy readRestBy readHeaderBy
+unfolding readJob readRest readHeader
 read-refusals s =
     both (readHeader s) _
     (both (readFields nextInHeader outsideHeader 14 [] s 0) _ (fields-refusals nextInHeader outsideHeader 14 [] s 0 (λ _. omega arith)) (λ f.
@@ -85,7 +85,7 @@ test-refusals h i [] = tt
 test-refusals h i (z ∷ zs) = both (testHazard h i z) _ (test (not (standsNear h z)) (Row.NearBarrier i) (omega arith)) (λ _. test-refusals h (i + 1) zs)
 
 pub accept-refusals : (s : List ℕ) → OneToSeven (acceptJob s)
-unfolding acceptJobBy
+unfolding acceptJob
 accept-refusals s = both (readJob s) _ (read-refusals s) (λ j. both (testHazards (j .header) 0 (j .hazards)) _ (test-refusals (j .header) 0 (j .hazards)) (λ _. tt))
 
 -- Plan
@@ -106,7 +106,7 @@ module _ (s : List ℕ) (side room : ℕ) where
     written : side ≤ 1 → (j : Job) → acceptJob s ≡ accepted j → length (sideSchedule j side) ≤ room → plan s side room ≡ accepted (sidePlanned j side) → PlanVerdict
 
   by-job : side ≤ 1 → plan s side room ≡ (acceptJob s >>= λ j. fitted (sideSchedule j side) (sideOverhangs j side) room)
-  unfolding planBy
+  unfolding plan
   by-job h = rw (le-leb side 1 h)
 
   pub plan-verdict : PlanVerdict

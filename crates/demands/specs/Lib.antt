@@ -1,6 +1,5 @@
 pub mod Demands
 pub mod Cases
-pub mod Before
 -- Document 02.
 pub mod Level
 pub mod Road

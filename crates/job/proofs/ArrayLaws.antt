@@ -14,7 +14,7 @@ use Rattle.refusal.specs.declared.Refusal.{Refusal}
 use Rattle.job.specs.declared.field.Reading.{Reading}
 use Rattle.job.specs.declared.field.Field.{Field}
 use Rattle.job.specs.declared.field.Field.the-variants as Field
-use Rattle.job.specs.Job.{Range, readFieldsBy, readFields}
+use Rattle.job.specs.Job.{Range, readFields}
 use Rattle.job.specs.Reply.{fieldAt, fieldAnswer}
 use Rattle.job.proofs.FieldLaws.{take-stored, field-within, fields-more, fields-refused}
 use Rattle.job.proofs.RangeLaws.{within-high}
@@ -68,7 +68,7 @@ module _ {rangeOf : List ℕ → Range} {outside : List ℕ → Refusal} {size t
       next-refused {r} e = left-next ∙ fields-refused rangeOf outside value (size - (k + 1)) (take k numbers) s at f own read-next r e
 
     pub all-read : size ≤ k → readFields rangeOf outside size [] s first ≡ accepted (record { numbers = numbers; next = at })
-    unfolding readFieldsBy
+    unfolding readFields
     all-read done =
         let all : k ≡ size = omega (arith, left .most) in
         let none : size - size ≡ 0 = omega arith in

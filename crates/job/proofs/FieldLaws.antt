@@ -12,14 +12,14 @@ use Rattle.refusal.specs.Answer.{Answer, accepted, refused, _>>=_}
 use Rattle.refusal.specs.Refusal.{unless-refuse, refusal}
 use Rattle.refusal.specs.declared.Refusal.{Refusal}
 use Rattle.refusal.proofs.AnswerLaws.{bound, tested}
-use Rattle.number.specs.Number.{Reading, readNumber, readingOf, numberAtBy, numberAt}
+use Rattle.number.specs.Number.{Reading, readNumber, readingOf, numberAt}
 use Rattle.number.specs.declared.Read.{Read}
 use Rattle.number.specs.declared.Read.the-variants as Read
 use Rattle.number.proofs.ReadLaws.{read-bounds}
 use Rattle.job.specs.declared.field.Reading.{Reading as Numbered}
 use Rattle.job.specs.declared.field.Field.{Field}
 use Rattle.job.specs.declared.field.Field.the-variants as Field
-use Rattle.job.specs.Job.{Range, within, readFieldsBy, readFields}
+use Rattle.job.specs.Job.{Range, within, readFields}
 use Rattle.job.specs.Reply.{fieldAt, fieldAnswer}
 use Rattle.refusal.proofs.TestLaws.{impossible}
 
@@ -67,7 +67,7 @@ nextOf (refused a b) = 0
 
 pub field-near : (range : Range) (outside : Refusal) (s : List ℕ) (at : ℕ) (f : Field) (n : Numbered)
     → fieldAnswer f ≡ fieldAt range outside s at → f ≡ Field.Number n → n .next ≤ at + 6
-unfolding fieldAt numberAtBy
+unfolding fieldAt numberAt
 field-near range outside s at f n read e =
     go (readNumber s at) refl (taken-tested range outside (numberAt s at) (record { value = n .value; next = n .next }) (sym read ∙ rw e))
   where
@@ -80,7 +80,7 @@ field-near range outside s at f n read e =
 module _ (rangeOf : List ℕ → Range) (outsideAt : List ℕ → Refusal) (outside : Refusal) (k : ℕ) (got s : List ℕ) (at : ℕ) (f : Field)
     (its : outsideAt got ≡ outside) (read : fieldAnswer f ≡ fieldAt (rangeOf got) outside s at) where
   fields-step : readFields rangeOf outsideAt (suc k) got s at ≡ fieldAnswer f >>= λ x. readFields rangeOf outsideAt k (got ++ x .value ∷ []) s (x .next)
-  unfolding readFieldsBy fieldAt
+  unfolding readFields fieldAt
   fields-step =
       rw (read, its)
       (bind-tested (numberAt s at) (λ x. unless-refuse (within (rangeOf got) (x .value)) outside) (λ x. readFields rangeOf outsideAt k (got ++ x .value ∷ []) s (x .next)))

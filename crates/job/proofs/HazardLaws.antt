@@ -7,7 +7,6 @@ use mathlib.Core.List.{List, [], map}
 use lib.ListN.{length, getD, set, take, List·getD-map}
 use lib.Seq.{length-take-le, getD-take}
 use Rattle.refusal.specs.Answer.{accepted}
-use Rattle.refusal.specs.Limits.{limits}
 use Rattle.refusal.specs.Refusal.{refusal}
 use Rattle.refusal.specs.declared.Refusal.{Refusal}
 use Rattle.refusal.specs.declared.Refusal.the-variants.{HazardRange}
@@ -69,4 +68,4 @@ module _ (h : Header) {index : ℕ} {s : List ℕ} {first : ℕ} {numbers : List
     hazard-read = rw (all-read left done)
 
     pub numbers-bounds : HazardBounds h (hazardOf numbers)
-    numbers-bounds = hazard-bounds h (hazardOf numbers) (hazard-fits h numbers (fields-in limits (nextInHazard h) (outsideHazard index) 6 [] s first (record { numbers = numbers; next = at }) (all-read left done)))
+    numbers-bounds = hazard-bounds h (hazardOf numbers) (hazard-fits h numbers (fields-in (nextInHazard h) (outsideHazard index) 6 [] s first (record { numbers = numbers; next = at }) (all-read left done)))

@@ -11,7 +11,6 @@ use lib.Dec.{eqb}
 use borrow.Author.Tests.{eq-eqb, ne-eqb}
 use Rattle.refusal.specs.Choice.{if_then_else_}
 use Rattle.refusal.specs.Answer.{accepted}
-use Rattle.refusal.specs.Limits.{limits}
 use Rattle.refusal.specs.Refusal.{refusal}
 use Rattle.refusal.specs.declared.Refusal.{Refusal}
 use Rattle.refusal.specs.declared.Refusal.the-variants.{HeaderRange}
@@ -19,7 +18,7 @@ use Rattle.job.specs.declared.field.Reading.{Reading}
 use Rattle.job.specs.declared.field.Field.{Field}
 use Rattle.job.specs.declared.field.Field.the-variants as Field
 use Rattle.job.specs.declared.field.Bounds.{Bounds}
-use Rattle.job.specs.Job.{Range, _to_, sharedRangesBy, sharedRanges, lastRanges, headerRangesBy, headerRanges, headerSize, nextInHeader, readFieldsBy, readHeaderBy, headerWith, headerOf, outsideHeader}
+use Rattle.job.specs.Job.{Range, _to_, sharedRanges, lastRanges, headerRanges, headerSize, nextInHeader, readFields, readHeader, headerWith, headerOf, outsideHeader}
 use Rattle.job.specs.Reply.{fieldAt, fieldAnswer, headerAt, headerFrom}
 use Rattle.job.proofs.FieldLaws.{fields-more, fields-refused}
 use Rattle.job.proofs.ArrayLaws.{NumbersLeft, one-less, next-refused, all-read}
@@ -28,12 +27,12 @@ use Rattle.job.proofs.JobLaws.{listed}
 
 -- Only the third range goes by where the road begins.
 range-elsewhere : (kind A k : ℕ) → (k ≡ 2 → ⊥) → getD (headerRanges kind A) k (0 to 0) ≡ getD (headerRanges kind 0) k (0 to 0)
-unfolding headerRangesBy sharedRangesBy
-range-elsewhere kind A k other = getD-set-other (headerRanges kind 0) 2 k ((A + 1) to roadTop limits A) (0 to 0) other
+unfolding headerRanges sharedRanges
+range-elsewhere kind A k other = getD-set-other (headerRanges kind 0) 2 k ((A + 1) to roadTop A) (0 to 0) other
 
 -- The table has as many rows as a header has numbers.
 pub header-size : (kind A : ℕ) → length (headerRanges kind A) ≡ headerSize kind
-unfolding headerRangesBy sharedRangesBy
+unfolding headerRanges sharedRanges
 header-size kind A = go (eqb kind 2)
   where
     go : (t : Bool) → length (sharedRanges A ++ (if t then 1 to 10000 ∷ 0 to 256 ∷ [] else 0 to 256 ∷ [])) ≡ (if t then 15 else 14)
@@ -42,7 +41,7 @@ header-size kind A = go (eqb kind 2)
 
 -- Only the numbers after the thirteenth go by the kind.
 range-shared : (kind k : ℕ) → k < 13 → getD (headerRanges kind 0) k (0 to 0) ≡ getD (sharedRanges 0) k (0 to 0)
-unfolding headerRangesBy sharedRangesBy
+unfolding headerRanges sharedRanges
 range-shared kind k l = List·getD-append (sharedRanges 0) (lastRanges kind) (0 to 0) k l
 
 -- The ranges of kind 2 where the road begins at 0 as the code's table, and the range at any place but the third up to the thirteenth.
@@ -57,13 +56,13 @@ table-range kind A k l other =
 
 -- The next range goes by the array's first and second number as soon as they count.
 next-in-header : (numbers : List ℕ) (k : ℕ) → k ≤ length numbers → nextInHeader (take k numbers) ≡ getD (headerRanges (getD numbers 0 0) (getD numbers 1 0)) k (0 to 0)
-unfolding headerRangesBy sharedRangesBy
+unfolding headerRanges sharedRanges
 next-in-header numbers k room = rw (length-take-le k numbers room) (go k)
   where
     go : (k : ℕ) → getD (headerRanges (getD (take k numbers) 0 0) (getD (take k numbers) 1 0)) k (0 to 0) ≡ getD (headerRanges (getD numbers 0 0) (getD numbers 1 0)) k (0 to 0)
     go zero = refl
     go (suc zero) = refl
-    go (suc (suc zero)) = ap (λ (A : ℕ). (A + 1) to roadTop limits A) (getD-take 2 numbers 1 0 (omega arith))
+    go (suc (suc zero)) = ap (λ (A : ℕ). (A + 1) to roadTop A) (getD-take 2 numbers 1 0 (omega arith))
     go (suc (suc (suc k))) = ap (λ (kind : ℕ). getD (headerRanges kind 0) (suc (suc (suc k))) (0 to 0)) (getD-take (suc (suc (suc k))) numbers 0 0 (omega arith))
 
 -- k of the header's first fourteen numbers stand in the array, and the others are left from index `at` on.
@@ -81,25 +80,25 @@ module _ {s numbers : List ℕ} {at k : ℕ} (left : HeaderLeft s numbers at k) 
     own = ap (λ (n : ℕ). HeaderRange (n + 1)) (length-take-le k numbers (omega (arith, left .room)))
 
     begin-top : k ≡ 1 → range .high ≤ 999999999999
-    unfolding headerRangesBy sharedRangesBy
+    unfolding headerRanges sharedRanges
     begin-top e = rw (its, e) (omega arith)
 
     pub header-number : {n : Reading} → f ≡ Field.Number n → HeaderLeft s (set numbers k (n .value)) (n .next) (k + 1)
     header-number e = one-less left more f its-next own read begin-top e
 
     pub header-refused : {r : Refusal} → f ≡ Field.Refused r → refusal r ≡ headerAt s
-    unfolding headerAt readHeaderBy
+    unfolding headerAt readHeader
     header-refused {r} e = rw (next-refused left more f its-next own read e)
 
   -- All fourteen were read. Kind 1 has no more.
   module _ (done : 14 ≤ k) where
     pub header-plain : (getD numbers 0 0 ≡ 2 → ⊥) → accepted (record { header = headerWith numbers 1 (getD numbers 13 0); next = at }) ≡ headerAt s
-    unfolding headerAt readHeaderBy readFieldsBy
+    unfolding headerAt readHeader readFields
     header-plain other = simp (all-read left done, ne-eqb (getD numbers 0 0) 2 other)
 
     -- Kind 2 has one more.
     pub header-counted : getD numbers 0 0 ≡ 2 → headerFrom numbers s at ≡ headerAt s
-    unfolding headerAt readHeaderBy headerFrom
+    unfolding headerAt readHeader headerFrom
     header-counted two = rw (all-read left done, eq-eqb (getD numbers 0 0) 2 two)
 
 -- A kind 2 header has the numbers of its first fourteen.
@@ -109,7 +108,7 @@ header-more first x long kind =
 
 -- The range of the fifteenth number.
 fifteenth : (first : List ℕ) → length first ≡ 14 → eqb (getD first 0 0) 2 ≡ true → nextInHeader first ≡ 0 to 256
-unfolding headerRangesBy sharedRangesBy
+unfolding headerRanges sharedRanges
 fifteenth first long e = rw (long, e)
 
 -- The fifteenth number of a kind 2 header, which is `f`.
@@ -123,7 +122,7 @@ module _ (s numbers : List ℕ) (at : ℕ) (f : Field) (long : length numbers �
 
   pub count-read : {n : Reading} → f ≡ Field.Number n
       → accepted (record { header = headerWith numbers (getD numbers 13 0) (n .value); next = n .next }) ≡ headerFrom numbers s at
-  unfolding headerFrom readFieldsBy
+  unfolding headerFrom readFields
   count-read {n} e =
       rw (fields-more nextInHeader outsideHeader (HeaderRange 15) 0 numbers s at f (ap HeaderRange number-fifteen) read-fifteenth n e, header-more numbers (n .value) long two)
 

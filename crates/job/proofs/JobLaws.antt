@@ -13,17 +13,16 @@ use Rattle.refusal.specs.Choice.{if_then_else_}
 use Rattle.refusal.specs.Answer.{accepted}
 use Rattle.refusal.specs.Refusal.{unless-refuse, refusal}
 use Rattle.refusal.specs.declared.Refusal.the-variants as Row
-use Rattle.refusal.specs.Limits.{Limits, limits}
 use Rattle.refusal.specs.declared.Refusal.{Refusal}
 use Rattle.refusal.proofs.TestLaws.{and-intro}
 use Rattle.refusal.proofs.AnswerLaws.{bound, tested}
 use Rattle.refusal.proofs.EachLaws.{snoc-each}
-use Rattle.number.specs.Number.{numberAtBy}
+use Rattle.number.specs.Number.{numberAt}
 use Rattle.job.specs.declared.Header.{Header}
 use Rattle.job.specs.declared.Hazard.{Hazard}
 use Rattle.refusal.specs.declared.Outcome.the-variants.{Done, Refused}
 use Rattle.job.specs.declared.read.JobRead.{JobRead}
-use Rattle.job.specs.Job.{Job, jobOf, Range, within, headerSize, nextInHeaderBy, nextInHazard, Fields, readFieldsBy, readFields, moreNumbers, readHeaderBy, readHeader, headerOf, hazardOf, Hazards, readHazardsBy, readHazards, readJobBy, readJob, readRestBy, outsideHeader, outsideHazard}
+use Rattle.job.specs.Job.{Job, jobOf, Range, within, headerSize, nextInHeader, nextInHazard, Fields, readFields, moreNumbers, readHeader, headerOf, hazardOf, Hazards, readHazards, readJob, readRest, outsideHeader, outsideHazard}
 use Rattle.job.specs.Writing.{headerNumbers, hazardNumbers}
 use Rattle.job.specs.Fits.{inRanges, headerInRange, hazardInRange, HeaderFits, HazardFits, HazardsFit, JobFits}
 use Rattle.job.specs.Reply.{HeaderReading, headerReading, headerAt, jobAnswer}
@@ -36,16 +35,16 @@ pub record FieldsIn (rangeOf : List ℕ → Range) (k : ℕ) (got numbers : List
   pub size : length own ≡ k
   pub fit : inRanges rangeOf got own ≡ true
 
-pub fields-in : (L : Limits) (rangeOf : List ℕ → Range) (outside : List ℕ → Refusal) (k : ℕ) (got s : List ℕ) (at : ℕ) (f : Fields) → readFieldsBy L rangeOf outside k got s at ≡ accepted f → FieldsIn rangeOf k got (f .numbers)
-unfolding readFieldsBy inRanges
-fields-in L rangeOf outside zero got s at f e =
+pub fields-in : (rangeOf : List ℕ → Range) (outside : List ℕ → Refusal) (k : ℕ) (got s : List ℕ) (at : ℕ) (f : Fields) → readFields rangeOf outside k got s at ≡ accepted f → FieldsIn rangeOf k got (f .numbers)
+unfolding readFields inRanges
+fields-in rangeOf outside zero got s at f e =
     let w : record { numbers = got; next = at } ≡ f = cc in
     record { own = []; whole = sym (ap (λ (z : Fields). z .numbers) w) ∙ sym (append-nil got); size = refl; fit = refl }
-fields-in L rangeOf outside (suc k) got s at f e =
-    let b1 = bound (numberAtBy L s at) _ f e in
+fields-in rangeOf outside (suc k) got s at f e =
+    let b1 = bound (numberAt s at) _ f e in
     let x = b1 .first .value in
     let b2 = bound (unless-refuse (within (rangeOf got) x) (outside got)) _ f (b1 .rest) in
-    let later = fields-in L rangeOf outside k (got ++ x ∷ []) s (b1 .first .next) f (b2 .rest) in
+    let later = fields-in rangeOf outside k (got ++ x ∷ []) s (b1 .first .next) f (b2 .rest) in
     record {
       own = x ∷ later .own;
       whole = later .whole ∙ append-assoc got (x ∷ []) (later .own);
@@ -63,18 +62,18 @@ listed from zero l size = sym (drop-of-length-le l {i = from} (omega arith))
 listed from (suc n) l size = ap (_∷_ (getD l from 0)) (listed (suc from) n l (omega arith)) ∙ sym (drop-cons l from 0 (omega arith))
 
 -- The numbers of a header: as many as its kind has, each in its range.
-pub record HeaderIn (L : Limits) (numbers : List ℕ) : Type 0 where
+pub record HeaderIn (numbers : List ℕ) : Type 0 where
   pub size : length numbers ≡ headerSize (getD numbers 0 0)
-  pub fit : inRanges (nextInHeaderBy L) [] numbers ≡ true
+  pub fit : inRanges nextInHeader [] numbers ≡ true
 
-pub header-in : (L : Limits) (s : List ℕ) (f : Fields) → readHeaderBy L s ≡ accepted f → HeaderIn L (f .numbers)
-unfolding readHeaderBy
-header-in L s f e =
-    let next = nextInHeaderBy L in
-    let b = bound (readFieldsBy L next outsideHeader 14 [] s 0) _ f e in
+pub header-in : (s : List ℕ) (f : Fields) → readHeader s ≡ accepted f → HeaderIn (f .numbers)
+unfolding readHeader
+header-in s f e =
+    let next = nextInHeader in
+    let b = bound (readFields next outsideHeader 14 [] s 0) _ f e in
     let first = b .first .numbers in
-    let one = fields-in L next outsideHeader 14 [] s 0 (b .first) (b .taken) in
-    let two = fields-in L next outsideHeader (moreNumbers first) first s (b .first .next) f (b .rest) in
+    let one = fields-in next outsideHeader 14 [] s 0 (b .first) (b .taken) in
+    let two = fields-in next outsideHeader (moreNumbers first) first s (b .first .next) f (b .rest) in
     let fit : inRanges next [] first ≡ true = rw (one .whole) (one .fit) in
     let long : length first ≡ 14 = ap length (one .whole) ∙ one .size in
     rw (two .whole)
@@ -95,9 +94,9 @@ header-own numbers size = go (eqb (getD numbers 0 0) 2) refl size
     go true e l = simp e (listed 0 15 numbers l)
     go false e l = simp e (listed 0 14 numbers l)
 
-pub header-fits : (numbers : List ℕ) → HeaderIn limits numbers → HeaderFits (headerOf numbers)
+pub header-fits : (numbers : List ℕ) → HeaderIn numbers → HeaderFits (headerOf numbers)
 unfolding headerInRange
-header-fits numbers h = and-intro {a = inRanges (nextInHeaderBy limits) [] (headerNumbers (headerOf numbers))} (rw (header-own numbers (h .size)) (h .fit)) (plain (eqb (getD numbers 0 0) 2) refl)
+header-fits numbers h = and-intro {a = inRanges nextInHeader [] (headerNumbers (headerOf numbers))} (rw (header-own numbers (h .size)) (h .fit)) (plain (eqb (getD numbers 0 0) 2) refl)
   where
     plain : (t : Bool) → eqb (getD numbers 0 0) 2 ≡ t → eqb (headerOf numbers .kind) 2 || eqb (headerOf numbers .panel) 1 ≡ true
     plain true e = simp e
@@ -113,13 +112,13 @@ hazard-fits h numbers f = rw (hazard-own numbers (ap length (f .whole) ∙ f .si
 
 -- All hazards read fit, and there are as many as asked for.
 hazards-fit : (h : Header) (k : ℕ) (got : List Hazard) (s : List ℕ) (at : ℕ) (r : Hazards) → ((z : Hazard) → List·Memᴰ z got → HazardFits h z) → readHazards h k got s at ≡ accepted r → HazardsFit h (length got + k) (r .list)
-unfolding readHazardsBy
+unfolding readHazards
 hazards-fit h zero got s at r all e =
     let w : record { list = got; next = at } ≡ r = cc in
     subst (λ (x : Hazards). HazardsFit h (length got + 0) (x .list)) w (record { count = omega arith; each = all })
 hazards-fit h (suc k) got s at r all e =
     let b1 = bound (readFields (nextInHazard h) (outsideHazard (length got)) 6 [] s at) _ r e in
-    let fit = hazard-fits h (b1 .first .numbers) (fields-in limits (nextInHazard h) (outsideHazard (length got)) 6 [] s at (b1 .first) (b1 .taken)) in
+    let fit = hazard-fits h (b1 .first .numbers) (fields-in (nextInHazard h) (outsideHazard (length got)) 6 [] s at (b1 .first) (b1 .taken)) in
     let rest = hazards-fit h k (got ++ hazardOf (b1 .first .numbers) ∷ []) s (b1 .first .next) r (snoc-each (HazardFits h) got all fit) (b1 .rest) in
     subst (λ (n : ℕ). HazardsFit h n (r .list)) (count (hazardOf (b1 .first .numbers))) rest
   where
@@ -132,16 +131,16 @@ unfolding headerAt
 header-at-fits s x e =
     let b = bound (readHeader s) (λ f. accepted (headerReading f)) x e in
     let same : headerReading (b .first) ≡ x = cc in
-    subst (λ (y : HeaderReading). HeaderFits (y .header)) same (header-fits (b .first .numbers) (header-in limits s (b .first) (b .taken)))
+    subst (λ (y : HeaderReading). HeaderFits (y .header)) same (header-fits (b .first .numbers) (header-in s (b .first) (b .taken)))
 
 -- A job that could be read.
 pub job-fits : (s : List ℕ) (j : Job) → readJob s ≡ accepted j → JobFits j
-unfolding readJobBy readRestBy
+unfolding readJob readRest
 job-fits s j e =
     let b1 = bound (readHeader s) _ j e in
     let b2 = bound (readHazards (headerOf (b1 .first .numbers)) (headerOf (b1 .first .numbers) .count) [] s (b1 .first .next)) _ j (b1 .rest) in
     let b3 = bound (unless-refuse (leb (length s) (b2 .first .next)) (Row.LeftOver (b2 .first .next))) _ j (b2 .rest) in
-    finish (b1 .first) (b2 .first) (header-fits (b1 .first .numbers) (header-in limits s (b1 .first) (b1 .taken)))
+    finish (b1 .first) (b2 .first) (header-fits (b1 .first .numbers) (header-in s (b1 .first) (b1 .taken)))
     (subst (λ (n : ℕ). HazardsFit (headerOf (b1 .first .numbers)) n (b2 .first .list)) (zero-add _) (hazards-fit (headerOf (b1 .first .numbers)) (headerOf (b1 .first .numbers) .count) [] s (b1 .first .next) (b2 .first) (λ z m. absurd (List·Memᴰ·not-nil m)) (b2 .taken))) (b3 .rest)
   where
     finish : (f : Fields) (r : Hazards) → HeaderFits (headerOf (f .numbers)) → HazardsFit (headerOf (f .numbers)) (headerOf (f .numbers) .count) (r .list) → accepted (record { header = headerOf (f .numbers); hazards = r .list }) ≡ accepted j → JobFits j

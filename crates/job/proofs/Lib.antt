@@ -9,4 +9,3 @@ pub mod WritingLaws
 pub mod StandLaws
 pub mod RowLaws
 pub mod OpeningLaws
-pub mod LimitLaws

@@ -14,13 +14,13 @@ use Rattle.refusal.specs.declared.Refusal.{Refusal}
 use Rattle.refusal.proofs.AnswerLaws.{bound}
 use Rattle.job.specs.declared.Header.{Header}
 use Rattle.job.specs.declared.Hazard.{Hazard}
-use Rattle.job.specs.Job.{Job, headerSize, readHazards, readRestBy, readRest, readJob}
+use Rattle.job.specs.Job.{Job, headerSize, readHazards, readRest, readJob}
 use Rattle.job.specs.Reply.{HeaderReading, headerAt, jobHeader, readOpening}
 use Rattle.job.proofs.RestLaws.{job-step}
 
 -- The header of a job that could be read is the one at its beginning.
 rest-header : (h : Header) (k : ℕ) (got : List Hazard) (s : List ℕ) (at : ℕ) (j : Job) → readRest h k got s at ≡ accepted j → j .header ≡ h
-unfolding readRestBy
+unfolding readRest
 rest-header h k got s at j e =
     let b1 = bound (readHazards h k got s at) _ j e in
     let b2 = bound (unless-refuse (leb (length s) (b1 .first .next)) (Row.LeftOver (b1 .first .next))) _ j (b1 .rest) in

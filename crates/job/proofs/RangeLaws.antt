@@ -9,12 +9,11 @@ use lib.ListN.{length, getD, take, drop}
 use lib.Dec.{leb, eqb}
 use borrow.Author.Tests.{leb-true, eqb-true}
 use Rattle.refusal.specs.Choice.{if_then_else_, allOf}
-use Rattle.refusal.specs.Limits.{Limits, limits}
 use Rattle.refusal.proofs.TestLaws.{and-left, and-right}
 use Rattle.number.specs.Number.{greatest}
 use Rattle.job.specs.declared.Header.{Header}
 use Rattle.job.specs.declared.Hazard.{Hazard}
-use Rattle.job.specs.Job.{Range, within, _to_, sharedRangesBy, headerRangesBy, hazardRanges, sharedRanges, headerRanges, nextInHeader, nextInHazard, sharedNumbers}
+use Rattle.job.specs.Job.{Range, within, _to_, sharedRanges, headerRanges, hazardRanges, nextInHeader, nextInHazard, sharedNumbers}
 use Rattle.job.specs.Writing.{lastNumbers, headerNumbers, hazardNumbers}
 use Rattle.job.specs.Fits.{inRanges, headerInRange, hazardInRange, HeaderFits, HazardFits}
 
@@ -56,16 +55,16 @@ module _ (rangeOf : List ℕ → Range) where
       (and-left (inRanges rangeOf got xs) (inRanges rangeOf (got ++ xs) ys) both, and-right (inRanges rangeOf got xs) (inRanges rangeOf (got ++ xs) ys) both)
 
 -- Where a road that begins at A may end at most.
-abbrev pub roadTop : (L : Limits) (A : ℕ) → ℕ
-roadTop L A = min (L .lastStation) (A + L .longestRoad)
+abbrev pub roadTop : (A : ℕ) → ℕ
+roadTop A = min 1000000000000 (A + 2000000000)
 
 -- A header
 
 pub record HeaderBounds (h : Header) : Type 0 where
   pub kind-top : h .kind ≤ 2
   pub road : h .begin < h .end
-  pub road-end : h .end ≤ limits .lastStation
-  pub road-length : h .end ≤ h .begin + limits .longestRoad
+  pub road-end : h .end ≤ 1000000000000
+  pub road-length : h .end ≤ h .begin + 2000000000
   pub forward-low : 1 ≤ h .forward
   pub forward-top : h .forward ≤ 200000
   pub opposite-top : h .opposite ≤ 200000
@@ -91,7 +90,7 @@ header-split h fits =
     (and-left numbers plain fits, and-right numbers plain fits)
 
 pub header-bounds : (h : Header) → HeaderFits h → HeaderBounds h
-unfolding headerRangesBy sharedRangesBy inRanges
+unfolding headerRanges sharedRanges inRanges
 header-bounds h fits =
     let last = behind (eqb (h .kind) 2) refl (parts .1) (header-split h fits .1) in
     record {
@@ -170,15 +169,15 @@ hazard-bounds h z fits =
     high : (i : ℕ) → i < 6 → getD (hazardNumbers z) i 0 ≤ nextInHazard h (take i (hazardNumbers z)) .high
     high = ranges-high (nextInHazard h) (hazardNumbers z) fits
 
--- No range reaches beyond the greatest value.
-highs-most : (rs : List Range) → allOf (λ (r : Range). leb (r .high) greatest) rs ≡ true → (k : ℕ) → getD rs k (0 to 0) .high ≤ greatest
+-- No range reaches beyond a number.
+pub highs-most : (m : ℕ) (rs : List Range) → allOf (λ (r : Range). leb (r .high) m) rs ≡ true → (k : ℕ) → getD rs k (0 to 0) .high ≤ m
 unfolding allOf
-highs-most [] e k = omega arith
-highs-most (r ∷ rs) e zero = leb-true _ _ (and-left (leb (r .high) greatest) (allOf (λ (q : Range). leb (q .high) greatest) rs) e)
-highs-most (r ∷ rs) e (suc k) = highs-most rs (and-right (leb (r .high) greatest) (allOf (λ (q : Range). leb (q .high) greatest) rs) e) k
+highs-most m [] e k = omega arith
+highs-most m (r ∷ rs) e zero = leb-true _ _ (and-left (leb (r .high) m) (allOf (λ (q : Range). leb (q .high) m) rs) e)
+highs-most m (r ∷ rs) e (suc k) = highs-most m rs (and-right (leb (r .high) m) (allOf (λ (q : Range). leb (q .high) m) rs) e) k
 
 pub header-most : (got : List ℕ) → nextInHeader got .high ≤ greatest
-unfolding headerRangesBy sharedRangesBy allOf
+unfolding headerRanges sharedRanges allOf
 header-most got = go (getD got 0 0) (getD got 1 0) (length got)
   where
     others : (t : Bool) → allOf (λ (r : Range). leb (r .high) greatest) (drop 3 (sharedRanges 0) ++ (if t then 1 to 10000 ∷ 0 to 256 ∷ [] else 0 to 256 ∷ [])) ≡ true
@@ -189,14 +188,14 @@ header-most got = go (getD got 0 0) (getD got 1 0) (length got)
     go kind A zero = omega arith
     go kind A (suc zero) = omega arith
     go kind A (suc (suc zero)) = omega arith
-    go kind A (suc (suc (suc k))) = highs-most (drop 3 (headerRanges kind 0)) (others (eqb kind 2)) k
+    go kind A (suc (suc (suc k))) = highs-most greatest (drop 3 (headerRanges kind 0)) (others (eqb kind 2)) k
 
-pub hazard-most : (h : Header) → h .end ≤ limits .lastStation → (got : List ℕ) → nextInHazard h got .high ≤ greatest
+pub hazard-most : (m : ℕ) (h : Header) → 60000 ≤ m → h .end ≤ m → (got : List ℕ) → nextInHazard h got .high ≤ m
 unfolding hazardRanges allOf
-hazard-most h road got = go (getD got 1 0) (getD got 3 0) (length got)
+hazard-most m h others road got = go (getD got 1 0) (getD got 3 0) (length got)
   where
-    go : (s n k : ℕ) → getD (hazardRanges (h .begin) (h .end) s n) k (0 to 0) .high ≤ greatest
+    go : (s n k : ℕ) → getD (hazardRanges (h .begin) (h .end) s n) k (0 to 0) .high ≤ m
     go s n zero = omega arith
     go s n (suc zero) = omega arith
     go s n (suc (suc zero)) = omega arith
-    go s n (suc (suc (suc k))) = highs-most (0 to 60000 ∷ n to 60000 ∷ 1 to 6 ∷ []) refl k
+    go s n (suc (suc (suc k))) = omega (arith, highs-most 60000 (0 to 60000 ∷ n to 60000 ∷ 1 to 6 ∷ []) refl k)

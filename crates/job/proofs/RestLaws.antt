@@ -21,19 +21,19 @@ use Rattle.job.specs.declared.StoredJob.{StoredJob}
 use Rattle.job.specs.declared.read.JobRead.{JobRead}
 use Rattle.job.specs.declared.hazard_fields.HazardRead.{HazardRead}
 use Rattle.job.specs.declared.hazard_fields.HazardRead.the-variants as HazardRead
-use Rattle.job.specs.Job.{Job, named, unnamed, hazardOf, nextInHazard, readFields, readHeader, readHazardsBy, readHazards, readRestBy, readRest, readJobBy, readJob, outsideHazard}
+use Rattle.job.specs.Job.{Job, named, unnamed, hazardOf, nextInHazard, readFields, readHeader, readHazards, readRest, readJob, outsideHazard}
 use Rattle.job.specs.Reply.{headerReading, headerAt, hazardReading, hazardAt, hazardAnswer, unused, noJob, storedJob, jobAnswer}
 use Rattle.job.proofs.FieldLaws.{bind-assoc}
 
 -- The job is the header and what follows it.
 pub job-step : (s : List ℕ) → readJob s ≡ headerAt s >>= λ x. readRest (x .header) (x .header .count) [] s (x .next)
-unfolding readJobBy headerAt
+unfolding readJob headerAt
 job-step s = sym (bind-assoc (readHeader s) (λ f. accepted (headerReading f)) (λ x. readRest (x .header) (x .header .count) [] s (x .next)))
 
 -- Of the hazards still to be read the first, and then the others.
 hazards-step : (h : Header) (k : ℕ) (got : List Hazard) (s : List ℕ) (at : ℕ)
     → readRest h (suc k) got s at ≡ hazardAt h (length got) s at >>= λ z. readRest h k (got ++ z .hazard ∷ []) s (z .next)
-unfolding readRestBy readHazardsBy hazardAt
+unfolding readRest readHazards hazardAt
 hazards-step h k got s at =
     let m = readFields (nextInHazard h) (outsideHazard (length got)) 6 [] s at in
     bind-assoc m (λ f. readHazards h k (got ++ hazardOf (f .numbers) ∷ []) s (f .next)) _ ∙ sym (bind-assoc m (λ f. accepted (hazardReading f)) (λ z. readRest h k (got ++ z .hazard ∷ []) s (z .next)))
@@ -97,13 +97,13 @@ module _ {h : Header} {s : List ℕ} {first : ℕ} {job : StoredJob} {at i : ℕ
   -- All hazards were read.
   module _ (done : h .count ≤ i) where
     pub left-over : at < length s → refused 7 at ≡ readRest h (h .count) [] s first
-    unfolding readRestBy readHazardsBy
+    unfolding readRest readHazards
     left-over more =
         let none : h .count - i ≡ 0 = omega arith in
         rw (left .same, none, lt-leb (length s) at more)
 
     rest-read : length s ≤ at → readRest h (h .count) [] s first ≡ accepted (record { header = h; hazards = left .got })
-    unfolding readRestBy readHazardsBy
+    unfolding readRest readHazards
     rest-read end =
         let none : h .count - i ≡ 0 = omega arith in
         rw (left .same, none, le-leb (length s) at end)

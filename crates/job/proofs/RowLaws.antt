@@ -18,16 +18,15 @@ use Rattle.refusal.specs.declared.Refusal.{Refusal}
 use Rattle.refusal.proofs.TestLaws.{and-intro}
 use Rattle.refusal.proofs.EachLaws.{snoc-each}
 use Rattle.refusal.proofs.RowLaws.{same-row}
-use Rattle.refusal.specs.Limits.{limits}
 use Rattle.number.specs.declared.Read.{Read}
 use Rattle.number.specs.declared.Read.the-variants.{Number, Ended, Malformed}
-use Rattle.number.specs.Number.{writeNumber, readNumber, readingOf, numberAtBy}
+use Rattle.number.specs.Number.{writeNumber, readNumber, readingOf, numberAt}
 use Rattle.number.proofs.ByteLaws.{Bytes}
 use Rattle.number.proofs.ReadLaws.{read-stands}
 use Rattle.number.proofs.FormLaws.{read-ended, read-malformed}
 use Rattle.job.specs.declared.Header.{Header}
 use Rattle.job.specs.declared.Hazard.{Hazard}
-use Rattle.job.specs.Job.{Job, Range, within, nextInHeader, nextInHazard, Fields, readFieldsBy, readFields, moreNumbers, readHeaderBy, readHeader, headerOf, hazardOf, Hazards, readHazardsBy, readHazards, readRestBy, readRest, readJobBy, readJob, outsideHeader, outsideHazard}
+use Rattle.job.specs.Job.{Job, Range, within, nextInHeader, nextInHazard, Fields, readFields, moreNumbers, readHeader, headerOf, hazardOf, Hazards, readHazards, readRest, readJob, outsideHeader, outsideHazard}
 use Rattle.job.specs.Writing.{headerNumbers, hazardNumbers, hazardsNumbers, numbersOf, writeNumbers, writeJob}
 use Rattle.job.specs.Fits.{inRanges, HazardFits}
 use Rattle.job.specs.Rows.{Group, ofHeader, ofHazard, HasGroup, sizeOf, nextIn, numbersBefore, BeforeFits, Stands, behind, Next, OutOfRange, ReadRow}
@@ -116,7 +115,7 @@ module _ {s : List ℕ} (b : Bytes s) where
   -- k numbers more behind `got`, for which the group has room.
   group-read : (g : Group) → HasGroup g → (k : ℕ) (got : List ℕ) (at : ℕ) → HasRoom g k got → At s g got at
       → GroupSaid s g (readFields (nextIn g) (outsideOf g) k got s at)
-  unfolding readFieldsBy numberAtBy
+  unfolding readFields numberAt
   group-read g has zero got at room here = here
   group-read g has (suc k) got at room here = go (readNumber s at) refl (group-read g has k)
     where
@@ -147,7 +146,7 @@ module _ {s : List ℕ} (b : Bytes s) where
         index = here .index ∙ ap (λ (l : List ℕ). length (writeNumbers l)) same;
       }
 
-  at-first : {numbers : List ℕ} {at : ℕ} → HeaderIn limits numbers → At s ofHeader numbers at → At s (ofHazard (headerOf numbers) []) [] at
+  at-first : {numbers : List ℕ} {at : ℕ} → HeaderIn numbers → At s ofHeader numbers at → At s (ofHazard (headerOf numbers) []) [] at
   unfolding numbersOf hazardsNumbers inRanges
   at-first {numbers} fit here = at-group (sym (header-own numbers (fit .size)) ∙ simp append-nil) (header-fits numbers fit, λ z m. absurd (List·Memᴰ·not-nil m)) refl here
 
@@ -160,7 +159,7 @@ module _ {s : List ℕ} (b : Bytes s) where
       (here .stands .before .0, snoc-each (HazardFits h) zs (here .stands .before .1) (hazard-fits h numbers fit)) refl here
 
   hazards-read : (h : Header) (k : ℕ) (zs : List Hazard) (at : ℕ) → length zs + k ≡ h .count → At s (ofHazard h zs) [] at → HazardsSaid s h (readHazards h k zs s at)
-  unfolding readHazardsBy
+  unfolding readHazards
   hazards-read h zero zs at size here = (here, omega arith)
   hazards-read h (suc k) zs at size here =
       go (readFields (nextInHazard h) (outsideHazard (length zs)) 6 [] s at) refl (group-read (ofHazard h zs) (omega arith) 6 [] at (λ ys l. l) here) (hazards-read h k)
@@ -169,11 +168,11 @@ module _ {s : List ℕ} (b : Bytes s) where
           → ((ys : List Hazard) (i : ℕ) → length ys + k ≡ h .count → At s (ofHazard h ys) [] i → HazardsSaid s h (readHazards h k ys s i))
           → HazardsSaid s h (a >>= λ f. readHazards h k (zs ++ hazardOf (f .numbers) ∷ []) s (f .next))
       go (accepted f) e r later =
-          later (zs ++ hazardOf (f .numbers) ∷ []) (f .next) (rw length-append (omega arith)) (at-next (fields-in limits (nextInHazard h) (outsideHazard (length zs)) 6 [] s at f e) r)
+          later (zs ++ hazardOf (f .numbers) ∷ []) (f .next) (rw length-append (omega arith)) (at-next (fields-in (nextInHazard h) (outsideHazard (length zs)) 6 [] s at f e) r)
       go (refused n v) e r later = r
 
   header-group : GroupSaid s ofHeader (readHeader s)
-  unfolding readHeaderBy writeNumbers inRanges
+  unfolding readHeader writeNumbers inRanges
   header-group =
       go (readFields nextInHeader outsideHeader 14 [] s 0) refl
       (group-read ofHeader tt 14 [] 0 first-room (record { stands = record { before = tt; own = refl; bytes = refl }; index = refl }))
@@ -182,11 +181,11 @@ module _ {s : List ℕ} (b : Bytes s) where
           → GroupSaid s ofHeader (a >>= λ f. readFields nextInHeader outsideHeader (moreNumbers (f .numbers)) (f .numbers) s (f .next))
       go (accepted f) e w =
           group-read ofHeader tt (moreNumbers (f .numbers)) (f .numbers) (f .next)
-          (let first = fields-in limits nextInHeader outsideHeader 14 [] s 0 f e in more-room (f .numbers) (ap length (first .whole) ∙ first .size)) w
+          (let first = fields-in nextInHeader outsideHeader 14 [] s 0 f e in more-room (f .numbers) (ap length (first .whole) ∙ first .size)) w
       go (refused n v) e w = w
 
   job-read : JobSaid s (readJob s)
-  unfolding readJobBy readRestBy writeJob
+  unfolding readJob readRest writeJob
   job-read = header (readHeader s) refl header-group
     where
       over : (h : Header) (r : Hazards) → At s (ofHazard h (r .list)) [] (r .next) → length (r .list) ≡ h .count → (t : Bool) → leb (length s) (r .next) ≡ t
@@ -207,7 +206,7 @@ module _ {s : List ℕ} (b : Bytes s) where
       header : (a : Answer Fields) → readHeader s ≡ a → GroupSaid s ofHeader a → JobSaid s (a >>= λ f. let h = headerOf (f .numbers) in readRest h (h .count) [] s (f .next))
       header (accepted f) e w =
           let h = headerOf (f .numbers) in
-          hazards h (readHazards h (h .count) [] s (f .next)) (hazards-read h (h .count) [] (f .next) (zero-add (h .count)) (at-first (header-in limits s f e) w))
+          hazards h (readHazards h (h .count) [] s (f .next)) (hazards-read h (h .count) [] (f .next) (zero-add (h .count)) (at-first (header-in s f e) w))
       header (refused n v) e w = w
 
 -- What was read is the writing of its job.

@@ -18,12 +18,12 @@ use Rattle.refusal.specs.declared.Refusal.{Refusal}
 use Rattle.refusal.specs.declared.Refusal.the-variants as Row
 use Rattle.number.specs.declared.Read.{Read}
 use Rattle.number.specs.declared.Read.the-variants.{Ended, Malformed}
-use Rattle.number.specs.Number.{writeNumber, greatest, readNumber, readingOf, numberAtBy}
+use Rattle.number.specs.Number.{writeNumber, greatest, readNumber, readingOf, numberAt}
 use Rattle.number.proofs.ReadLaws.{read-number, after-number}
 use Rattle.number.proofs.FormLaws.{read-ended, ill-formed}
 use Rattle.job.specs.declared.Header.{Header}
 use Rattle.job.specs.declared.Hazard.{Hazard}
-use Rattle.job.specs.Job.{Range, headerWith, headerOf, nextInHeader, nextInHazard, readFieldsBy, readFields, moreNumbers, readHeaderBy, readHeader, readHazardsBy, readHazards, readRestBy, readRest, readJobBy, readJob, outsideHeader, outsideHazard, sharedNumbers}
+use Rattle.job.specs.Job.{Range, headerWith, headerOf, nextInHeader, nextInHazard, readFields, moreNumbers, readHeader, readHazards, readRest, readJob, outsideHeader, outsideHazard, sharedNumbers}
 use Rattle.job.specs.Writing.{headerNumbers, hazardNumbers, hazardsNumbers, numbersOf, writeNumbers}
 use Rattle.job.specs.Fits.{inRanges, hazardInRange, HeaderFits, HazardFits}
 use Rattle.job.specs.Rows.{Group, ofHeader, ofHazard, nextIn, numbersBefore, BeforeFits, Stands, behind, Next, Unread, OutOfRange, BytesAfter, ReadRow}
@@ -45,7 +45,7 @@ Within rangeOf = (got : List ℕ) → rangeOf got .high ≤ greatest
 fields-behind : (rangeOf : List ℕ → Range) → Within rangeOf → (outside : List ℕ → Refusal) (m k : ℕ) (xs got s : List ℕ) (at : ℕ) (rest : List ℕ)
     → m ≡ length xs + k → inRanges rangeOf got xs ≡ true → drop at s ≡ writeNumbers xs ++ rest
     → readFields rangeOf outside m got s at ≡ readFields rangeOf outside k (got ++ xs) s (at + length (writeNumbers xs))
-unfolding readFieldsBy writeNumbers inRanges
+unfolding readFields writeNumbers inRanges
 fields-behind rangeOf most outside m k [] got s at rest size fit e =
     rw (append-nil got, (let z : at + 0 ≡ at = omega arith in z), (let z : m ≡ k = omega arith in z))
 fields-behind rangeOf most outside zero k (x ∷ xs) got s at rest size fit e = absurd (omega arith)
@@ -59,13 +59,13 @@ fields-behind rangeOf most outside (suc m) k (x ∷ xs) got s at rest size fit e
 fields-written : (rangeOf : List ℕ → Range) → Within rangeOf → (outside : List ℕ → Refusal) (xs s : List ℕ) (at : ℕ) (rest : List ℕ)
     → inRanges rangeOf [] xs ≡ true → drop at s ≡ writeNumbers xs ++ rest
     → readFields rangeOf outside (length xs) [] s at ≡ accepted (record { numbers = xs; next = at + length (writeNumbers xs) })
-unfolding readFieldsBy
+unfolding readFields
 fields-written rangeOf most outside xs s at rest fit e = fields-behind rangeOf most outside (length xs) 0 xs [] s at rest (omega arith) fit e
 
 -- A header: fourteen numbers, and as many more as its kind has.
 header-behind : (first more s rest : List ℕ) → inRanges nextInHeader [] first ≡ true → inRanges nextInHeader first more ≡ true → length first ≡ 14 → moreNumbers first ≡ length more
     → s ≡ writeNumbers (first ++ more) ++ rest → readHeader s ≡ accepted (record { numbers = first ++ more; next = length (writeNumbers (first ++ more)) })
-unfolding readHeaderBy readFieldsBy
+unfolding readHeader readFields
 header-behind first more s rest fit later long count e =
     let one = writeNumbers first in
     let two = writeNumbers more in
@@ -104,7 +104,7 @@ header-again h fits = go (eqb (h .kind) 2) refl (header-split h fits .1)
 hazards-behind : (h : Header) → Within (nextInHazard h) → (m k : ℕ) (zs got : List Hazard) (s : List ℕ) (at : ℕ) (rest : List ℕ)
     → m ≡ length zs + k → ((z : Hazard) → List·Memᴰ z zs → HazardFits h z) → drop at s ≡ writeNumbers (hazardsNumbers zs) ++ rest
     → readHazards h m got s at ≡ readHazards h k (got ++ zs) s (at + length (writeNumbers (hazardsNumbers zs)))
-unfolding readHazardsBy hazardsNumbers writeNumbers hazardInRange
+unfolding readHazards hazardsNumbers writeNumbers hazardInRange
 hazards-behind h most m k [] got s at rest size fit e =
     rw (append-nil got, (let z : at + 0 ≡ at = omega arith in z), (let z : m ≡ k = omega arith in z))
 hazards-behind h most zero k (z ∷ zs) got s at rest size fit e = absurd (omega arith)
@@ -130,11 +130,11 @@ bytes-behind {s} {g} {got} {rest} stands =
 
 group-most : (g : Group) → BeforeFits g → Within (nextIn g)
 group-most ofHeader b = header-most
-group-most (ofHazard h before) b = hazard-most h (header-bounds h (b .0) .road-end)
+group-most (ofHazard h before) b = hazard-most greatest h (omega arith) (omega (arith, header-bounds h (b .0) .road-end))
 
 pub job-behind : {s : List ℕ} {h : Header} {zs : List Hazard} {got rest : List ℕ} (k : ℕ) → Stands s (ofHazard h zs) got rest → h .count ≡ length zs + k
     → readJob s ≡ readRest h k zs s (behind (ofHazard h zs) [])
-unfolding readJobBy readRestBy numbersOf
+unfolding readJob readRest numbersOf
 job-behind {s} {h} {zs} {got} {rest} k stands count =
     let one = writeNumbers (headerNumbers h) in
     let others = writeNumbers (hazardsNumbers zs) in
@@ -165,7 +165,7 @@ module _ {s : List ℕ} where
   -- Of the header, among its first fourteen numbers or behind them.
   own-header-refused : {got rest : List ℕ} (n v : ℕ) → Next s ofHeader got rest
       → ((k : ℕ) → readFields nextInHeader outsideHeader (suc k) got s (behind ofHeader got) ≡ refused n v) → readHeader s ≡ refused n v
-  unfolding readHeaderBy readFieldsBy writeNumbers
+  unfolding readHeader readFields writeNumbers
   own-header-refused {got} {rest} n v next e = go (decLt (length got) 14)
     where
       behind-fourteen : (t : Bool) → eqb (getD got 0 0) 2 ≡ t → length got < (if t then 15 else 14) → (length got < 14 → ⊥) → readHeader s ≡ refused n v
@@ -180,7 +180,7 @@ module _ {s : List ℕ} where
 
   number-refused : (g : Group) {got rest : List ℕ} (n v : ℕ) → Next s g got rest
       → ((k : ℕ) → readFields (nextIn g) (outsideOf g) (suc k) got s (behind g got) ≡ refused n v) → readJob s ≡ refused n v
-  unfolding readJobBy readRestBy readHazardsBy
+  unfolding readJob readRest readHazards
   number-refused ofHeader n v next e = rw (own-header-refused n v next e)
   number-refused (ofHazard h zs) n v next e =
       job-behind (suc (h .count - suc (length zs))) (next .stands) (omega (arith, next .has)) ∙ rw (own-refused n v 6 (next .more) (next .stands) e)
@@ -190,17 +190,17 @@ module _ {s : List ℕ} where
 
   unread-refused : {Fault : List ℕ → Type 0} {at : ℕ} (n : ℕ) (c : Read) → ((i : ℕ) → readingOf i c ≡ refused n i) → ((i : ℕ) → Fault (drop i s) → readNumber s i ≡ c)
       → Unread Fault s at → readJob s ≡ refused n at
-  unfolding readFieldsBy numberAtBy
+  unfolding readFields numberAt
   unread-refused n c number fault w =
       number-refused (w .group) n _ (w .next) (λ k. rw (fault (behind (w .group) (w .got)) (rw (rest-behind (w .next .stands)) (w .fault)), number (behind (w .group) (w .got))) (ap (refused n) (sym (w .begins))))
 
   outside-refused : {g : Group} {got : List ℕ} → OutOfRange s g got → readJob s ≡ refusal (outsideOf g got)
-  unfolding readFieldsBy
+  unfolding readFields
   outside-refused {g} {got} w =
       number-refused g (numberOf (outsideOf g got)) (valueOf (outsideOf g got)) (w .next) (λ k. rw (read-number s (behind g got) (w .number) (w .rest) (w .fits) (rest-behind (w .next .stands)), w .outside))
 
   after-refused : {at : ℕ} → BytesAfter s at → readJob s ≡ refused 7 at
-  unfolding readRestBy readHazardsBy
+  unfolding readRest readHazards
   after-refused w =
       let g = ofHazard (w .job .header) (w .job .hazards) in
       let longer : behind g [] < length s = rw (w .stands .bytes, length-append) (omega (arith, w .some)) in

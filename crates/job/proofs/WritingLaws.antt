@@ -10,13 +10,12 @@ use lib.Dec.{eqb}
 use borrow.Author.Tests.{le-leb}
 use Rattle.refusal.specs.Choice.{if_then_else_}
 use Rattle.refusal.specs.Answer.{accepted}
-use Rattle.refusal.specs.Limits.{limits}
-use Rattle.number.specs.Number.{writeNumberBy, writeNumber}
+use Rattle.number.specs.Number.{writeNumber}
 use Rattle.number.proofs.WriteLaws.{length-below}
 pub use Rattle.number.proofs.ByteLaws.{Bytes}
 use Rattle.job.specs.declared.Header.{Header}
 use Rattle.job.specs.declared.Hazard.{Hazard}
-use Rattle.job.specs.Job.{Job, readHazardsBy, readJob, readRestBy}
+use Rattle.job.specs.Job.{Job, readHazards, readJob, readRest}
 use Rattle.job.specs.Writing.{lastNumbers, headerNumbers, hazardNumbers, hazardsNumbers, numbersOf, writeNumbers, writeJob}
 use Rattle.job.specs.Fits.{inRanges, HazardFits, JobFits}
 use Rattle.job.specs.Rows.{ofHazard, Stands, behind}
@@ -27,7 +26,7 @@ use Rattle.job.proofs.JobLaws.{job-fits}
 
 -- A job that fits reads back from its writing.
 pub job-written : (j : Job) → JobFits j → readJob (writeJob j) ≡ accepted j
-unfolding readRestBy readHazardsBy writeJob inRanges
+unfolding readRest readHazards writeJob inRanges
 job-written j fits =
     let g = ofHazard (j .header) (j .hazards) in
     let stands : Stands (writeJob j) g [] [] = record { before = (fits .header, fits .hazards .each); own = refl; bytes = simp append-nil } in
@@ -37,7 +36,7 @@ job-written j fits =
 
 -- A number below 128 ^ (g + 1) takes at most g + 1 bytes.
 number-within : (g n : ℕ) → n < 128 ^ suc g → length (writeNumber n) ≤ suc g
-unfolding writeNumberBy
+unfolding writeNumber
 number-within g n h = length-below 6 g n h
 
 last-length : (h : Header) → HeaderBounds h → length (writeNumbers (lastNumbers h)) ≤ 4
@@ -72,7 +71,7 @@ header-length h f =
     let continuity = number-within 2 (h .continuity) (omega (arith, f .continuity-top)) in
     simp length-append (omega (arith, last-length h f))
 
-hazard-length : (h : Header) (z : Hazard) → h .end ≤ limits .lastStation → HazardBounds h z → length (writeNumbers (hazardNumbers z)) ≤ 20
+hazard-length : (h : Header) (z : Hazard) → h .end ≤ 1000000000000 → HazardBounds h z → length (writeNumbers (hazardNumbers z)) ≤ 20
 unfolding writeNumbers
 hazard-length h z road f =
     let side = number-within 0 (z .side) (omega (arith, f .side)) in
@@ -83,7 +82,7 @@ hazard-length h z road f =
     let level = number-within 0 (z .level) (omega (arith, f .level-top)) in
     simp length-append (omega arith)
 
-hazards-length : (h : Header) (zs : List Hazard) → h .end ≤ limits .lastStation → ((z : Hazard) → List·Memᴰ z zs → HazardFits h z) → length (writeNumbers (hazardsNumbers zs)) ≤ 20 * length zs
+hazards-length : (h : Header) (zs : List Hazard) → h .end ≤ 1000000000000 → ((z : Hazard) → List·Memᴰ z zs → HazardFits h z) → length (writeNumbers (hazardsNumbers zs)) ≤ 20 * length zs
 unfolding hazardsNumbers writeNumbers
 hazards-length h [] road fits = omega arith
 hazards-length h (z ∷ zs) road fits =

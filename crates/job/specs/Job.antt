@@ -9,8 +9,7 @@ use Rattle.refusal.specs.Choice.{if_then_else_}
 use Rattle.refusal.specs.Answer.{Answer, accepted, _>>=_}
 use Rattle.refusal.specs.Refusal.{unless-refuse}
 use Rattle.refusal.specs.declared.Refusal.the-variants as Row
-use Rattle.refusal.specs.Limits.{Limits, limits}
-use Rattle.number.specs.Number.{numberAtBy}
+use Rattle.number.specs.Number.{numberAt}
 use Rattle.job.specs.declared.Header.{Header}
 use Rattle.job.specs.declared.Hazard.{Hazard}
 use Rattle.job.specs.declared.NamedHazard.{NamedHazard}
@@ -47,14 +46,14 @@ abbrev pub within : Range → ℕ → Bool
 within r x = leb (r .low) x && leb x (r .high)
 
 -- The header table's ranges, in order, where the road begins at A: the thirteen numbers that every kind has.
-unfoldable pub sharedRangesBy : Limits → (A : ℕ) → List Range
-sharedRangesBy L A =
+unfoldable pub sharedRanges : (A : ℕ) → List Range
+sharedRanges A =
     -- 1: kind; 2 by document 02, request 4
     1 to 2
     -- 2: A, road begin: "may now reach 999,999,999,999"
-    ∷ 0 to (L .lastStation - 1)
+    ∷ 0 to 999999999999
     -- 3: B, road end: "1,000,000,000,000, B − A at most 2,000,000,000"
-    ∷ (A + 1) to min (L .lastStation) (A + L .longestRoad)
+    ∷ (A + 1) to min 1000000000000 (A + 2000000000)
     -- 4: LF, runout length of forward traffic (rising stations)
     ∷ 1 to 200000
     -- 5: LO, runout length of opposite traffic; 0 means one-way or separated
@@ -76,19 +75,13 @@ sharedRangesBy L A =
     ∷ 0 to 200000
     ∷ []
 
-abbrev pub sharedRanges : (A : ℕ) → List Range
-sharedRanges = sharedRangesBy limits
-
 -- And those after G, by kind. Of kind 1, 14: h, hazard count. Document 02, request 4: "A kind 2 job has one more header number after G: panel
 -- length, 1 to 10,000. .. Number 15 is then the hazard count."
 abbrev pub lastRanges : (kind : ℕ) → List Range
 lastRanges kind = if eqb kind 2 then 1 to 10000 ∷ 0 to 256 ∷ [] else 0 to 256 ∷ []
 
-unfoldable pub headerRangesBy : Limits → (kind A : ℕ) → List Range
-headerRangesBy L kind A = sharedRangesBy L A ++ lastRanges kind
-
-abbrev pub headerRanges : (kind A : ℕ) → List Range
-headerRanges = headerRangesBy limits
+unfoldable pub headerRanges : (kind A : ℕ) → List Range
+headerRanges kind A = sharedRanges A ++ lastRanges kind
 
 -- "Header, 14 numbers"; of a kind 2 job 15 (law header-size). The last is the hazard count.
 abbrev pub headerSize : (kind : ℕ) → ℕ
@@ -99,11 +92,8 @@ unfoldable pub hazardRanges : (A B s n : ℕ) → List Range
 hazardRanges A B s n = 0 to 1 ∷ A to (B - 1) ∷ (s + 1) to B ∷ 0 to 60000 ∷ n to 60000 ∷ 1 to 6 ∷ []
 
 -- The range of the next number, after the numbers `got`.
-abbrev pub nextInHeaderBy : Limits → (got : List ℕ) → Range
-nextInHeaderBy L got = getD (headerRangesBy L (getD got 0 0) (getD got 1 0)) (length got) (0 to 0)
-
 abbrev pub nextInHeader : (got : List ℕ) → Range
-nextInHeader = nextInHeaderBy limits
+nextInHeader got = getD (headerRanges (getD got 0 0) (getD got 1 0)) (length got) (0 to 0)
 
 abbrev pub nextInHazard : Header → (got : List ℕ) → Range
 nextInHazard h got = getD (hazardRanges (h .begin) (h .end) (getD got 1 0) (getD got 3 0)) (length got) (0 to 0)
@@ -116,15 +106,12 @@ pub record Fields : Type 0 where
   pub next : ℕ
 
 -- "Numbers as they stand, each for 1, 2 and its range": k more after `got`. Out of range is the refusal `outside`, which the numbers before it give.
-unfoldable pub readFieldsBy : Limits → (rangeOf : List ℕ → Range) (outside : List ℕ → Refusal) (k : ℕ) (got s : List ℕ) (at : ℕ) → Answer Fields
-readFieldsBy L rangeOf outside zero got s at = accepted (record { numbers = got; next = at })
-readFieldsBy L rangeOf outside (suc k) got s at =
-    numberAtBy L s at >>= λ x.
+unfoldable pub readFields : (rangeOf : List ℕ → Range) (outside : List ℕ → Refusal) (k : ℕ) (got s : List ℕ) (at : ℕ) → Answer Fields
+readFields rangeOf outside zero got s at = accepted (record { numbers = got; next = at })
+readFields rangeOf outside (suc k) got s at =
+    numberAt s at >>= λ x.
     unless-refuse (within (rangeOf got) (x .value)) (outside got) >>= λ _.
-    readFieldsBy L rangeOf outside k (got ++ x .value ∷ []) s (x .next)
-
-abbrev pub readFields : (rangeOf : List ℕ → Range) (outside : List ℕ → Refusal) (k : ℕ) (got s : List ℕ) (at : ℕ) → Answer Fields
-readFields = readFieldsBy limits
+    readFields rangeOf outside k (got ++ x .value ∷ []) s (x .next)
 
 -- How many header numbers are still to come after the first fourteen, `got`, of which the first is the kind.
 abbrev pub moreNumbers : (got : List ℕ) → ℕ
@@ -134,13 +121,10 @@ moreNumbers got = headerSize (getD got 0 0) - 14
 abbrev pub outsideHeader : (got : List ℕ) → Refusal
 outsideHeader got = Row.HeaderRange (length got + 1)
 
-unfoldable pub readHeaderBy : Limits → (s : List ℕ) → Answer Fields
-readHeaderBy L s =
-    readFieldsBy L (nextInHeaderBy L) outsideHeader 14 [] s 0 >>= λ f.
-    readFieldsBy L (nextInHeaderBy L) outsideHeader (moreNumbers (f .numbers)) (f .numbers) s (f .next)
-
-abbrev pub readHeader : (s : List ℕ) → Answer Fields
-readHeader = readHeaderBy limits
+unfoldable pub readHeader : (s : List ℕ) → Answer Fields
+readHeader s =
+    readFields nextInHeader outsideHeader 14 [] s 0 >>= λ f.
+    readFields nextInHeader outsideHeader (moreNumbers (f .numbers)) (f .numbers) s (f .next)
 
 -- The thirteen numbers that every kind has, a panel length and a hazard count.
 abbrev pub headerWith : List ℕ → (panel count : ℕ) → Header
@@ -190,28 +174,19 @@ abbrev pub outsideHazard : (index : ℕ) (got : List ℕ) → Refusal
 outsideHazard index got = Row.HazardRange index
 
 -- k more hazards after those in `got`.
-unfoldable pub readHazardsBy : Limits → Header → (k : ℕ) (got : List Hazard) (s : List ℕ) (at : ℕ) → Answer Hazards
-readHazardsBy L h zero got s at = accepted (record { list = got; next = at })
-readHazardsBy L h (suc k) got s at =
-    readFieldsBy L (nextInHazard h) (outsideHazard (length got)) 6 [] s at >>= λ z.
-    readHazardsBy L h k (got ++ hazardOf (z .numbers) ∷ []) s (z .next)
-
-abbrev pub readHazards : Header → (k : ℕ) (got : List Hazard) (s : List ℕ) (at : ℕ) → Answer Hazards
-readHazards = readHazardsBy limits
+unfoldable pub readHazards : Header → (k : ℕ) (got : List Hazard) (s : List ℕ) (at : ℕ) → Answer Hazards
+readHazards h zero got s at = accepted (record { list = got; next = at })
+readHazards h (suc k) got s at =
+    readFields (nextInHazard h) (outsideHazard (length got)) 6 [] s at >>= λ z.
+    readHazards h k (got ++ hazardOf (z .numbers) ∷ []) s (z .next)
 
 -- What follows the header: k more hazards after those in `got`. "No field may be missing. Nothing follows": refusal 7 returns the index
 -- of the first byte left over.
-unfoldable pub readRestBy : Limits → Header → (k : ℕ) (got : List Hazard) (s : List ℕ) (at : ℕ) → Answer Job
-readRestBy L h k got s at =
-    readHazardsBy L h k got s at >>= λ r.
+unfoldable pub readRest : Header → (k : ℕ) (got : List Hazard) (s : List ℕ) (at : ℕ) → Answer Job
+readRest h k got s at =
+    readHazards h k got s at >>= λ r.
     unless-refuse (leb (length s) (r .next)) (Row.LeftOver (r .next)) >>= λ _.
     accepted (record { header = h; hazards = r .list })
 
-abbrev pub readRest : Header → (k : ℕ) (got : List Hazard) (s : List ℕ) (at : ℕ) → Answer Job
-readRest = readRestBy limits
-
-unfoldable pub readJobBy : Limits → (s : List ℕ) → Answer Job
-readJobBy L s = readHeaderBy L s >>= λ f. let h = headerOf (f .numbers) in readRestBy L h (h .count) [] s (f .next)
-
-abbrev pub readJob : (s : List ℕ) → Answer Job
-readJob = readJobBy limits
+unfoldable pub readJob : (s : List ℕ) → Answer Job
+readJob s = readHeader s >>= λ f. let h = headerOf (f .numbers) in readRest h (h .count) [] s (f .next)

@@ -19,7 +19,7 @@ use Rattle.open_memory.specs.Memory.{isOpenJob}
 use Rattle.open_job.specs.Open.{openJob, underRules, addTo, withdrawFrom, scheduleOf, memoryAfter, replied}
 use Rattle.kept_states.specs.declared.KeptState.{KeptState}
 use Rattle.kept_states.specs.declared.OpenStates.{OpenStates}
-use Rattle.kept_states.specs.States.{mostKept, greatestStateNumber, nothingKept, keptFrom, stateOf, isUsed, keptSound, keptStates, keptUnder, statesFrom, areOpenStates, testState, openStatesBy, openStates, addIn, withdrawIn, scheduleIn, keepIn, returnIn}
+use Rattle.kept_states.specs.States.{mostKept, greatestStateNumber, nothingKept, keptFrom, stateOf, isUsed, keptSound, keptStates, keptUnder, statesFrom, areOpenStates, testState, openStates, addIn, withdrawIn, scheduleIn, keepIn, returnIn}
 use Rattle.kept_states.specs.Parts.{alsoSound, chosen, emptied, addPart, withdrawPart, schedulePart, testNumber, returnPart}
 use Rattle.kept_states.proofs.StateLaws.{replaced, now-open, number-most}
 
@@ -145,7 +145,7 @@ module _ (m : OpenStates) where
       record { now = a; kept0 = none (m .kept0); kept1 = none (m .kept1); kept2 = none (m .kept2); kept3 = none (m .kept3); kept4 = none (m .kept4); kept5 = none (m .kept5); kept6 = none (m .kept6); kept7 = none (m .kept7) }
 
   pub open-whole : (s : List ℕ) → (eachEmptied (isAccepted (openJob s)) (memoryAfter (openJob s) (m .now)) ≡ memoryAfter (openStates s) m) × (replied (openJob s) ≡ replied (openStates s))
-  unfolding openStatesBy emptied
+  unfolding openStates emptied
   open-whole s = go (openJob s)
     where
       go : (a : Answer StoredJob)

@@ -9,14 +9,13 @@ use Rattle.refusal.specs.Choice.{allOf}
 use Rattle.refusal.specs.Answer.{Answer, accepted, _>>=_}
 use Rattle.refusal.specs.Refusal.{unless-refuse}
 use Rattle.refusal.specs.declared.Refusal.the-variants as Row
-use Rattle.refusal.specs.Limits.{Limits, limits}
 use Rattle.job.specs.declared.Header.{Header}
 use Rattle.job.specs.declared.Hazard.{Hazard}
 use Rattle.job.specs.declared.StoredJob.{StoredJob}
 use Rattle.job.specs.Reply.{unused}
 use Rattle.schedule.specs.Plan.{PlannedSide}
 use Rattle.open_memory.specs.Memory.{mostStanding, isUnused, isOpenJob}
-use Rattle.open_job.specs.Open.{openJobBy, underRules, addTo, withdrawFrom, scheduleOf}
+use Rattle.open_job.specs.Open.{openJob, underRules, addTo, withdrawFrom, scheduleOf}
 use Rattle.kept_states.specs.declared.KeptState.{KeptState}
 use Rattle.kept_states.specs.declared.OpenStates.{OpenStates}
 use Rattle.job.specs.Job.{counted}
@@ -75,11 +74,8 @@ areOpenStates m = isOpenJob (m .now) && allOf (keptSound (m .now .header)) (kept
 -- The calls
 
 -- "Opening empties all eight."
-unfoldable pub openStatesBy : Limits → (s : List ℕ) → Answer OpenStates
-openStatesBy L s = openJobBy L s >>= λ a. accepted (statesFrom a (replicate mostKept nothingKept))
-
-abbrev pub openStates : (s : List ℕ) → Answer OpenStates
-openStates = openStatesBy limits
+unfoldable pub openStates : (s : List ℕ) → Answer OpenStates
+openStates s = openJob s >>= λ a. accepted (statesFrom a (replicate mostKept nothingKept))
 
 -- Add, withdraw and schedule are calls on the state now; what is kept stays. (Their own test of the state now is met here.)
 unfoldable pub addIn : OpenStates → (name : ℕ) → Hazard → Answer OpenStates

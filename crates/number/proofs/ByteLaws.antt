@@ -6,7 +6,7 @@ use native.Mathlib.Decide.{decLt}
 use mathlib.Core.List.{List, [], _∷_, List·Memᴰ, List·Memᴰ·tail, List·Memᴰ·not-nil}
 use lib.ListN.{drop, getD}
 use Rattle.refusal.proofs.EachLaws.{cons-each}
-use Rattle.number.specs.Number.{writeIn, writeNumberBy, writeNumber}
+use Rattle.number.specs.Number.{writeIn, writeNumber}
 use Rattle.number.proofs.WriteLaws.{write-last, write-more}
 
 abbrev pub Bytes : List ℕ → Type 0
@@ -38,5 +38,5 @@ writeIn-bytes (suc k) n = go (decLt n 128) (writeIn-bytes k (n / 128))
     go (no l) r = rw (write-more k n (omega arith)) (cons-each (λ x. x < 256) (omega arith) r)
 
 pub write-bytes : (n : ℕ) → Bytes (writeNumber n)
-unfolding writeNumberBy
+unfolding writeNumber
 write-bytes n = writeIn-bytes 6 n

@@ -14,7 +14,7 @@ use Rattle.refusal.specs.Choice.{if_then_else_}
 use Rattle.refusal.proofs.EachLaws.{cons-each}
 use Rattle.number.specs.declared.Read.{Read}
 use Rattle.number.specs.declared.Read.the-variants.{Number, Ended, Malformed}
-use Rattle.number.specs.Number.{writeNumber, mostGroups, greatest, groupCount, Scan, cut, overlong, whole, prefixed, scan, judged, readNumberBy, readNumber}
+use Rattle.number.specs.Number.{writeNumber, mostGroups, greatest, groupCount, Scan, cut, overlong, whole, prefixed, scan, judged, readNumber}
 use Rattle.number.specs.Form.{TopBits, EndsInside, IllFormed, sixth, long}
 use Rattle.number.proofs.ScanLaws.{scan-last, scan-more, scan-most}
 use Rattle.number.proofs.WriteLaws.{group-count}
@@ -97,17 +97,17 @@ formed at s = go (scan mostGroups s) refl (scanned mostGroups s)
 module _ (s : List ℕ) (at : ℕ) where
   -- 1: "job bytes end before or inside a number", and no other.
   pub read-ended : (readNumber s at ≡ Ended) ↔ EndsInside (drop at s)
-  unfolding readNumberBy
+  unfolding readNumber
   read-ended = (λ e. rw e at (formed at (drop at s)), λ i. rw (scan-cut mostGroups (drop at s) (i .few) (i .unended)))
 
   pub ill-formed : IllFormed (drop at s) → readNumber s at ≡ Malformed
-  unfolding readNumberBy
+  unfolding readNumber
   ill-formed (sixth six rest e size t) = rw (e, sym size, scan-overlong six rest t)
   ill-formed (long value groups e h) = rw (e, unfit value groups .1 (inr h))
 
   -- 2: the sixth byte has the top bit set, "or it isn't in shortest form", and no other: "no longer at the value".
   pub read-malformed : Bytes s → (readNumber s at ≡ Malformed) ↔ IllFormed (drop at s)
-  unfolding readNumberBy
+  unfolding readNumber
   read-malformed b = (λ e. (rw e at (formed at (drop at s))) (drop-bytes at s b), ill-formed)
 
   -- "The reader gathers in 64 bits": no value that is read passes what six groups make, 42 bits.

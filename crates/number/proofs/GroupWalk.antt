@@ -10,7 +10,7 @@ use lib.ListN.{length, getD, drop, drop-of-length-le}
 use lib.Seq.{drop-cons}
 use borrow.Author.Tests.{le-leb, eq-eqb, ne-eqb}
 use Rattle.number.specs.declared.Read.the-variants.{Number, Ended, Malformed}
-use Rattle.number.specs.Number.{writeIn, writeNumberBy, greatest, Scan, cut, overlong, whole, prefixed, scan, judged, readNumberBy, readNumber}
+use Rattle.number.specs.Number.{writeIn, writeNumber, greatest, Scan, cut, overlong, whole, prefixed, scan, judged, readNumber}
 use Rattle.number.specs.Groups.{behind, readBehind}
 use Rattle.number.proofs.ScanLaws.{scan-last, scan-more}
 use Rattle.number.proofs.WriteLaws.{small-length, length-below, length-above}
@@ -50,7 +50,7 @@ module _ (left i : ℕ) (s : List ℕ) (some : 0 < left) (there : i < length s) 
 module _ (at low weight passed : ℕ) (some : 0 < passed) (most : passed < 6) (counts : weight ≡ 128 ^ passed) (under : low < weight) where
   -- Where it is 0, fewer groups were enough.
   pub last-needless : judged at (behind low weight passed (whole 0 1)) ≡ Malformed
-  unfolding writeNumberBy
+  unfolding writeNumber
   last-needless =
       let one : suc (passed - 1) ≡ passed = omega arith in
       let short = length-below 6 (passed - 1) (low + weight * 0) (rw one (omega arith)) in
@@ -58,7 +58,7 @@ module _ (at low weight passed : ℕ) (some : 0 < passed) (most : passed < 6) (c
       simp (le-leb (low + weight * 0) greatest (omega arith), ne-eqb (passed + 1) (length (writeIn 6 (low + weight * 0))) (λ e. omega arith))
 
   pub last-whole : (b : ℕ) → 0 < b → b < 128 → low + weight * b ≤ greatest → judged at (behind low weight passed (whole b 1)) ≡ Number (low + weight * b) (at + (passed + 1))
-  unfolding writeNumberBy
+  unfolding writeNumber
   last-whole b pos h fits =
       let least = mul-le-mul-left {m = 1} {n = b} weight pos in
       let under-next = mul-le-mul-left {m = b} {n = 127} weight (omega arith) in
@@ -69,17 +69,17 @@ module _ (at low weight passed : ℕ) (some : 0 < passed) (most : passed < 6) (c
 -- A number read group by group
 
 pub read-none : (s : List ℕ) (at : ℕ) → length s ≤ at → readNumber s at ≡ Ended
-unfolding readNumberBy
+unfolding readNumber
 read-none s at h = rw (scan-ended 6 at s (omega arith) h)
 
 -- The first group is the last.
 pub read-one : (s : List ℕ) (at : ℕ) → at < length s → getD s at 0 < 128 → readNumber s at ≡ Number (getD s at 0) (at + 1)
-unfolding readNumberBy
+unfolding readNumber
 read-one s at there h = rw (scan-last-at 6 at s (omega arith) there h, le-leb (getD s at 0) greatest (omega arith), small-length (getD s at 0) h)
 
 -- The first group has others behind it.
 pub read-first : (s : List ℕ) (at : ℕ) → at < length s → 128 ≤ getD s at 0 → readNumber s at ≡ readBehind (getD s at 0 - 128) 128 1 s at
-unfolding readNumberBy readBehind
+unfolding readNumber readBehind
 read-first s at there h = ap (judged at) (scan-more-at 6 at s (omega arith) there h ∙ behind-first (getD s at 0 - 128) (scan 5 (drop (at + 1) s)))
 
 -- Behind six groups nothing is a number.

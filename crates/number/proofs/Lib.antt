@@ -5,4 +5,3 @@ pub mod ReadLaws
 pub mod PlaceLaws
 pub mod GroupWalk
 pub mod FormLaws
-pub mod LimitLaws

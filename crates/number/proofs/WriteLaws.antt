@@ -10,7 +10,7 @@ use mathlib.Core.Path.{_≡_, refl, sym, ap, _∙_}
 use mathlib.Core.List.{List, [], _∷_}
 use lib.ListN.{length}
 use borrow.Author.Tests.{lt-ltb, le-ltb}
-use Rattle.number.specs.Number.{writeIn, writeNumberBy, writeNumber, greatest, groupCount}
+use Rattle.number.specs.Number.{writeIn, writeNumber, mostGroups, greatest, groupCount}
 
 -- One group
 
@@ -32,15 +32,24 @@ write-wider (suc k) (suc m) n le h = go (decLt n 128) (write-wider k m (n / 128)
     go (yes l) r = write-last (suc k) n l ∙ sym (write-last (suc m) n l)
     go (no l) r = write-more (suc k) n (omega arith) ∙ rw (r (omega arith) (omega arith)) (sym (write-more (suc m) n (omega arith)))
 
+-- A number that five groups hold, as all did before document 02's request 11, is written as it was.
+pub write-five : (n : ℕ) → n < 128 ^ 5 → writeNumber n ≡ writeIn 5 n
+unfolding writeNumber
+write-five n h = sym (write-wider 4 5 n (omega arith) h)
+
 pub write-one : (n : ℕ) → n < 128 → writeNumber n ≡ n ∷ []
-unfolding writeNumberBy
+unfolding writeNumber
 write-one n h = write-last 5 n h
 
 pub write-step : (n : ℕ) → 128 ≤ n → n ≤ greatest → writeNumber n ≡ (n % 128 + 128) ∷ writeNumber (n / 128)
-unfolding writeNumberBy
+unfolding writeNumber
 write-step n h fit = write-more 5 n h ∙ ap (λ (l : List ℕ). (n % 128 + 128) ∷ l) (write-wider 4 5 (n / 128) (omega arith) (omega arith))
 
 -- Length
+
+-- "No longer at the value": the groups make no value that is greater.
+pub groups-hold : greatest + 1 ≡ 128 ^ mostGroups
+groups-hold = refl
 
 -- Below 128 ^ (g + 1), g + 1 groups are enough.
 pub length-below : (k g n : ℕ) → n < 128 ^ suc g → length (writeIn k n) ≤ suc g
@@ -66,7 +75,7 @@ length-above (suc k) (suc g) n few h =
     omega (arith, ap length (write-more k n (omega arith)), length-above k g (n / 128) (omega arith) (omega arith))
 
 pub number-length : (n : ℕ) → length (writeNumber n) ≤ 6
-unfolding writeNumberBy writeIn
+unfolding writeNumber writeIn
 number-length n = write-length 6 n
   where
     write-length : (k m : ℕ) → length (writeIn k m) ≤ k
@@ -81,12 +90,12 @@ pub small-length : (n : ℕ) → n < 128 → length (writeNumber n) ≡ 1
 small-length n h = ap length (write-one n h)
 
 pub middle-length : (n : ℕ) → n < 16384 → length (writeNumber n) ≤ 2
-unfolding writeNumberBy
+unfolding writeNumber
 middle-length n h = length-below 6 1 n (omega arith)
 
 -- Only from 2 to the 35th on does a number take a sixth byte.
 pub long-length : (n : ℕ) → length (writeNumber n) ≤ 5 + n / 34359738368
-unfolding writeNumberBy
+unfolding writeNumber
 long-length n = go (decLt n 34359738368)
   where
     go : Dec (n < 34359738368) → length (writeNumber n) ≤ 5 + n / 34359738368
@@ -99,7 +108,7 @@ seven-bits zero = refl
 seven-bits (suc g) = pow-succ' 128 g ∙ ap (λ (m : ℕ). 128 * m) (seven-bits g) ∙ sym (pow-add 2 7 (7 * g)) ∙ ap (λ (m : ℕ). 2 ^ m) (omega arith)
 
 groups-of-bits : (n j : ℕ) → 2 ^ j ≤ n → n < 2 ^ suc j → j < 42 → length (writeNumber n) ≡ j / 7 + 1
-unfolding writeNumberBy
+unfolding writeNumber
 groups-of-bits n j lo hi few =
     let g = j / 7 in
     let low : 2 ^ (7 * g) ≤ 2 ^ j = pow-mono (omega arith) in

@@ -8,7 +8,6 @@ use lib.Count.{leadingZeros}
 use lib.Dec.{ltb, leb, eqb}
 use Rattle.refusal.specs.Choice.{if_then_else_}
 use Rattle.refusal.specs.Answer.{Answer, accepted}
-use Rattle.refusal.specs.Limits.{Limits, limits}
 use Rattle.number.specs.declared.Read.{Read}
 use Rattle.number.specs.declared.Read.the-variants.{Number, Ended, Malformed}
 use Rattle.refusal.specs.Refusal.{refusal}
@@ -23,17 +22,14 @@ writeIn (suc k) n = let rest = writeIn k (n / 128) in if ltb n 128 then n ∷ []
 
 -- "Numbers may take six bytes", and six groups are 42 bits. ("The reader gathers in 64 bits" is said of the code.)
 abbrev pub mostGroups : ℕ
-mostGroups = limits .mostGroups
+mostGroups = 6
 
 -- The greatest value that so many groups make (law groups-hold).
 abbrev pub greatest : ℕ
-greatest = limits .greatest
+greatest = 4398046511103
 
-unfoldable pub writeNumberBy : Limits → (n : ℕ) → List ℕ
-writeNumberBy L n = writeIn (L .mostGroups) n
-
-abbrev pub writeNumber : (n : ℕ) → List ℕ
-writeNumber = writeNumberBy limits
+unfoldable pub writeNumber : (n : ℕ) → List ℕ
+writeNumber n = writeIn mostGroups n
 
 -- "A number takes as many groups as its bits need, and 0 takes one." The bits are the 64 of the value less its leading zeros.
 unfoldable pub groupCount : ℕ → ℕ
@@ -61,22 +57,16 @@ scan zero s = overlong
 scan (suc k) [] = cut
 scan (suc k) (x ∷ xs) = let rest = scan k xs in if ltb x 128 then whole x 1 else prefixed (x - 128) rest
 
--- A number must be in its shortest form, and before request 11 within the greatest value: of six bytes none is above it (law read-malformed).
-abbrev pub judgedBy : Limits → (at : ℕ) → Scan → Read
-judgedBy L at cut = Ended
-judgedBy L at overlong = Malformed
-judgedBy L at (whole value groups) =
-    if leb value (L .greatest) && eqb groups (length (writeNumberBy L value)) then Number value (at + groups) else Malformed
-
+-- A number must be in its shortest form. "No longer at the value": of six bytes none is above the greatest (law read-malformed).
 abbrev pub judged : (at : ℕ) → Scan → Read
-judged = judgedBy limits
+judged at cut = Ended
+judged at overlong = Malformed
+judged at (whole value groups) =
+    if leb value greatest && eqb groups (length (writeNumber value)) then Number value (at + groups) else Malformed
 
 -- The number that begins at index `at`, with the index behind it.
-unfoldable pub readNumberBy : Limits → List ℕ → (at : ℕ) → Read
-readNumberBy L s at = judgedBy L at (scan (L .mostGroups) (drop at s))
-
-abbrev pub readNumber : List ℕ → (at : ℕ) → Read
-readNumber = readNumberBy limits
+unfoldable pub readNumber : List ℕ → (at : ℕ) → Read
+readNumber s at = judged at (scan mostGroups (drop at s))
 
 -- A number read, and the index behind it.
 pub record Reading : Type 0 where
@@ -89,11 +79,8 @@ readingOf at (Number value next) = accepted (record { value = value; next = next
 readingOf at Ended = refusal (Row.Ended at)
 readingOf at Malformed = refusal (Row.Malformed at)
 
-unfoldable pub numberAtBy : Limits → List ℕ → (at : ℕ) → Answer Reading
-numberAtBy L s at = readingOf at (readNumberBy L s at)
-
-abbrev pub numberAt : List ℕ → (at : ℕ) → Answer Reading
-numberAt = numberAtBy limits
+unfoldable pub numberAt : List ℕ → (at : ℕ) → Answer Reading
+numberAt s at = readingOf at (readNumber s at)
 
 -- Lent memory
 

@@ -26,7 +26,7 @@ use Rattle.job.proofs.OpeningLaws.{job-header}
 use Rattle.runs.specs.RunList.{envelopesOf}
 use Rattle.runs.specs.Required.{requiredRuns}
 use Rattle.runs.specs.Stored.{StoredEnvelopes}
-use Rattle.planning.specs.Envelope.{sideOverhangs, standsNear, testHazard, testHazards, acceptJobBy}
+use Rattle.planning.specs.Envelope.{sideOverhangs, standsNear, testHazard, testHazards, acceptJob}
 use Rattle.planning.specs.Required.{jobRuns}
 use Rattle.planning.specs.Reply.{Cuts, cutsOf, testedEnvelopes}
 use Rattle.planning.specs.declared.accept.SideEnvelopes.{SideEnvelopes}
@@ -35,12 +35,12 @@ use Rattle.planning.proofs.EnvelopeLaws.{AcceptedFits}
 use Rattle.planning.proofs.SideLaws.{envelopes-done, outcome-done, stored-envelopes}
 use Rattle.planning.proofs.AcceptedLaws.{hazards-pass, fitting-accepted}
 use Rattle.schedule.specs.Schedule.{writeSchedule}
-use Rattle.schedule.specs.Plan.{fitted, planBy, plan}
+use Rattle.schedule.specs.Plan.{fitted, plan}
 use Rattle.schedule.proofs.PlanLaws.{plan-bad-side, tested-bytes}
 use Rattle.open_job.specs.declared.Change.{Change}
 use Rattle.open_memory.specs.Memory.{standing, laidOut, stands, isFull, admit, isOpenJob}
 use Rattle.job.specs.Fits.{hazardInRange}
-use Rattle.open_job.specs.Open.{openJobBy, openJob, addTo, withdrawFrom, scheduleOf, Changes}
+use Rattle.open_job.specs.Open.{openJob, addTo, withdrawFrom, scheduleOf, Changes}
 use Rattle.open_memory.specs.Steps.{rank, putAt, takenAt}
 use Rattle.open_memory.proofs.RuleLaws.{admit-ranged, open-count, open-standing, open-accepted}
 use Rattle.open_memory.proofs.PlaceLaws.{inserted-at, without-at}
@@ -70,7 +70,7 @@ module _ (s : List ℕ) where
       empty (z ∷ zs) q = absurd (omega arith)
 
   pub opening-read : openJob s ≡ (readOpening s >>= λ h. accepted (laidOut h []))
-  unfolding openJobBy readOpening headerAt jobHeader acceptJobBy testHazards
+  unfolding openJob readOpening headerAt jobHeader acceptJob testHazards
   opening-read =
       same-behind (readHeader s) _ _ (λ f read. same-behind (count f) _ _ (λ u zero. job (readJob s) (λ j e. none-read f j read (tested _ _ u zero) e)) ∙ sym (behind (count f) _ _))
       ∙ sym (behind (headerAt s) _ _ ∙ behind (readHeader s) _ _)
@@ -123,7 +123,7 @@ module _ (m : StoredJob) (good : isOpenJob m ≡ true) where
 
 -- Plan, of the writing of a job that is accepted.
 pub plan-written : (j : Job) → AcceptedFits j → (side room : ℕ) → plan (writeJob j) side room ≡ (unless-refuse (leb side 1) Row.Argument >>= λ _. fitted (writeSchedule (jobRuns j side)) (sideOverhangs j side) room)
-unfolding planBy
+unfolding plan
 plan-written j f side room = rw (fitting-accepted j f)
 
 module _ (m : StoredJob) (side : ℕ) (good : isOpenJob m ≡ true) where

@@ -9,29 +9,25 @@ use Rattle.refusal.specs.Answer.{Answer, accepted, _>>=_}
 use Rattle.refusal.specs.Refusal.{unless-refuse, outcome}
 use Rattle.refusal.specs.declared.Refusal.the-variants as Row
 use Rattle.refusal.specs.Stored.{acceptedOr}
-use Rattle.refusal.specs.Limits.{Limits, limits}
 use Rattle.job.specs.declared.Header.{Header}
 use Rattle.job.specs.declared.Hazard.{Hazard}
 use Rattle.job.specs.declared.NamedHazard.{NamedHazard}
 use Rattle.job.specs.declared.StoredJob.{StoredJob}
-use Rattle.job.specs.Job.{named, jobOf, headerSize, readHeaderBy, headerOf}
+use Rattle.job.specs.Job.{named, jobOf, headerSize, readHeader, headerOf}
 use Rattle.job.specs.Writing.{writeJob}
-use Rattle.planning.specs.Envelope.{acceptJobBy}
+use Rattle.planning.specs.Envelope.{acceptJob}
 use Rattle.schedule.specs.Plan.{PlannedSide, plan}
 use Rattle.open_memory.specs.Memory.{standing, laidOut, stands, isFull, inserted, without, admit, isOpenJob}
 use Rattle.open_job.specs.declared.Change.{Change}
 
 -- "Opening takes job bytes that carry no hazard; it refuses as plan does without 9, and a hazard count above 0 is 3": at that number, which is
 -- returned, 14, of a kind 2 job 15.
-unfoldable pub openJobBy : Limits → (s : List ℕ) → Answer StoredJob
-openJobBy L s =
-    readHeaderBy L s >>= λ f.
+unfoldable pub openJob : (s : List ℕ) → Answer StoredJob
+openJob s =
+    readHeader s >>= λ f.
     unless-refuse (eqb (headerOf (f .numbers) .count) 0) (Row.HeaderRange (headerSize (headerOf (f .numbers) .kind))) >>= λ _.
-    acceptJobBy L s >>= λ j.
+    acceptJob s >>= λ j.
     accepted (laidOut (j .header) [])
-
-abbrev pub openJob : (s : List ℕ) → Answer StoredJob
-openJob = openJobBy limits
 
 -- The tests of an add where these hazards stand: "a name already standing (add) .. is 12, before 4, and returns the name"; "an add when 256 stand is 15, after 12 and before 4", and returns 0, as request 1 has it of later numbers; then those of its hazard.
 -- Names are 0 to 65,535 by the call's type, 16 bits, so no test asks for it.

@@ -10,7 +10,7 @@ use lib.Dec.{leb, ltb, eqb}
 use borrow.Author.Tests.{le-leb, lt-leb, lt-ltb, le-ltb, eq-eqb, ne-eqb}
 use Rattle.refusal.proofs.TestLaws.{and-left, and-right, and-intro}
 use Rattle.job.specs.declared.Header.{Header}
-use Rattle.job.specs.Job.{Range, within, _to_, sharedRangesBy, headerRangesBy, nextInHeader, sharedNumbers, counted}
+use Rattle.job.specs.Job.{Range, within, _to_, sharedRanges, headerRanges, nextInHeader, sharedNumbers, counted}
 use Rattle.job.specs.Writing.{lastNumbers}
 use Rattle.job.specs.Fits.{inRanges, headerInRange, HeaderFits}
 use Rattle.job.proofs.RangeLaws.{ranges-parts, ranges-high}
@@ -75,7 +75,7 @@ header-parts h =
 
 -- A road that begins behind the last station but one is out of range.
 pub begin-out : (h : Header) → 999999999999 < h .begin → inRanges nextInHeader [] (sharedNumbers h) ≡ false
-unfolding headerRangesBy sharedRangesBy
+unfolding headerRanges sharedRanges
 begin-out h l = go (inRanges nextInHeader [] (sharedNumbers h)) refl
   where
     go : (b : Bool) → inRanges nextInHeader [] (sharedNumbers h) ≡ b → b ≡ false
@@ -84,11 +84,11 @@ begin-out h l = go (inRanges nextInHeader [] (sharedNumbers h)) refl
 
 -- The last numbers of a header, by kind.
 pub last-of-two : (h : Header) → h .kind ≡ 2 → ((leb 1 (h .panel) && leb (h .panel) 10000) && leb (h .count) 256) ≡ lastInRange h
-unfolding lastInRange inRanges headerRangesBy sharedRangesBy
+unfolding lastInRange inRanges headerRanges sharedRanges
 last-of-two h two = simp (eq-eqb (h .kind) 2 two, from-zero, and-true)
 
 pub last-of-one : (h : Header) → (h .kind ≡ 2 → ⊥) → (leb (h .count) 256 && eqb (h .panel) 1) ≡ lastInRange h
-unfolding lastInRange inRanges headerRangesBy sharedRangesBy
+unfolding lastInRange inRanges headerRanges sharedRanges
 last-of-one h other = simp (ne-eqb (h .kind) 2 other, from-zero, and-true)
 
 -- With another hazard count the header fits too.

@@ -9,6 +9,4 @@ pub mod ListLaws
 pub mod ContentLaws
 pub mod BuildLaws
 pub mod MeaningLaws
-pub mod BeforeLaws
-pub mod NamesLaws
 pub mod WithdrawalLaws

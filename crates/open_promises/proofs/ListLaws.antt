@@ -10,7 +10,6 @@ use lib.ListN.{length, replicate, length-map}
 use Rattle.refusal.specs.Answer.{Answer, accepted}
 use Rattle.refusal.specs.Refusal.{unless-refuse}
 use Rattle.refusal.specs.declared.Refusal.the-variants as Row
-use Rattle.refusal.specs.Limits.{limits}
 use Rattle.refusal.proofs.AnswerLaws.{bound, behind}
 use Rattle.job.specs.declared.Header.{Header}
 use Rattle.job.specs.declared.Hazard.{Hazard}
@@ -23,8 +22,7 @@ use Rattle.job.proofs.RestLaws.{job-step}
 use Rattle.job.proofs.OpeningLaws.{job-header, header-done, opening-empty}
 use Rattle.planning.specs.Envelope.{acceptJob}
 use Rattle.planning.proofs.EnvelopeLaws.{accepted-fits}
-use Rattle.planning.proofs.LimitLaws.{accepted-read}
-use Rattle.planning.proofs.AcceptedLaws.{fitting-accepted}
+use Rattle.planning.proofs.AcceptedLaws.{fitting-accepted, accepted-read}
 use Rattle.open_memory.specs.Memory.{mostStanding, laidOut, madeFrom, stands}
 use Rattle.open_memory.proofs.RuleLaws.{Admitted, made-fits, stand-each}
 use Rattle.open_job.specs.Open.{openJob, testAdd, addTo, withdrawFrom, scheduleOf, memoryAfter, replied}
@@ -32,7 +30,7 @@ use Rattle.open_job.proofs.CallLaws.{opening-read}
 use Rattle.open_job.proofs.LayoutLaws.{laid-standing, add-laid, withdraw-laid, schedule-laid}
 use Rattle.kept_states.specs.declared.KeptState.{KeptState}
 use Rattle.kept_states.specs.declared.OpenStates.{OpenStates}
-use Rattle.kept_states.specs.States.{mostKept, nothingKept, isUsed, keptUnder, statesFrom, areOpenStates, openStatesBy, openStates}
+use Rattle.kept_states.specs.States.{mostKept, nothingKept, isUsed, keptUnder, statesFrom, areOpenStates, openStates}
 use Rattle.kept_states.proofs.StateLaws.{not-used, kept-used}
 use Rattle.open_promises.specs.Lists.{Call, keepAs, returnTo, Kept, nothing, state, States, isKept, opened, statesAfter, hazardsAfter, afterCall, CallsFrom, AnswersAs, SchedulePromise, Holds, HoldsKept, Standing, StandingPromise, ReturnPromise}
 use Rattle.open_promises.proofs.SameLaws.{same-plans}
@@ -46,13 +44,13 @@ use Rattle.open_promises.proofs.ReplyLaws.{add-now, withdraw-now, sched
 
 opened-empty : (s : List ℕ) (j : Job) → acceptJob s ≡ accepted j → j .hazards ≡ [] → openJob s ≡ accepted (laidOut (j .header) [])
 opened-empty s j e none =
-    let read = accepted-read limits s j e in
+    let read = accepted-read s j e in
     let b = bound (headerAt s) (λ x. readRest (x .header) (x .header .count) [] s (x .next)) j (sym (job-step s) ∙ read) in
     let count : b .first .header .count ≡ 0 = ap (λ (h : Header). h .count) (sym (job-header s (b .taken) read)) ∙ sym (accepted-fits s j e .fits .hazards .count) ∙ ap length none in
     opening-read s ∙ rw (opening-empty s (b .taken) count, header-done s read)
 
 pub states-empty : (s : List ℕ) (j : Job) → acceptJob s ≡ accepted j → j .hazards ≡ [] → openStates s ≡ accepted (statesFrom (laidOut (j .header) []) (replicate mostKept nothingKept))
-unfolding openStatesBy
+unfolding openStates
 states-empty s j e none = rw (opened-empty s j e none)
 
 -- Hazards that stand

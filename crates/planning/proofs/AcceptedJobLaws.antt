@@ -21,7 +21,7 @@ use Rattle.job.specs.Job.{Job, unnamed, jobOf, readJob}
 use Rattle.job.specs.Reply.{jobAnswer}
 use Rattle.job.specs.Fits.{JobFits}
 use Rattle.job.proofs.RangeLaws.{header-bounds}
-use Rattle.planning.specs.Envelope.{standsNear, testHazard, testHazards, acceptJobBy, acceptJob}
+use Rattle.planning.specs.Envelope.{standsNear, testHazard, testHazards, acceptJob}
 use Rattle.planning.proofs.AcceptLaws.{inside, stored}
 use Rattle.refusal.proofs.TestLaws.{impossible}
 
@@ -63,7 +63,7 @@ module _ (job : StoredJob) (fits : JobFits (jobOf job)) where
 -- The job
 
 pub accept-read : (s : List ℕ) {j : Job} (o : Outcome) → readJob s ≡ accepted j → outcome {A = Unit {0}} o tt ≡ testHazards (j .header) 0 (j .hazards) → outcome o j ≡ acceptJob s
-unfolding acceptJobBy
+unfolding acceptJob
 accept-read s {j} o e t = rw e (go o (testHazards (j .header) 0 (j .hazards)) t)
   where
     go : (q : Outcome) (a : Answer (Unit {0})) → outcome {A = Unit {0}} q tt ≡ a → outcome q j ≡ (a >>= λ _. accepted j)
@@ -73,7 +73,7 @@ accept-read s {j} o e t = rw e (go o (testHazards (j .header) 0 (j .hazards)) t)
     go (Refused x) (refused k v) p = cc
 
 pub accept-unread : (s : List ℕ) (x : Refusal) → readJob s ≡ refusal x → refusal x ≡ acceptJob s
-unfolding acceptJobBy
+unfolding acceptJob
 accept-unread s x e = rw e
 
 -- What `accept_job` answers, by its outcome.

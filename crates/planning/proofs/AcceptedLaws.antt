@@ -16,7 +16,7 @@ use Rattle.job.specs.declared.Hazard.{Hazard}
 use Rattle.job.specs.Job.{Job, readJob}
 use Rattle.job.specs.Writing.{writeJob}
 use Rattle.job.proofs.WritingLaws.{Bytes, job-written, job-is-written}
-use Rattle.planning.specs.Envelope.{reached, standsNear, testHazard, testHazards, acceptJobBy, acceptJob}
+use Rattle.planning.specs.Envelope.{reached, standsNear, testHazard, testHazards, acceptJob}
 use Rattle.planning.specs.Rows.{Passed}
 use Rattle.planning.proofs.EnvelopeLaws.{AcceptedFits, accepted-fits}
 use Rattle.refusal.proofs.TestLaws.{not-and-intro}
@@ -37,17 +37,20 @@ hazards-pass h i (z ∷ zs) rest p =
 
 -- A job that fits, its hazards passing 5, is accepted from its writing.
 pub fitting-accepted : (j : Job) → AcceptedFits j → acceptJob (writeJob j) ≡ accepted j
-unfolding acceptJobBy testHazards
+unfolding acceptJob testHazards
 fitting-accepted j f = rw (job-written j (f .fits), ← append-nil (j .hazards), hazards-pass (j .header) 0 (j .hazards) [] (f .passed))
 
--- What was accepted is the writing of its job.
-pub accepted-is-written : (s : List ℕ) (j : Job) → Bytes s → acceptJob s ≡ accepted j → s ≡ writeJob j
-unfolding acceptJobBy
-accepted-is-written s j b e =
+-- What was accepted was read, and is the writing of its job.
+pub accepted-read : (s : List ℕ) (j : Job) → acceptJob s ≡ accepted j → readJob s ≡ accepted j
+unfolding acceptJob
+accepted-read s j e =
     let b1 = bound (readJob s) _ j e in
     let b2 = bound (testHazards (b1 .first .header) 0 (b1 .first .hazards)) _ j (b1 .rest) in
-    let same : b1 .first ≡ j = cc in
-    job-is-written s j b (b1 .taken ∙ ap accepted same)
+    let same : b1 .first ≡ j = let z = b2 .rest in cc in
+    b1 .taken ∙ ap accepted same
+
+pub accepted-is-written : (s : List ℕ) (j : Job) → Bytes s → acceptJob s ≡ accepted j → s ≡ writeJob j
+accepted-is-written s j b e = job-is-written s j b (accepted-read s j e)
 
 -- "An accepted job is one to which none of 1 to 7 applies": it is the writing of a job that fits and whose hazards pass 5, and each such writing is accepted.
 pub accepted-exactly : (s : List ℕ) (j : Job) → Bytes s → (acceptJob s ≡ accepted j) ↔ ((s ≡ writeJob j) × AcceptedFits j)

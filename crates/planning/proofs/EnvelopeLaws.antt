@@ -25,7 +25,7 @@ use Rattle.runs.specs.declared.Stretch.{Stretch}
 use Rattle.runs.specs.Level.{Has}
 use Rattle.runs.specs.RunList.{lastStation}
 use Rattle.runs.proofs.LevelLaws.{Proper, Levelled, EndsBy}
-use Rattle.planning.specs.Envelope.{Traffic, forward, opposite, runout, reaches, reached, reachOf, offsetOf, envelope, envelopes, cutToRoad, cutEnvelope, sideEnvelopes, OnRoad, standsNear, testHazard, testHazards, acceptJobBy, acceptJob}
+use Rattle.planning.specs.Envelope.{Traffic, forward, opposite, runout, reaches, reached, reachOf, offsetOf, envelope, envelopes, cutToRoad, cutEnvelope, sideEnvelopes, OnRoad, standsNear, testHazard, testHazards, acceptJob}
 use Rattle.planning.specs.Reply.{Cuts, cutsOf, testedEnvelopes}
 use Rattle.planning.specs.Overhang.{SideHazard}
 use Rattle.planning.specs.Rows.{Passed}
@@ -49,7 +49,7 @@ pub record AcceptedFits (j : Job) : Type 0 where
   pub passed : (z : Hazard) → List·Memᴰ z (j .hazards) → Passed (j .header) z
 
 pub accepted-fits : (s : List ℕ) (j : Job) → acceptJob s ≡ accepted j → AcceptedFits j
-unfolding acceptJobBy
+unfolding acceptJob
 accepted-fits s j e =
     let b1 = bound (readJob s) _ j e in
     let b2 = bound (testHazards (b1 .first .header) 0 (b1 .first .hazards)) _ j (b1 .rest) in

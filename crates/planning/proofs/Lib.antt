@@ -9,8 +9,6 @@ pub mod JobRunLaws
 pub mod AcceptedLaws
 pub mod RowLaws
 pub mod RoadLaws
-pub mod BeforeLaws
 pub mod AcceptedJobLaws
 pub mod AdjacentLaws
 pub mod ApproachedLaws
-pub mod LimitLaws

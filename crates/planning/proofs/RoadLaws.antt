@@ -3,11 +3,10 @@
 use Prim.Native.Nat.{ℕ, _+_, _-_, _≤_, max, min}
 use native.Mathlib.Omega.{arith}
 use native.Mathlib.Decide.{decLe}
-use mathlib.Core.Path.{_≡_, refl, sym}
-use mathlib.Core.Bool.{Bool, true, false, _&&_, _||_, false≢true}
+use mathlib.Core.Path.{_≡_, refl}
+use mathlib.Core.Bool.{Bool, true, false, _&&_}
 use mathlib.Core.List.{List, [], _∷_, map, List·Memᴰ, List·Memᴰ·head, List·Memᴰ·tail}
-use lib.Dec.{ltb, eqb}
-use borrow.Author.Tests.{ltb-false}
+use lib.Dec.{eqb}
 use Rattle.refusal.specs.Choice.{if_then_else_}
 use Rattle.refusal.proofs.TestLaws.{and-right}
 use Rattle.job.specs.declared.Header.{Header}
@@ -18,9 +17,8 @@ use Rattle.runs.specs.Level.{Has}
 use Rattle.runs.specs.RunList.{IsRun}
 use Rattle.runs.proofs.RunsOfLaws.{member→run}
 use Rattle.runs.proofs.LevelLaws.{Joined, covered, bridged, level→joined}
-use Rattle.planning.specs.Envelope.{forward, opposite, reached, lengthening, envelope, envelopes, cutToRoad, sideEnvelopes, overhang, noOverhang, greater, overhangs, sideOverhangs, OnRoad}
+use Rattle.planning.specs.Envelope.{forward, opposite, reached, lengthening, envelope, envelopes, cutToRoad, sideEnvelopes, overhang, noOverhang, greater, overhangs, sideOverhangs, OnRoad, StaysOnRoad}
 use Rattle.planning.specs.Required.{jobLevel, jobRuns}
-use Rattle.planning.specs.Before.{leavesRoad, StaysOnRoad}
 use Rattle.planning.proofs.EnvelopeLaws.{AcceptedFits, side-lies}
 use Rattle.planning.proofs.JobRunLaws.{job-runs}
 
@@ -60,37 +58,27 @@ runs-on-road j side fits r m =
 
 -- Envelopes that stay on the road
 
-module _ (h : Header) (z : Hazard) (r : reached h z ≡ true) (stays : leavesRoad lengthening h z ≡ false) where
-  neither : (a b : Bool) → (a || b) ≡ false → (a ≡ false) × (b ≡ false)
-  neither false b e = (refl, e)
-  neither true b e = absurd (false≢true (sym e))
+-- A hazard's envelope, where it is reached.
+abbrev Stays : Header → Hazard → Type 0
+Stays h z = reached h z ≡ true → (h .begin + lengthening h z forward ≤ z .start) × (z .end + lengthening h z opposite ≤ h .end)
 
-  parts : (ltb (z .start) (h .begin + lengthening h z forward) ≡ false) × (ltb (h .end) (z .end + lengthening h z opposite) ≡ false)
-  unfolding leavesRoad
-  parts = neither _ _ (rw r at stays)
-
-  begins-on : h .begin + lengthening h z forward ≤ z .start
-  begins-on = ltb-false _ _ (parts .0)
-
-  ends-on : z .end + lengthening h z opposite ≤ h .end
-  ends-on = ltb-false _ _ (parts .1)
-
+module _ (h : Header) (z : Hazard) (r : reached h z ≡ true) (stays : Stays h z) where
   uncut : cutToRoad h (envelope h z) ≡ envelope h z
   unfolding cutToRoad envelope
   uncut =
-      let a : max (h .begin) (z .start - lengthening h z forward) ≡ z .start - lengthening h z forward = omega (arith, begins-on) in
-      let b : min (z .end + lengthening h z opposite) (h .end) ≡ z .end + lengthening h z opposite = omega (arith, ends-on) in
+      let a : max (h .begin) (z .start - lengthening h z forward) ≡ z .start - lengthening h z forward = omega (arith, stays r .0) in
+      let b : min (z .end + lengthening h z opposite) (h .end) ≡ z .end + lengthening h z opposite = omega (arith, stays r .1) in
       λ i. record { start = a i; end = b i; level = z .level }
 
   no-overhang : overhang h z ≡ noOverhang
   unfolding overhang
   no-overhang =
-      let a : h .begin + lengthening h z forward - z .start ≡ 0 = omega (arith, begins-on) in
-      let b : z .end + lengthening h z opposite - h .end ≡ 0 = omega (arith, ends-on) in
+      let a : h .begin + lengthening h z forward - z .start ≡ 0 = omega (arith, stays r .0) in
+      let b : z .end + lengthening h z opposite - h .end ≡ 0 = omega (arith, stays r .1) in
       λ i. record { before = a i; after = b i }
 
 module _ (h : Header) (side : ℕ) where
-  all-uncut : (zs : List Hazard) → ((z : Hazard) → List·Memᴰ z zs → leavesRoad lengthening h z ≡ false) → map (cutToRoad h) (envelopes h side zs) ≡ envelopes h side zs
+  all-uncut : (zs : List Hazard) → ((z : Hazard) → List·Memᴰ z zs → Stays h z) → map (cutToRoad h) (envelopes h side zs) ≡ envelopes h side zs
   unfolding envelopes
   all-uncut [] s = refl
   all-uncut (z ∷ zs) s = go (eqb (z .side) side && reached h z) refl (all-uncut zs (λ x m. s x (List·Memᴰ·tail m)))
@@ -102,7 +90,7 @@ module _ (h : Header) (side : ℕ) where
           λ i. own i ∷ r i
       go false off r = r
 
-  none-overhangs : (zs : List Hazard) → ((z : Hazard) → List·Memᴰ z zs → leavesRoad lengthening h z ≡ false) → overhangs h side zs ≡ noOverhang
+  none-overhangs : (zs : List Hazard) → ((z : Hazard) → List·Memᴰ z zs → Stays h z) → overhangs h side zs ≡ noOverhang
   unfolding overhangs greater
   none-overhangs [] s = refl
   none-overhangs (z ∷ zs) s = go (eqb (z .side) side && reached h z) refl (none-overhangs zs (λ x m. s x (List·Memᴰ·tail m)))

@@ -22,7 +22,7 @@ use Rattle.job.specs.Job.{Job, readJob}
 use Rattle.job.specs.Rows.{ReadRow}
 use Rattle.job.proofs.WritingLaws.{Bytes}
 use Rattle.job.proofs.RowLaws.{read-exactly}
-use Rattle.planning.specs.Envelope.{reached, standsNear, testHazard, testHazards, acceptJobBy, acceptJob}
+use Rattle.planning.specs.Envelope.{reached, standsNear, testHazard, testHazards, acceptJob}
 use Rattle.planning.specs.Rows.{Near, Passed, FirstNear, FirstNearOf, JobRow}
 use Rattle.planning.proofs.EnvelopeLaws.{hazard-passed}
 use Rattle.planning.proofs.AcceptedLaws.{hazards-pass}
@@ -82,7 +82,7 @@ refused-first h (z ∷ zs) i n v e = go (testHazard h i z) refl e (refused-first
 
 module _ (s : List ℕ) where
   job-exactly : (n v : ℕ) → (acceptJob s ≡ refused n v) ↔ ((readJob s ≡ refused n v) ⊎ ((n ≡ 5) × FirstNearOf s v))
-  unfolding acceptJobBy
+  unfolding acceptJob
   job-exactly n v = (to (readJob s) refl, back)
     where
       tests : (j : Job) (a : Answer (Unit {0})) → (a >>= λ _. accepted j) ≡ refused n v → a ≡ refused n v

@@ -15,7 +15,7 @@ use Rattle.runs.specs.RunList.{envelopesOf}
 use Rattle.runs.specs.Stored.{StoredEnvelopes}
 use Rattle.runs.specs.Required.{requiredRuns}
 use Rattle.runs.proofs.StoredLaws.{runs-length}
-use Rattle.planning.specs.Envelope.{sideEnvelopes, testHazards, acceptJobBy}
+use Rattle.planning.specs.Envelope.{sideEnvelopes, testHazards, acceptJob}
 use Rattle.planning.specs.Required.{jobRuns}
 use Rattle.planning.specs.Reply.{Cuts, cutsOf, testedEnvelopes, testedRuns, acceptedRuns}
 use Rattle.planning.specs.declared.accept.SideEnvelopes.{SideEnvelopes}
@@ -34,7 +34,7 @@ runs-tested j side = go (testHazards (j .header) 0 (j .hazards))
 
 -- The runs of the job that the bytes are: read, then tested.
 runs-read : (s : List ℕ) (side : ℕ) → acceptedRuns s side ≡ (readJob s >>= λ j. testedRuns j side)
-unfolding acceptedRuns acceptJobBy testedRuns
+unfolding acceptedRuns acceptJob testedRuns
 runs-read s side = job (readJob s)
   where
     test : (j : Job) (t : Answer (Unit {0})) → ((t >>= λ _. accepted j) >>= λ k. accepted (jobRuns k side)) ≡ (t >>= λ _. accepted (jobRuns j side))

@@ -3,17 +3,16 @@
 use Prim.Native.Nat.{ℕ, _+_, _-_, min, max, _≤_, _<_}
 use mathlib.Core.Path.{_≡_}
 use mathlib.Core.Bool.{Bool, true, _&&_, _||_, not}
-use mathlib.Core.List.{List, [], _∷_, map}
+use mathlib.Core.List.{List, [], _∷_, map, List·Memᴰ}
 use lib.Dec.{ltb, eqb}
 use Rattle.refusal.specs.Choice.{if_then_else_}
 use Rattle.refusal.specs.Answer.{Answer, accepted, _>>=_}
 use Rattle.refusal.specs.Refusal.{unless-refuse}
 use Rattle.refusal.specs.declared.Refusal.the-variants as Row
-use Rattle.refusal.specs.Limits.{Limits, limits}
 use Rattle.approach.specs.Panel.{raisedLength, BelowRaised}
 use Rattle.job.specs.declared.Header.{Header}
 use Rattle.job.specs.declared.Hazard.{Hazard}
-use Rattle.job.specs.Job.{Job, readJobBy}
+use Rattle.job.specs.Job.{Job, readJob}
 use Rattle.runs.specs.declared.Stretch.{Stretch}
 use Rattle.planning.specs.declared.Overhangs.{Overhangs}
 
@@ -135,6 +134,11 @@ sideOverhangs j side = overhangs (j .header) side (j .hazards)
 abbrev pub OnRoad : Header → (t : ℕ) → Type 0
 OnRoad h t = (h .begin ≤ t) × (t < h .end)
 
+-- No envelope begins before A or ends after B, by sums: before document 02's request 8 a job with one that did was refused 6.
+abbrev pub StaysOnRoad : Job → Type 0
+StaysOnRoad j = (z : Hazard) → List·Memᴰ z (j .hazards) → reached (j .header) z ≡ true
+    → (j .header .begin + lengthening (j .header) z forward ≤ z .start) × (z .end + lengthening (j .header) z opposite ≤ j .header .end)
+
 -- Refusal 5
 
 -- 5: "reached hazard with n < M + D".
@@ -151,8 +155,5 @@ testHazards h i [] = accepted tt
 testHazards h i (z ∷ zs) = testHazard h i z >>= λ _. testHazards h (i + 1) zs
 
 -- "An accepted job is one to which none of 1 to 7 applies."
-unfoldable pub acceptJobBy : Limits → (s : List ℕ) → Answer Job
-acceptJobBy L s = readJobBy L s >>= λ j. testHazards (j .header) 0 (j .hazards) >>= λ _. accepted j
-
-abbrev pub acceptJob : (s : List ℕ) → Answer Job
-acceptJob = acceptJobBy limits
+unfoldable pub acceptJob : (s : List ℕ) → Answer Job
+acceptJob s = readJob s >>= λ j. testHazards (j .header) 0 (j .hazards) >>= λ _. accepted j

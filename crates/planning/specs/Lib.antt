@@ -4,4 +4,3 @@ pub mod Required
 pub mod Approached
 pub mod Reply
 pub mod Rows
-pub mod Before

@@ -7,4 +7,3 @@ pub mod SingleLaws
 pub mod RangeLaws
 pub mod QuantitiesLaws
 pub mod SumLaws
-pub mod LimitLaws

@@ -19,9 +19,9 @@ use Rattle.number.proofs.ByteLaws.{Bytes}
 use Rattle.number.proofs.WriteLaws.{small-length}
 use Rattle.runs.specs.declared.Stretch.{Stretch}
 use Rattle.runs.proofs.RunLaws.{Rising}
-use Rattle.schedule.specs.Schedule.{writeRecordBy, writeRecord, writeRecordsBy, writeRecords, writeScheduleBy, ReadRun, readSchedule}
+use Rattle.schedule.specs.Schedule.{writeRecord, writeRecords, writeSchedule, ReadRun, readSchedule}
 use Rattle.queries.specs.Walk.{headAt, recordAt}
-use Rattle.queries.specs.Lookup.{Part, Found, found, nowhere, findRecordBy, findRecord, placeInBy, placeIn, asked, lookupBy, lookup, partOf}
+use Rattle.queries.specs.Lookup.{Part, Found, found, nowhere, findRecord, placeIn, asked, lookup, partOf}
 use Rattle.queries.specs.Place.{IsPart, between}
 use Rattle.queries.specs.Query.{soFar, orLater}
 use Rattle.schedule.proofs.ScheduleLaws.{or-ten, record-stands, schedule-read}
@@ -63,11 +63,11 @@ module _ (s : List ℕ) (t from to reached k e v at : ℕ) (p : ReadRun) (b : By
       (λ rs. same rs ∙ ap (λ (i : ℕ). orLater (soFar from′ to′ reached′ t) (findRecord (p .run .end) i rs t)) (sym next))
 
   pub passed-by : t < p .run .start → Turn from to reached
-  unfolding findRecordBy
+  unfolding findRecord
   passed-by h = turned from to reached (λ rs. rw (lt-leb (p .run .start) t h))
 
   pub passed-here : reached ≤ e → p .run .start ≤ t → Turn at (p .next) (p .run .end)
-  unfolding findRecordBy
+  unfolding findRecord
   passed-here before h =
       let none = so-far-none from to reached t (omega (arith, record-follows e v s at p r .after)) in
       let long : p .next - at ≡ length (writeRecord e (p .run)) = omega (arith, next) in
@@ -80,7 +80,7 @@ module _ (s : List ℕ) (t from to reached k e v at : ℕ) (p : ReadRun) (b : By
 
 -- Behind the last record: what was found.
 pub place-over : (s : List ℕ) (t from to reached k e v at : ℕ) → Sought s t from to reached k e v at → k ≡ 0 → at ≡ length s → accepted (soFar from to reached t) ≡ placeIn s t
-unfolding placeInBy findRecordBy
+unfolding placeIn findRecord
 place-over s t from to reached k e v at w none over = go (soFar from to reached t) ∙ walk-over w none over
   where
     go : (f : Found) → accepted f ≡ accepted (orLater f nowhere)
@@ -90,11 +90,11 @@ place-over s t from to reached k e v at w none over = go (soFar from to reached 
 -- By side
 module _ (right left : List ℕ) (side t : ℕ) where
   pub lookup-side : side ≤ 1 → (s : List ℕ) → asked side right left ≡ s → lookup right left side t ≡ placeIn s t
-  unfolding lookupBy
+  unfolding lookup
   lookup-side h s e = rw (le-leb side 1 h, e)
 
   pub lookup-argument : 1 < side → lookup right left side t ≡ refused 8 0
-  unfolding lookupBy
+  unfolding lookup
   lookup-argument h = rw (lt-leb side 1 h)
 
 -- The place is within the schedule
@@ -106,7 +106,7 @@ pub record Within (i n : ℕ) (p : Part) : Type 0 where
   pub ends : p .at + p .len ≤ n
 
 find-within : (e v i : ℕ) (rs : List Stretch) (t : ℕ) (p : Part) → Rising e v rs → findRecord e i rs t ≡ found p → Within i (i + length (writeRecords e rs)) p
-unfolding findRecordBy writeRecordsBy writeRecordBy
+unfolding findRecord writeRecords writeRecord
 find-within e v i [] t p up q = impossible cc
 find-within e v i (r ∷ rs) t p up q = go (leb (r .start) t && ltb t (r .end)) q (find-within (r .end) (r .level) (i + length (writeRecord e r)) rs t p (up .1))
   where
@@ -125,7 +125,7 @@ find-within e v i (r ∷ rs) t p up q = go (leb (r .start) t && ltb t (r .end)) 
     go false c later = let w = later c in record { some = w .some; after = omega (arith, w .after); ends = omega (arith, all, w .ends) }
 
 pub place-within : (s : List ℕ) (t : ℕ) (p : Part) → Bytes s → placeIn s t ≡ accepted (found p) → Within 0 (length s) p
-unfolding placeInBy writeScheduleBy
+unfolding placeIn writeSchedule
 place-within s t p b e =
     let f = bound (readSchedule s) _ (found p) e in
     let rs = f .first in
@@ -136,7 +136,7 @@ place-within s t p b e =
 
 -- The place that lookup finds is within the schedule of the side asked for.
 pub lookup-within : (right left : List ℕ) (side t : ℕ) (p : Part) → Bytes right → Bytes left → lookup right left side t ≡ accepted (found p) → Within 0 (length (asked side right left)) p
-unfolding lookupBy
+unfolding lookup
 lookup-within right left side t p br bl e = place-within (asked side right left) t p (go (eqb side 1)) (bound (unless-refuse (leb side 1) Row.Argument) _ (found p) e .rest)
   where
     go : (b : Bool) → Bytes (if b then left else right)

@@ -14,7 +14,7 @@ use Rattle.runs.specs.declared.Stretch.{Stretch}
 use Rattle.runs.specs.RunList.{shownLevel}
 use Rattle.schedule.specs.Schedule.{readSchedule}
 use Rattle.queries.specs.Quantity.{millimetres}
-use Rattle.queries.specs.Ranges.{Range, rangesOf, areRanges, mostRanges, Counted, quantitiesBy, quantities}
+use Rattle.queries.specs.Ranges.{Range, rangesOf, areRanges, mostRanges, Counted, quantities}
 use Rattle.queries.proofs.QuantityLaws.{level-tested, argument-refused}
 use Rattle.queries.proofs.RangeLaws.{rangeAt, ranges-at, WholeRanges, whole-ranges}
 
@@ -47,17 +47,17 @@ module _ (s : List ℕ) (v : ℕ) (l : List ℕ) where
   -- Where the arguments are right, the ranges few and the schedule one, the call is accepted.
   pub quantities-accepted : AllRanged v l → length (rangesOf l) ≤ mostRanges → (rs : List Stretch) → readSchedule s ≡ accepted rs
       → quantities s v l ≡ accepted (counted rs v (rangesOf l))
-  unfolding quantitiesBy
+  unfolding quantities
   quantities-accepted a few rs read = rw (all-ranged v l .1 a, le-leb (length (rangesOf l)) mostRanges few, read)
 
   pub quantities-argument : (AllRanged v l → ⊥) → quantities s v l ≡ refused 8 0
-  unfolding quantitiesBy
+  unfolding quantities
   quantities-argument n = argument-refused (leb 1 v && leb v 6 && areRanges l) _ (all-ranged v l .0) n
 
   pub quantities-many : AllRanged v l → mostRanges < length (rangesOf l) → quantities s v l ≡ refused 11 0
-  unfolding quantitiesBy
+  unfolding quantities
   quantities-many a many = rw (all-ranged v l .1 a, lt-leb (length (rangesOf l)) mostRanges many)
 
   pub quantities-none : AllRanged v l → length (rangesOf l) ≤ mostRanges → readSchedule s ≡ refused 10 0 → quantities s v l ≡ refused 10 0
-  unfolding quantitiesBy
+  unfolding quantities
   quantities-none a few none = rw (all-ranged v l .1 a, le-leb (length (rangesOf l)) mostRanges few, none)

@@ -9,23 +9,21 @@ use lib.Dec.{leb}
 use borrow.Author.Tests.{le-leb, leb-true}
 use Rattle.refusal.specs.Answer.{Answer, accepted, refused, _>>=_}
 use Rattle.refusal.specs.Refusal.{unless-refuse}
-use Rattle.refusal.specs.Limits.{limits}
 use Rattle.refusal.specs.declared.Refusal.the-variants as Row
 use Rattle.refusal.proofs.AnswerLaws.{same-behind}
 use Rattle.refusal.proofs.TestLaws.{and-left, and-right, and-intro}
 use Rattle.runs.specs.declared.Stretch.{Stretch}
 use Rattle.runs.specs.RunList.{shownLevel}
-use Rattle.runs.proofs.RunLaws.{Rising}
-use Rattle.runs.proofs.StoredLaws.{run-list-rising}
+use Rattle.runs.proofs.RunLaws.{Rising, run-list-rising}
 use Rattle.schedule.specs.Schedule.{readSchedule}
 use Rattle.schedule.proofs.ScheduleLaws.{read-list}
 use Rattle.queries.specs.Walk.{overlaps, overlapSum}
-use Rattle.queries.specs.Quantity.{millimetres, quantityBy, quantity}
+use Rattle.queries.specs.Quantity.{millimetres, quantity}
 use Rattle.queries.proofs.OverlapLaws.{millimetres-overlaps}
 
 -- The runs of a schedule that can be read rise.
 pub read-rising : (s : List ℕ) (rs : List Stretch) → readSchedule s ≡ accepted rs → Rising 0 0 rs
-read-rising s rs e = run-list-rising rs (read-list limits s rs e)
+read-rising s rs e = run-list-rising rs (read-list s rs e)
 
 -- A test of the level, and then of a range or of many.
 pub level-tested : {P : Type 0} (v : ℕ) (t : Bool) → (t ≡ true) ↔ P → ((leb 1 v && leb v 6 && t) ≡ true) ↔ ((1 ≤ v) × (v ≤ 6) × P)
@@ -47,11 +45,11 @@ pub ranged : (v p q : ℕ) → ((leb 1 v && leb v 6 && leb p q) ≡ true) ↔ Ra
 ranged v p q = level-tested v (leb p q) (leb-true p q, le-leb p q)
 
 pub quantity-sum : (s : List ℕ) (v p q : ℕ) → Ranged v p q → quantity s v p q ≡ overlapSum s v p q
-unfolding quantityBy overlapSum
+unfolding quantity overlapSum
 quantity-sum s v p q h =
     rw (ranged v p q .1 h)
     (same-behind (readSchedule s) (λ rs. accepted (millimetres (shownLevel rs) v p q)) (λ rs. accepted (overlaps rs v p q)) (λ rs e. ap accepted (millimetres-overlaps rs (read-rising s rs e) v p q (h .0) (h .2))))
 
 pub quantity-argument : (s : List ℕ) (v p q : ℕ) → (Ranged v p q → ⊥) → quantity s v p q ≡ refused 8 0
-unfolding quantityBy
+unfolding quantity
 quantity-argument s v p q n = argument-refused (leb 1 v && leb v 6 && leb p q) _ (ranged v p q .0) n

@@ -7,17 +7,16 @@ use mathlib.Core.List.{List, [], _∷_}
 use lib.ListN.{length}
 use borrow.Author.Tests.{eq-eqb, ne-eqb}
 use Rattle.refusal.specs.Answer.{Answer, accepted, refused, _>>=_}
-use Rattle.refusal.specs.Limits.{limits}
 use Rattle.refusal.proofs.AnswerLaws.{same-behind}
 use Rattle.refusal.proofs.TestLaws.{impossible}
 use Rattle.number.specs.Number.{Reading, writeNumber}
 use Rattle.number.proofs.ByteLaws.{Bytes}
 use Rattle.number.proofs.ReadLaws.{number-read}
 use Rattle.runs.specs.declared.Stretch.{Stretch}
-use Rattle.runs.proofs.RunLaws.{Next}
-use Rattle.schedule.specs.Schedule.{headAtBy, ReadRun, recordAtBy, orTen, readRecordsBy, readScheduleBy, readSchedule}
-use Rattle.schedule.proofs.ScheduleLaws.{or-ten, follows, record-read, schedule-parts, records-rise}
-use Rattle.queries.specs.Walk.{headAt, recordAt, readRecords}
+use Rattle.runs.proofs.RunLaws.{Next, follows}
+use Rattle.schedule.specs.Schedule.{readHead, ReadRun, readRecord, orTen, readRecords, readSchedule}
+use Rattle.schedule.proofs.ScheduleLaws.{or-ten, record-read, schedule-parts, records-rise}
+use Rattle.queries.specs.Walk.{headAt, recordAt}
 
 -- What the runs read come to.
 abbrev pub thenRuns : {A : Type 0} → Answer (List Stretch) → (List Stretch → A) → Answer A
@@ -40,29 +39,29 @@ then-ten (refused x y) f q = refl
 
 module _ (s : List ℕ) where
   pub head-refused : headAt s ≡ refused 10 0 → readSchedule s ≡ refused 10 0
-  unfolding readScheduleBy
-  head-refused h = then-ten (headAtBy limits s) (λ n. readRecords (n .value) 0 0 s (n .next)) h
+  unfolding readSchedule
+  head-refused h = then-ten (readHead s) (λ n. readRecords (n .value) 0 0 s (n .next)) h
 
   module _ (n : Reading) (h : headAt s ≡ accepted n) where
     pub walk-start : {A : Type 0} (f g : List Stretch → A) → ((rs : List Stretch) → readSchedule s ≡ accepted rs → f rs ≡ g rs) → Rest s f (n .value) 0 0 (n .next) g
-    unfolding readScheduleBy
-    walk-start f g same = record { same = same-behind (readSchedule s) (λ rs. accepted (f rs)) (λ rs. accepted (g rs)) (λ rs e. ap accepted (same rs e)) ∙ rw (or-ten (headAtBy limits s) n h) }
+    unfolding readSchedule
+    walk-start f g same = record { same = same-behind (readSchedule s) (λ rs. accepted (f rs)) (λ rs. accepted (g rs)) (λ rs e. ap accepted (same rs e)) ∙ rw (or-ten (readHead s) n h) }
 
     -- The index behind the head is that behind the writing of the run count.
     pub head-length : (rs : List Stretch) → Bytes s → readSchedule s ≡ accepted rs → length (writeNumber (length rs)) ≡ n .next
     head-length rs b e =
-        let w = schedule-parts limits s rs e in
-        let same : w .head ≡ n = (let z = sym (w .head-at) ∙ or-ten (headAtBy limits s) n h in cc) in
+        let w = schedule-parts s rs e in
+        let same : w .head ≡ n = (let z = sym (w .head-at) ∙ or-ten (readHead s) n h in cc) in
         let stands = number-read s 0 n b (w .head-read ∙ ap accepted same) in
-        rw (records-rise limits s (n .value) 0 0 (n .next) rs (rw same at (w .records)) .0) (omega (arith, stands .next))
+        rw (records-rise s (n .value) 0 0 (n .next) rs (rw same at (w .records)) .0) (omega (arith, stands .next))
 
 -- A record
 
 pub record-follows : (e v : ℕ) (s : List ℕ) (at : ℕ) (p : ReadRun) → recordAt e v s at ≡ accepted p → Next e v (p .run)
-record-follows e v s at p r = follows e v (p .run) (record-read limits s e v at p (or-ten _ p r) .may)
+record-follows e v s at p r = follows e v (p .run) (record-read s e v at p (or-ten _ p r) .may)
 
-walk-step : (k e v : ℕ) (s : List ℕ) (at : ℕ) → 0 < k → readRecords k e v s at ≡ (recordAtBy limits e v s at >>= λ p. readRecords (k - 1) (p .run .end) (p .run .level) s (p .next) >>= λ rs. accepted (p .run ∷ rs))
-unfolding readRecordsBy
+walk-step : (k e v : ℕ) (s : List ℕ) (at : ℕ) → 0 < k → readRecords k e v s at ≡ (readRecord e v s at >>= λ p. readRecords (k - 1) (p .run .end) (p .run .level) s (p .next) >>= λ rs. accepted (p .run ∷ rs))
+unfolding readRecords
 walk-step zero e v s at h = absurd (omega arith)
 walk-step (suc k) e v s at h = let one : suc k - 1 ≡ k = omega arith in rw one
 
@@ -70,7 +69,7 @@ module _ {A : Type 0} {s : List ℕ} {f g : List Stretch → A} {k e v at : ℕ}
   -- The run of the record passed counts, and then those behind it.
   pub walk-passed : (p : ReadRun) (g′ : List Stretch → A) → 0 < k → recordAt e v s at ≡ accepted p → ((rs : List Stretch) → g (p .run ∷ rs) ≡ g′ rs)
       → Rest s f (k - 1) (p .run .end) (p .run .level) (p .next) g′
-  walk-passed p g′ some r same = record { same = w .same ∙ rw (walk-step k e v s at some, or-ten (recordAtBy limits e v s at) p r) (go (readRecords (k - 1) (p .run .end) (p .run .level) s (p .next))) }
+  walk-passed p g′ some r same = record { same = w .same ∙ rw (walk-step k e v s at some, or-ten (readRecord e v s at) p r) (go (readRecords (k - 1) (p .run .end) (p .run .level) s (p .next))) }
     where
       go : (rest : Answer (List Stretch)) → thenRuns (orTen (rest >>= λ rs. accepted (p .run ∷ rs))) g ≡ thenRuns (orTen rest) g′
       go (accepted rs) = ap accepted (same rs)
@@ -78,14 +77,14 @@ module _ {A : Type 0} {s : List ℕ} {f g : List Stretch → A} {k e v at : ℕ}
 
   pub walk-refused : 0 < k → recordAt e v s at ≡ refused 10 0 → refused 10 0 ≡ thenRuns (readSchedule s) f
   walk-refused some r =
-      sym (w .same ∙ ap (λ (a : Answer (List Stretch)). thenRuns a g) (ap (λ (a : Answer (List Stretch)). orTen a) (walk-step k e v s at some) ∙ then-ten (recordAtBy limits e v s at) _ r))
+      sym (w .same ∙ ap (λ (a : Answer (List Stretch)). thenRuns a g) (ap (λ (a : Answer (List Stretch)). orTen a) (walk-step k e v s at some) ∙ then-ten (readRecord e v s at) _ r))
 
   -- The end
 
   pub walk-over : k ≡ 0 → at ≡ length s → accepted (g []) ≡ thenRuns (readSchedule s) f
-  unfolding readRecordsBy
+  unfolding readRecords
   walk-over none h = sym (w .same ∙ rw (none, eq-eqb at (length s) h))
 
   pub walk-left-over : k ≡ 0 → (at ≡ length s → ⊥) → refused 10 0 ≡ thenRuns (readSchedule s) f
-  unfolding readRecordsBy
+  unfolding readRecords
   walk-left-over none h = sym (w .same ∙ rw (none, ne-eqb at (length s) h))

@@ -14,7 +14,7 @@ use types.Run.{OneOf}
 use Rattle.refusal.specs.Answer.{Answer, accepted, refused, _>>=_}
 use Rattle.refusal.specs.Refusal.{unless-refuse}
 use Rattle.refusal.specs.declared.Refusal.the-variants as Row
-use Rattle.number.specs.Number.{Reading, readingOf, numberAtBy, readNumber, writeNumber}
+use Rattle.number.specs.Number.{Reading, readingOf, numberAt, readNumber, writeNumber}
 use Rattle.number.specs.declared.Read.{Read}
 use Rattle.number.specs.declared.Read.the-variants.{Number, Ended, Malformed}
 use Rattle.number.proofs.Read
@@ -23,9 +23,9 @@ use Rattle.number.proofs.WriteLaws.{write-one}
 use Rattle.number.proofs.ReadLaws.{read-stands}
 use Rattle.number.proofs.GroupWalk.{read-none, read-one}
 use Rattle.runs.specs.RunList.{mayFollow}
-use Rattle.runs.proofs.RunLaws.{Next}
-use Rattle.schedule.specs.Schedule.{orTen, ReadRun, recordAtBy}
-use Rattle.schedule.proofs.ScheduleLaws.{runAfter, may-follow, follows}
+use Rattle.runs.proofs.RunLaws.{Next, follows}
+use Rattle.schedule.specs.Schedule.{orTen, ReadRun, readRecord}
+use Rattle.schedule.proofs.ScheduleLaws.{runAfter, may-follow}
 use Rattle.queries.specs.Walk.{recordAt, followingRun, levelAt}
 
 -- Where a `let` finds no number, by the tag that it tests.
@@ -39,16 +39,16 @@ no-number at f Malformed k = refl
 
 module _ (e v : ℕ) (s : List ℕ) (at : ℕ) where
   pub no-gap : (r : Read) → readNumber s at ≡ r → OneOf (1 ∷ 2 ∷ []) (tagOf Read.the-type r) → recordAt e v s at ≡ refused 10 0
-  unfolding recordAtBy numberAtBy
+  unfolding readRecord numberAt
   no-gap r q k = rw q (no-number at _ r k)
 
   module _ (gap i : ℕ) (first : readNumber s at ≡ Number gap i) where
     pub no-length : (r : Read) → readNumber s i ≡ r → OneOf (1 ∷ 2 ∷ []) (tagOf Read.the-type r) → recordAt e v s at ≡ refused 10 0
-    unfolding recordAtBy numberAtBy
+    unfolding readRecord numberAt
     no-length r q k = rw (first, q) (no-number i _ r k)
 
     pub two-numbers : (len j : ℕ) → readNumber s i ≡ Number len j → recordAt e v s at ≡ levelAt e v gap len s j
-    unfolding recordAtBy levelAt followingRun numberAtBy
+    unfolding readRecord levelAt followingRun numberAt
     two-numbers len j second = rw (first, second)
 
 -- The run
@@ -70,7 +70,7 @@ module _ (e v gap len lev next : ℕ) where
 
 module _ (e v gap len : ℕ) (s : List ℕ) (at : ℕ) where
   pub level-ended : length s ≤ at → levelAt e v gap len s at ≡ refused 10 0
-  unfolding levelAt numberAtBy
+  unfolding levelAt numberAt
   level-ended h = rw (read-none s at h)
 
   or-ten-run : (lev next : ℕ) → orTen (followingRun e v gap len lev next) ≡ followingRun e v gap len lev next
@@ -87,7 +87,7 @@ module _ (e v gap len : ℕ) (s : List ℕ) (at : ℕ) where
 
   -- The number that stands at an index is its byte, or has no level's value.
   pub level-byte : Bytes s → at < length s → levelAt e v gap len s at ≡ followingRun e v gap len (getD s at 0) (at + 1)
-  unfolding levelAt numberAtBy
+  unfolding levelAt numberAt
   level-byte b there = go (decLt (getD s at 0) 128)
     where
       go : Dec (getD s at 0 < 128) → levelAt e v gap len s at ≡ followingRun e v gap len (getD s at 0) (at + 1)

@@ -9,14 +9,13 @@ use Rattle.refusal.specs.Choice.{if_then_else_}
 use Rattle.refusal.specs.Answer.{Answer, accepted, refused, _>>=_}
 use Rattle.refusal.specs.Refusal.{unless-refuse, refusal}
 use Rattle.refusal.specs.declared.Refusal.the-variants as Row
-use Rattle.refusal.specs.Limits.{Limits, limits}
-use Rattle.number.specs.Number.{writeNumberBy}
+use Rattle.number.specs.Number.{writeNumber}
 use Rattle.runs.specs.declared.Stretch.{Stretch}
 use Rattle.runs.specs.Level.{Has, has}
 use Rattle.runs.specs.RunList.{shownLevel, lastEnd}
 use Rattle.queries.specs.declared.reply.Lookup.{Lookup}
 use Rattle.queries.specs.declared.reply.Lookup.the-variants as Lookup
-use Rattle.schedule.specs.Schedule.{writeRecordBy, writeRecord, writeRecords, readScheduleBy}
+use Rattle.schedule.specs.Schedule.{writeRecord, writeRecords, readSchedule}
 
 -- A part of the bytes: its first index and its length.
 pub record Part : Type 0 where
@@ -28,35 +27,26 @@ pub data Found : Type 0 where
   nowhere : Found
 
 -- The record of the run that has t, among runs whose first record stands at byte index i after a run that ended at e.
-unfoldable pub findRecordBy : Limits → (e i : ℕ) → List Stretch → (t : ℕ) → Found
-findRecordBy L e i [] t = nowhere
-findRecordBy L e i (r ∷ rs) t =
-    let n = length (writeRecordBy L e r) in
-    let rest = findRecordBy L (r .end) (i + n) rs t in
+unfoldable pub findRecord : (e i : ℕ) → List Stretch → (t : ℕ) → Found
+findRecord e i [] t = nowhere
+findRecord e i (r ∷ rs) t =
+    let n = length (writeRecord e r) in
+    let rest = findRecord (r .end) (i + n) rs t in
     if has r t then found (record { at = i; len = n }) else rest
 
-abbrev pub findRecord : (e i : ℕ) → List Stretch → (t : ℕ) → Found
-findRecord = findRecordBy limits
-
 -- Where the record is in a schedule.
-unfoldable pub placeInBy : Limits → List ℕ → (t : ℕ) → Answer Found
-placeInBy L s t = readScheduleBy L s >>= λ rs. accepted (findRecordBy L 0 (length (writeNumberBy L (length rs))) rs t)
-
-abbrev pub placeIn : List ℕ → (t : ℕ) → Answer Found
-placeIn = placeInBy limits
+unfoldable pub placeIn : List ℕ → (t : ℕ) → Answer Found
+placeIn s t = readSchedule s >>= λ rs. accepted (findRecord 0 (length (writeNumber (length rs))) rs t)
 
 -- Of two, the one of the side asked for; the right one for a bad side.
 abbrev pub asked : {A : Type 0} (side : ℕ) (right left : A) → A
 asked side right left = if eqb side 1 then left else right
 
 -- Where the record is, in the schedule of the side asked for: "8, then 10, of the asked side's schedule".
-unfoldable pub lookupBy : Limits → (right left : List ℕ) (side t : ℕ) → Answer Found
-lookupBy L right left side t =
+unfoldable pub lookup : (right left : List ℕ) (side t : ℕ) → Answer Found
+lookup right left side t =
     unless-refuse (leb side 1) Row.Argument >>= λ _.
-    placeInBy L (asked side right left) t
-
-abbrev pub lookup : (right left : List ℕ) (side t : ℕ) → Answer Found
-lookup = lookupBy limits
+    placeIn (asked side right left) t
 
 -- The part that lookup returns: "an empty part at that schedule's start where no run has the station or a refusal holds".
 abbrev pub partOf : Answer Found → Part

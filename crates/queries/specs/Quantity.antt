@@ -7,26 +7,22 @@ use lib.Dec.{leb, eqb}
 use Rattle.refusal.specs.Answer.{Answer, accepted, _>>=_}
 use Rattle.refusal.specs.Refusal.{unless-refuse, refusal}
 use Rattle.refusal.specs.declared.Refusal.the-variants as Row
-use Rattle.refusal.specs.Limits.{Limits, limits}
 use Rattle.runs.specs.RunList.{shownLevel}
 use Rattle.runs.specs.Count.{countFrom}
 use Rattle.queries.specs.declared.reply.Quantity.{Quantity}
 use Rattle.queries.specs.declared.reply.Quantity.the-variants as Quantity
-use Rattle.schedule.specs.Schedule.{readScheduleBy}
+use Rattle.schedule.specs.Schedule.{readSchedule}
 
 -- "How many millimetres of [p, q) have exactly that level."
 unfoldable pub millimetres : (f : ℕ → ℕ) → (level p q : ℕ) → ℕ
 millimetres f level p q = countFrom (λ (t : ℕ). eqb (f t) level) p (q - p)
 
 -- "8, then 10."
-unfoldable pub quantityBy : Limits → (s : List ℕ) (level p q : ℕ) → Answer ℕ
-quantityBy L s level p q =
+unfoldable pub quantity : (s : List ℕ) (level p q : ℕ) → Answer ℕ
+quantity s level p q =
     unless-refuse (leb 1 level && leb level 6 && leb p q) Row.Argument >>= λ _.
-    readScheduleBy L s >>= λ rs.
+    readSchedule s >>= λ rs.
     accepted (millimetres (shownLevel rs) level p q)
-
-abbrev pub quantity : (s : List ℕ) (level p q : ℕ) → Answer ℕ
-quantity = quantityBy limits
 
 abbrev pub quantityReply : Quantity → Answer ℕ
 quantityReply (Quantity.Millimetres n) = accepted n

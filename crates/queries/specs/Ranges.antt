@@ -9,9 +9,8 @@ use Rattle.refusal.specs.Answer.{Answer, accepted, refused, _>>=_}
 use Rattle.refusal.specs.Refusal.{unless-refuse, outcome}
 use Rattle.refusal.specs.declared.Refusal.the-variants as Row
 use Rattle.refusal.specs.Stored.{padded}
-use Rattle.refusal.specs.Limits.{Limits, limits}
 use Rattle.runs.specs.RunList.{shownLevel}
-use Rattle.schedule.specs.Schedule.{readScheduleBy}
+use Rattle.schedule.specs.Schedule.{readSchedule}
 use Rattle.queries.specs.Quantity.{millimetres}
 use Rattle.queries.specs.declared.reply.Quantities.{Quantities}
 
@@ -42,15 +41,12 @@ pub record Counted : Type 0 where
   pub quantities : List ℕ
 
 -- "More than 64 ranges is 11, after 8 and before 10." "That count equals the schedule's run count. Each quantity is what the single call gives."
-unfoldable pub quantitiesBy : Limits → (s : List ℕ) (level : ℕ) (numbers : List ℕ) → Answer Counted
-quantitiesBy L s level numbers =
+unfoldable pub quantities : (s : List ℕ) (level : ℕ) (numbers : List ℕ) → Answer Counted
+quantities s level numbers =
     unless-refuse (leb 1 level && leb level 6 && areRanges numbers) Row.Argument >>= λ _.
     unless-refuse (leb (length (rangesOf numbers)) mostRanges) Row.Ranges >>= λ _.
-    readScheduleBy L s >>= λ rs.
+    readSchedule s >>= λ rs.
     accepted (record { records = length rs; quantities = map (λ z. millimetres (shownLevel rs) level (z .p) (z .q)) (rangesOf numbers) })
-
-abbrev pub quantities : (s : List ℕ) (level : ℕ) (numbers : List ℕ) → Answer Counted
-quantities = quantitiesBy limits
 
 -- The reply, complete: done or the refusal, the count, and 64 places.
 pub record Replied : Type 0 where

@@ -7,11 +7,10 @@ use Rattle.refusal.specs.Choice.{if_then_else_}
 use Rattle.refusal.specs.Answer.{Answer, accepted, _>>=_}
 use Rattle.refusal.specs.Refusal.{unless-refuse, refusal}
 use Rattle.refusal.specs.declared.Refusal.the-variants as Row
-use Rattle.refusal.specs.Limits.{limits}
 use Rattle.number.specs.Number.{Reading, numberAt}
 use Rattle.runs.specs.declared.Stretch.{Stretch}
 use Rattle.runs.specs.RunList.{mayFollow}
-use Rattle.schedule.specs.Schedule.{orTen, headAtBy, ReadRun, recordAtBy, readRecordsBy, readSchedule}
+use Rattle.schedule.specs.Schedule.{orTen, readHead, ReadRun, readRecord, readSchedule}
 use Rattle.queries.specs.declared.walk.Head.{Head}
 use Rattle.queries.specs.declared.walk.Head.the-variants as Head
 use Rattle.queries.specs.declared.walk.Record.{Record}
@@ -20,14 +19,14 @@ use Rattle.queries.specs.declared.walk.Record.the-variants as Record
 -- The parts of reading that a function reads for itself: each refused with 10 at once.
 
 abbrev pub headAt : List ℕ → Answer Reading
-headAt s = orTen (headAtBy limits s)
+headAt s = orTen (readHead s)
 
 abbrev pub headReply : Head → Answer Reading
 headReply (Head.Count count next) = accepted (record { value = count; next = next })
 headReply Head.Bad = refusal Row.Schedule
 
 abbrev pub recordAt : (e v : ℕ) → List ℕ → (at : ℕ) → Answer ReadRun
-recordAt e v s at = orTen (recordAtBy limits e v s at)
+recordAt e v s at = orTen (readRecord e v s at)
 
 abbrev pub recordReply : Record → Answer ReadRun
 recordReply (Record.Next run next) = accepted (record { run = run; next = next })
@@ -41,10 +40,6 @@ followingRun e v gap len lev next =
 
 unfoldable pub levelAt : (e v gap len : ℕ) → List ℕ → (at : ℕ) → Answer ReadRun
 levelAt e v gap len s at = orTen (numberAt s at >>= λ lev. followingRun e v gap len (lev .value) (lev .next))
-
--- All records, as the definition reads them.
-abbrev pub readRecords : (k e v : ℕ) → List ℕ → (at : ℕ) → Answer (List Stretch)
-readRecords = readRecordsBy limits
 
 -- Sums
 

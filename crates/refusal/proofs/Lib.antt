@@ -4,4 +4,3 @@ pub mod AnswerLaws
 pub mod RowLaws
 pub mod EachLaws
 pub mod StoredLaws
-pub mod LimitLaws

@@ -2,4 +2,3 @@ pub mod Choice
 pub mod Answer
 pub mod Refusal
 pub mod Stored
-pub mod Limits

@@ -24,7 +24,7 @@ use Rattle.planning.specs.Reply.{acceptedRuns, runsAnswer}
 use Rattle.planning.proofs.EnvelopeLaws.{accepted-fits}
 use Rattle.planning.proofs.JobRunLaws.{job-run-list}
 use Rattle.report.specs.declared.Reply.the-variants.{Printed, Short}
-use Rattle.report.specs.Text.{refusedLine, runsReport, reportOf, reportedBy, reported}
+use Rattle.report.specs.Text.{refusedLine, runsReport, reportOf, reported}
 use Rattle.report.specs.Writing.{Written}
 use Rattle.report.specs.Printing.{mostText, printing, textAfter}
 use Rattle.report.proofs.ReportLaws.{report-fits}
@@ -43,7 +43,7 @@ pub record Sides (s : List ℕ) (right left : SideRuns) : Type 0 where
 
 module _ (s : List ℕ) (right : SideRuns) (answered : runsAnswer right ≡ acceptedRuns s 0) where
   pub sides-done : (left : SideRuns) → runsAnswer left ≡ acceptedRuns s 1 → right .outcome ≡ Done → Sides s right left
-  unfolding reportedBy acceptedRuns
+  unfolding reported acceptedRuns
   sides-done left e d = go (acceptJob s) refl
     where
       go : (a : Answer Job) → acceptJob s ≡ a → Sides s right left
@@ -57,7 +57,7 @@ module _ (s : List ℕ) (right : SideRuns) (answered : runsAnswer right ≡ acce
           absurd (let z : _≡_ {A = ℕ} 0 1 = (let w = rw d at q in cc) in omega arith)
 
   pub sides-refused : (x : Refusal) → right .outcome ≡ Refused x → reported s ≡ refusedLine (numberOf x) (valueOf x)
-  unfolding reportedBy acceptedRuns
+  unfolding reported acceptedRuns
   sides-refused x d = go (acceptJob s) refl
     where
       go : (a : Answer Job) → acceptJob s ≡ a → reportOf (acceptJob s) ≡ refusedLine (numberOf x) (valueOf x)

@@ -2,34 +2,30 @@
 -- Assumes nothing.
 use Prim.Native.Nat.{ℕ, _+_, _*_, _≤_}
 use native.Mathlib.Omega.{arith}
-use mathlib.Core.Path.{_≡_, refl, ap}
+use mathlib.Core.Path.{_≡_, refl}
 use mathlib.Core.Bool.{true}
 use mathlib.Core.List.{List, [], _∷_, _++_}
 use lib.ListN.{length, length-append}
 use Rattle.refusal.specs.Choice.{someOf, keep}
 use Rattle.refusal.specs.Answer.{Answer, accepted, refused}
-use Rattle.refusal.specs.Limits.{earlier}
-use Rattle.refusal.proofs.LimitLaws.{limits-wider}
-use Rattle.number.specs.Number.{writeIn, writeNumberBy, scan, readNumberBy, numberAtBy}
+use Rattle.number.specs.Number.{writeIn, writeNumber, scan, readNumber, numberAt}
 use Rattle.approach.specs.Approach.{ceilDiv, formulaLength, approachLength}
 use Rattle.approach.specs.Panel.{raised, raisedLength}
 use Rattle.job.specs.Writing.{writeNumbers}
-use Rattle.job.specs.Job.{Job, sharedRangesBy, headerRangesBy, hazardRanges, readFieldsBy, readHeaderBy, readHazardsBy, readJobBy, readRestBy}
+use Rattle.job.specs.Job.{Job, sharedRanges, headerRanges, hazardRanges, readFields, readHeader, readHazards, readJob, readRest}
 use Rattle.runs.specs.declared.Stretch.{Stretch}
 use Rattle.runs.specs.Level.{filled, highest, requiredLevel}
 use Rattle.runs.specs.Required.{insertStation, endPoints, put, runsBetween, requiredRuns}
 use Rattle.runs.specs.RunList.{isRunList, lastStation}
-use Rattle.runs.proofs.RunLaws.{Next, Rising}
-use Rattle.planning.specs.Envelope.{farther, reachOf, offsetOf, reaches, reached, lengthening, envelope, envelopes, cutToRoad, standsNear, testHazard, testHazards, acceptJobBy, acceptJob}
+use Rattle.runs.proofs.RunLaws.{Next, Rising, run-list-rising, run-list-short}
+use Rattle.planning.specs.Envelope.{farther, reachOf, offsetOf, reaches, reached, lengthening, envelope, envelopes, cutToRoad, standsNear, testHazard, testHazards, acceptJob}
 use Rattle.planning.specs.Required.{jobRuns}
 use Rattle.planning.proofs.EnvelopeLaws.{accepted-fits}
 use Rattle.planning.proofs.JobRunLaws.{job-run-list}
-use Rattle.planning.proofs.LimitLaws.{accepts-alike}
-use Rattle.report.specs.Text.{digitsIn, decimal, fields, line, rightWord, leftWord, totalWord, refusedWord, runLines, covered, totalLine, refusedLine, runsReport, reportOf, reportedBy, reported}
+use Rattle.report.specs.Text.{digitsIn, decimal, fields, line, rightWord, leftWord, totalWord, refusedWord, runLines, covered, totalLine, refusedLine, runsReport, reportOf, reported}
 use Rattle.report.specs.Printed.{printedJob, printedText}
 use Rattle.report.specs.Printing.{mostText}
 use Rattle.report.proofs.DigitLaws.{decimal-within, decimal-most}
-use Rattle.runs.proofs.StoredLaws.{run-list-rising, run-list-short}
 use Rattle.report.proofs.LineLaws.{lineOf, covered-top}
 
 -- How long the lines are
@@ -97,7 +93,7 @@ refused-fits number value = omega (arith, pair-short refusedWord number value 20
 
 -- Every report fits.
 pub report-fits : (s : List ℕ) → length (reported s) ≤ mostText
-unfolding reportedBy
+unfolding reported
 report-fits s = go (acceptJob s) refl
   where
     go : (a : Answer Job) → acceptJob s ≡ a → length (reportOf a) ≤ mostText
@@ -106,13 +102,8 @@ report-fits s = go (acceptJob s) refl
         runs-report-fits (jobRuns j 0) (jobRuns j 1) (job-run-list j 0 fits) (job-run-list j 1 fits)
     go (refused k v) e = refused-fits k v
 
--- "Bytes accepted before give the same replies": the program prints the same.
-pub report-before-11 : (s : List ℕ) (j : Job) → readJobBy earlier s ≡ accepted j → reported s ≡ reportedBy earlier s
-unfolding reportedBy
-report-before-11 s j e = ap reportOf (accepts-alike limits-wider s j e)
-
 -- The job on paper
 
 pub printed-report : reported (writeNumbers printedJob) ≡ printedText
-unfolding writeNumbers printedJob printedText someOf keep writeIn writeNumberBy scan readNumberBy numberAtBy ceilDiv formulaLength approachLength raised raisedLength sharedRangesBy headerRangesBy hazardRanges readFieldsBy readHeaderBy readHazardsBy readRestBy readJobBy farther reachOf offsetOf reaches reached lengthening envelope envelopes cutToRoad standsNear testHazard testHazards acceptJobBy filled highest requiredLevel insertStation endPoints put runsBetween requiredRuns jobRuns digitsIn decimal fields line runLines covered runsReport reportedBy
+unfolding writeNumbers printedJob printedText someOf keep writeIn writeNumber scan readNumber numberAt ceilDiv formulaLength approachLength raised raisedLength sharedRanges headerRanges hazardRanges readFields readHeader readHazards readRest readJob farther reachOf offsetOf reaches reached lengthening envelope envelopes cutToRoad standsNear testHazard testHazards acceptJob filled highest requiredLevel insertStation endPoints put runsBetween requiredRuns jobRuns digitsIn decimal fields line runLines covered runsReport reported
 printed-report = refl

@@ -5,10 +5,9 @@ use mathlib.Core.List.{List, [], _∷_, _++_}
 use lib.Dec.{ltb}
 use Rattle.refusal.specs.Choice.{if_then_else_}
 use Rattle.refusal.specs.Answer.{Answer, accepted, refused}
-use Rattle.refusal.specs.Limits.{Limits, limits}
 use Rattle.job.specs.Job.{Job}
 use Rattle.runs.specs.declared.Stretch.{Stretch}
-use Rattle.planning.specs.Envelope.{acceptJobBy}
+use Rattle.planning.specs.Envelope.{acceptJob}
 use Rattle.planning.specs.Required.{jobRuns}
 
 -- Numbers
@@ -84,8 +83,5 @@ reportOf (accepted j) = runsReport (jobRuns j 0) (jobRuns j 1)
 reportOf (refused k v) = refusedLine k v
 
 -- What is printed for the job bytes s.
-unfoldable pub reportedBy : Limits → (s : List ℕ) → List ℕ
-reportedBy L s = reportOf (acceptJobBy L s)
-
-abbrev pub reported : (s : List ℕ) → List ℕ
-reported = reportedBy limits
+unfoldable pub reported : (s : List ℕ) → List ℕ
+reported s = reportOf (acceptJob s)

@@ -7,7 +7,6 @@ pub mod LeastLaws
 pub mod ChangeLaws
 -- Run lists, and the required runs.
 pub mod RunLaws
-pub mod LimitLaws
 pub mod RunsOfLaws
 pub mod PointLaws
 pub mod RequiredLaws

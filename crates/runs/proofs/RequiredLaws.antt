@@ -11,7 +11,6 @@ use lib.ListN.{length}
 use lib.Dec.{ltb, eqb}
 use borrow.Author.Tests.{ltb-true, lt-ltb, eqb-true, eq-eqb}
 use Rattle.refusal.specs.Choice.{if_then_else_}
-use Rattle.refusal.specs.Limits.{limits}
 use Rattle.refusal.proofs.TestLaws.{and-left, and-right, and-intro, not-both}
 use Rattle.refusal.proofs.EachLaws.{cons-each}
 use Rattle.runs.specs.declared.Stretch.{Stretch}
@@ -132,4 +131,4 @@ module _ (es : List Stretch) (G : ℕ) where
 
     -- Of up to 256 envelopes there are up to 511 runs.
     pub required-run-list : length es ≤ 256 → isRunList (requiredRuns es G) ≡ true
-    required-run-list h = list-test limits (requiredRuns es G) (omega (arith, required .1, points-length es)) (required-runs .rising)
+    required-run-list h = list-test (requiredRuns es G) (omega (arith, required .1, points-length es)) (required-runs .rising)

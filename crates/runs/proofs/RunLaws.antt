@@ -11,30 +11,23 @@ use lib.ListN.{length}
 use lib.Dec.{ltb, leb, eqb}
 use borrow.Author.Tests.{ltb-true, leb-true, lt-ltb, le-ltb, lt-leb, le-leb, eqb-true, eq-eqb, not-true}
 use Rattle.refusal.specs.Choice.{if_then_else_}
-use Rattle.refusal.specs.Limits.{Limits, limits}
 use Rattle.refusal.proofs.TestLaws.{and-left, and-right, and-intro, decided, not-both}
 use Rattle.runs.specs.declared.Stretch.{Stretch}
 use Rattle.runs.specs.Level.{Has}
-use Rattle.runs.specs.RunList.{mostRuns, mayFollowBy, risingRunsBy, isRunListBy, shownLevel}
+use Rattle.runs.specs.RunList.{mostRuns, lastStation, mayFollow, risingRuns, isRunList, shownLevel}
 
 -- A run that may follow one that ended at e with level v.
-pub record NextBy (L : Limits) (e v : ℕ) (r : Stretch) : Type 0 where
+pub record Next (e v : ℕ) (r : Stretch) : Type 0 where
   pub after : e ≤ r .start
   pub long : r .start < r .end
-  pub ends : r .end ≤ L .lastStation
+  pub ends : r .end ≤ lastStation
   pub low : 1 ≤ r .level
   pub top : r .level ≤ 6
   pub differs : e ≡ r .start → v ≢ r .level
 
-abbrev pub Next : (e v : ℕ) → Stretch → Type 0
-Next = NextBy limits
-
-abbrev pub RisingBy : Limits → ℕ → ℕ → List Stretch → Type 0
-RisingBy L e v [] = Unit {0}
-RisingBy L e v (r ∷ rs) = NextBy L e v r × RisingBy L (r .end) (r .level) rs
-
 abbrev pub Rising : ℕ → ℕ → List Stretch → Type 0
-Rising = RisingBy limits
+Rising e v [] = Unit {0}
+Rising e v (r ∷ rs) = Next e v r × Rising (r .end) (r .level) rs
 
 apart : (a b c d : ℕ) → (a ≡ b → c ≢ d) → not (eqb a b && eqb c d) ≡ true
 apart a b c d h = go (decided (eqb a b)) (decided (eqb c d))
@@ -45,58 +38,51 @@ apart a b c d h = go (decided (eqb a b)) (decided (eqb c d))
     go (inr p) d = rw p
 
 -- The tests, and the facts that they tell.
-module _ (L : Limits) where
-  follows : (e v : ℕ) (r : Stretch) → mayFollowBy L e v r ≡ true → NextBy L e v r
-  unfolding mayFollowBy
-  follows e v r h =
-      let c2 = leb e (r .start) && ltb (r .start) (r .end) in
-      let c3 = c2 && leb (r .end) (L .lastStation) in
-      let c4 = c3 && leb 1 (r .level) in
-      let c5 = c4 && leb (r .level) 6 in
-      let h5 = and-left c5 _ h in
-      let h4 = and-left c4 _ h5 in
-      let h3 = and-left c3 _ h4 in
-      let h2 = and-left c2 _ h3 in
-      record {
-        after = leb-true _ _ (and-left (leb e (r .start)) _ h2);
-        long = ltb-true _ _ (and-right (leb e (r .start)) _ h2);
-        ends = leb-true _ _ (and-right c2 _ h3);
-        low = leb-true _ _ (and-right c3 _ h4);
-        top = leb-true _ _ (and-right c4 _ h5);
-        differs = λ p q. not-both (and-intro (eq-eqb _ _ p) (eq-eqb _ _ q)) (not-true _ (and-right c5 _ h));
-      }
+pub follows : (e v : ℕ) (r : Stretch) → mayFollow e v r ≡ true → Next e v r
+unfolding mayFollow
+follows e v r h =
+    let c2 = leb e (r .start) && ltb (r .start) (r .end) in
+    let c3 = c2 && leb (r .end) lastStation in
+    let c4 = c3 && leb 1 (r .level) in
+    let c5 = c4 && leb (r .level) 6 in
+    let h5 = and-left c5 _ h in
+    let h4 = and-left c4 _ h5 in
+    let h3 = and-left c3 _ h4 in
+    let h2 = and-left c2 _ h3 in
+    record {
+      after = leb-true _ _ (and-left (leb e (r .start)) _ h2);
+      long = ltb-true _ _ (and-right (leb e (r .start)) _ h2);
+      ends = leb-true _ _ (and-right c2 _ h3);
+      low = leb-true _ _ (and-right c3 _ h4);
+      top = leb-true _ _ (and-right c4 _ h5);
+      differs = λ p q. not-both (and-intro (eq-eqb _ _ p) (eq-eqb _ _ q)) (not-true _ (and-right c5 _ h));
+    }
 
-  pub rising-by : (e v : ℕ) (rs : List Stretch) → risingRunsBy L e v rs ≡ true → RisingBy L e v rs
-  unfolding risingRunsBy
-  rising-by e v [] h = tt
-  rising-by e v (r ∷ rs) h = (follows e v r (and-left (mayFollowBy L e v r) _ h), rising-by (r .end) (r .level) rs (and-right (mayFollowBy L e v r) _ h))
+pub rising : (e v : ℕ) (rs : List Stretch) → risingRuns e v rs ≡ true → Rising e v rs
+unfolding risingRuns
+rising e v [] h = tt
+rising e v (r ∷ rs) h = (follows e v r (and-left (mayFollow e v r) _ h), rising (r .end) (r .level) rs (and-right (mayFollow e v r) _ h))
 
-  pub rising-test-by : (e v : ℕ) (rs : List Stretch) → RisingBy L e v rs → risingRunsBy L e v rs ≡ true
-  unfolding risingRunsBy mayFollowBy
-  rising-test-by e v [] h = refl
-  rising-test-by e v (r ∷ rs) h =
-      let n = h .0 in
-      and-intro (and-intro (and-intro (and-intro (and-intro (and-intro (le-leb _ _ (n .after)) (lt-ltb _ _ (n .long))) (le-leb _ _ (n .ends))) (le-leb _ _ (n .low))) (le-leb _ _ (n .top)))
-      (apart e (r .start) v (r .level) (n .differs))) (rising-test-by (r .end) (r .level) rs (h .1))
+pub rising-test : (e v : ℕ) (rs : List Stretch) → Rising e v rs → risingRuns e v rs ≡ true
+unfolding risingRuns mayFollow
+rising-test e v [] h = refl
+rising-test e v (r ∷ rs) h =
+    let n = h .0 in
+    and-intro (and-intro (and-intro (and-intro (and-intro (and-intro (le-leb _ _ (n .after)) (lt-ltb _ _ (n .long))) (le-leb _ _ (n .ends))) (le-leb _ _ (n .low))) (le-leb _ _ (n .top)))
+    (apart e (r .start) v (r .level) (n .differs))) (rising-test (r .end) (r .level) rs (h .1))
 
-  -- A run list is short, and its runs rise.
-  pub list-short : (rs : List Stretch) → isRunListBy L rs ≡ true → length rs ≤ mostRuns
-  unfolding isRunListBy
-  list-short rs h = leb-true (length rs) mostRuns (and-left _ (risingRunsBy L 0 0 rs) h)
+-- A run list is short, and its runs rise.
+pub run-list-short : (rs : List Stretch) → isRunList rs ≡ true → length rs ≤ mostRuns
+unfolding isRunList
+run-list-short rs h = leb-true (length rs) mostRuns (and-left _ (risingRuns 0 0 rs) h)
 
-  pub list-rising : (rs : List Stretch) → isRunListBy L rs ≡ true → RisingBy L 0 0 rs
-  unfolding isRunListBy
-  list-rising rs h = rising-by 0 0 rs (and-right (leb (length rs) mostRuns) _ h)
+pub run-list-rising : (rs : List Stretch) → isRunList rs ≡ true → Rising 0 0 rs
+unfolding isRunList
+run-list-rising rs h = rising 0 0 rs (and-right (leb (length rs) mostRuns) _ h)
 
-  pub list-test : (rs : List Stretch) → length rs ≤ mostRuns → RisingBy L 0 0 rs → isRunListBy L rs ≡ true
-  unfolding isRunListBy
-  list-test rs short h = and-intro (le-leb (length rs) mostRuns short) (rising-test-by 0 0 rs h)
-
-pub rising : (e v : ℕ) (rs : List Stretch) → risingRunsBy limits e v rs ≡ true → Rising e v rs
-rising = rising-by limits
-
-pub rising-test : (e v : ℕ) (rs : List Stretch) → Rising e v rs → risingRunsBy limits e v rs ≡ true
-rising-test = rising-test-by limits
+pub list-test : (rs : List Stretch) → length rs ≤ mostRuns → Rising 0 0 rs → isRunList rs ≡ true
+unfolding isRunList
+list-test rs short h = and-intro (le-leb (length rs) mostRuns short) (rising-test 0 0 rs h)
 
 -- A run that follows one may follow another.
 pub follow-other : {e v p w : ℕ} {r : Stretch} → p ≤ r .start → (p ≡ r .start → w ≢ r .level) → Next e v r → Next p w r

@@ -9,7 +9,6 @@ use mathlib.Core.Bool.{true}
 use mathlib.Core.List.{List, [], _∷_, _++_, map, map-append, append-assoc, List·Memᴰ, List·Memᴰ·head, List·Memᴰ·not-nil, Memᴰ·append-right}
 use lib.ListN.{length, getD, set, length-append, length-map, List·getD-append, List·getD-map}
 use lib.Seq.{ext-getD, getD-at, set-set}
-use Rattle.refusal.specs.Limits.{limits}
 use Rattle.refusal.proofs.EachLaws.{snoc-each}
 use Rattle.refusal.proofs.StoredLaws.{padded-more, padded-clear}
 use Rattle.runs.specs.declared.Stretch.{Stretch}
@@ -18,7 +17,7 @@ use Rattle.runs.specs.declared.Envelopes.{Envelopes}
 use Rattle.runs.specs.RunList.{mostRuns, isRunList, lastEnd, runsTo, runsOf}
 use Rattle.runs.specs.Stored.{column, storedRuns}
 use Rattle.runs.proofs.IndexLaws.{Indexed, indexed-last, indexed-more}
-use Rattle.runs.proofs.RunLaws.{Next, Rising, list-rising, list-short}
+use Rattle.runs.proofs.RunLaws.{Next, Rising, run-list-rising, run-list-short}
 use Rattle.runs.proofs.RunsOfLaws.{stretch-path}
 
 -- The level of the last of the runs; v where there is none.
@@ -30,12 +29,6 @@ lastLevel v (r ∷ rs) = lastLevel (r .level) rs
 pub next-after : (e v : ℕ) (rs : List Stretch) (r : Stretch) (ss : List Stretch) → Rising e v (rs ++ r ∷ ss) → Next (lastEnd e rs) (lastLevel v rs) r
 next-after e v [] r ss h = h .0
 next-after e v (x ∷ rs) r ss h = next-after (x .end) (x .level) rs r ss (h .1)
-
-pub run-list-rising : (rs : List Stretch) → isRunList rs ≡ true → Rising 0 0 rs
-run-list-rising = list-rising limits
-
-pub run-list-short : (rs : List Stretch) → isRunList rs ≡ true → length rs ≤ mostRuns
-run-list-short = list-short limits
 
 abbrev pub noStretch : Stretch
 noStretch = record { start = 0; end = 0; level = 0 }

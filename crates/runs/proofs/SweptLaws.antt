@@ -12,7 +12,7 @@ use Rattle.runs.specs.Stand.{AllSound, Raised, distinctTo, Stands}
 use Rattle.runs.specs.Steps.{Places, Room, Stepped, envelopesTo, Sweepable, Swept}
 use Rattle.runs.specs.Required.{requiredRuns}
 use Rattle.runs.specs.RunList.{lastStation, mostRuns}
-use Rattle.runs.proofs.StoredLaws.{run-list-short}
+use Rattle.runs.proofs.RunLaws.{run-list-short}
 use Rattle.runs.proofs.RunsOfLaws.{runs-of-unique}
 use Rattle.runs.proofs.RequiredLaws.{required-runs, required-run-list}
 use Rattle.runs.proofs.SweepLaws.{tops-fall, above-small}

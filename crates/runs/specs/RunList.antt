@@ -8,7 +8,6 @@ use mathlib.Core.Logic.{_≢_}
 use lib.ListN.{length, getD}
 use lib.Dec.{ltb, leb, eqb}
 use Rattle.refusal.specs.Choice.{if_then_else_}
-use Rattle.refusal.specs.Limits.{Limits, limits}
 use Rattle.runs.specs.declared.Stretch.{Stretch}
 use Rattle.runs.specs.declared.RunList.{RunList}
 use Rattle.runs.specs.declared.Envelopes.{Envelopes}
@@ -27,32 +26,23 @@ mostRuns = 511
 
 -- "Run ends follow the new limit": 1,000,000,000,000.
 abbrev pub lastStation : ℕ
-lastStation = limits .lastStation
+lastStation = 1000000000000
 
 -- A run that may follow one that ended at e with level v: rising, "lengths from 1, levels 1 to 6, ends up to" the last station, "touching runs of
 -- different level".
-unfoldable pub mayFollowBy : Limits → (e v : ℕ) → Stretch → Bool
-mayFollowBy L e v r =
-    leb e (r .start) && ltb (r .start) (r .end) && leb (r .end) (L .lastStation) && leb 1 (r .level) && leb (r .level) 6
+unfoldable pub mayFollow : (e v : ℕ) → Stretch → Bool
+mayFollow e v r =
+    leb e (r .start) && ltb (r .start) (r .end) && leb (r .end) lastStation && leb 1 (r .level) && leb (r .level) 6
     && not (eqb e (r .start) && eqb v (r .level))
 
-abbrev pub mayFollow : (e v : ℕ) → Stretch → Bool
-mayFollow = mayFollowBy limits
-
 -- Runs after one that ended at e with level v.
-unfoldable pub risingRunsBy : Limits → (e v : ℕ) → List Stretch → Bool
-risingRunsBy L e v [] = true
-risingRunsBy L e v (r ∷ rs) = mayFollowBy L e v r && risingRunsBy L (r .end) (r .level) rs
-
-abbrev pub risingRuns : (e v : ℕ) → List Stretch → Bool
-risingRuns = risingRunsBy limits
+unfoldable pub risingRuns : (e v : ℕ) → List Stretch → Bool
+risingRuns e v [] = true
+risingRuns e v (r ∷ rs) = mayFollow e v r && risingRuns (r .end) (r .level) rs
 
 -- "A run list has at most 511 runs." No run has level 0, so the first one differs from what stands before it.
-unfoldable pub isRunListBy : Limits → List Stretch → Bool
-isRunListBy L rs = leb (length rs) mostRuns && risingRunsBy L 0 0 rs
-
-abbrev pub isRunList : List Stretch → Bool
-isRunList = isRunListBy limits
+unfoldable pub isRunList : List Stretch → Bool
+isRunList rs = leb (length rs) mostRuns && risingRuns 0 0 rs
 
 -- "At t a schedule shows the level of the run that has t, in the run list whose writing it is, else 0."
 unfoldable pub shownLevel : List Stretch → (t : ℕ) → ℕ

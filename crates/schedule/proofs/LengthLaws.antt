@@ -6,19 +6,17 @@ use mathlib.Core.Path.{_≡_, refl}
 use mathlib.Core.Bool.{true}
 use mathlib.Core.List.{List, [], _∷_, _++_, List·Memᴰ, List·Memᴰ·head, List·Memᴰ·tail}
 use lib.ListN.{length, length-append}
-use Rattle.refusal.specs.Limits.{limits}
 use Rattle.number.specs.Number.{writeNumber}
 use Rattle.number.proofs.WriteLaws.{number-length, small-length, middle-length, long-length}
 use Rattle.runs.specs.declared.Stretch.{Stretch}
 use Rattle.runs.specs.RunList.{isRunList}
 use Rattle.runs.proofs.LevelLaws.{EndsBy}
-use Rattle.runs.proofs.RunLaws.{Rising}
-use Rattle.runs.proofs.StoredLaws.{run-list-rising, run-list-short}
-use Rattle.schedule.specs.Schedule.{writeRecordBy, writeRecord, writeRecordsBy, writeRecords, writeScheduleBy, writeSchedule}
+use Rattle.runs.proofs.RunLaws.{Rising, run-list-rising, run-list-short}
+use Rattle.schedule.specs.Schedule.{writeRecord, writeRecords, writeSchedule}
 
 -- Eleven bytes for each record, and a sixth for a gap or a length from 2 to the 35th on.
 records-length : (e v E : ℕ) (rs : List Stretch) → Rising e v rs → EndsBy E rs → length (writeRecords e rs) ≤ 11 * length rs + (E - e) / 34359738368
-unfolding writeRecordsBy writeRecordBy
+unfolding writeRecords writeRecord
 records-length e v E [] h by = omega arith
 records-length e v E (r ∷ rs) h by =
     rw (length-append (writeRecord e r) (writeRecords (r .end) rs), length-append (writeNumber (r .start - e)) (writeNumber (r .end - r .start) ++ writeNumber (r .level)), length-append (writeNumber (r .end - r .start)) (writeNumber (r .level)))
@@ -35,11 +33,11 @@ records-length e v E (r ∷ rs) h by =
 
 -- Runs on a road from A on.
 abbrev pub OnRoadFrom : (A : ℕ) → List Stretch → Type 0
-OnRoadFrom A rs = (r : Stretch) → List·Memᴰ r rs → (A ≤ r .start) × (r .end ≤ A + limits .longestRoad)
+OnRoadFrom A rs = (r : Stretch) → List·Memᴰ r rs → (A ≤ r .start) × (r .end ≤ A + 2000000000)
 
 -- Only the first gap may be longer than a road.
 road-records : (A : ℕ) (ss : List Stretch) → Rising 0 0 ss → OnRoadFrom A ss → length (writeRecords 0 ss) ≤ 11 * length ss + 1
-unfolding writeRecordsBy writeRecordBy
+unfolding writeRecords writeRecord
 road-records A [] u o = omega arith
 road-records A (r ∷ ss) u o =
     let here = o r (List·Memᴰ·head refl) in
@@ -52,13 +50,13 @@ road-records A (r ∷ ss) u o =
       here .0,
       here .1,
       u .0 .long,
-      records-length (r .end) (r .level) (A + limits .longestRoad) ss (u .1) (λ x m. o x (List·Memᴰ·tail m) .1),
+      records-length (r .end) (r .level) (A + 2000000000) ss (u .1) (λ x m. o x (List·Memᴰ·tail m) .1),
     ))
 
 -- A schedule of one road has at most 5,624 bytes: two for the count, eleven for each of 511 records, and a sixth for the
 -- first gap.
 pub road-bytes : (A : ℕ) (rs : List Stretch) → isRunList rs ≡ true → OnRoadFrom A rs → length (writeSchedule rs) ≤ 5624
-unfolding writeScheduleBy
+unfolding writeSchedule
 road-bytes A rs h on =
     let few = run-list-short rs h in
     rw (length-append (writeNumber (length rs)) (writeRecords 0 rs)) (omega (arith, middle-length (length rs) (omega arith), road-records A rs (run-list-rising rs h) on))

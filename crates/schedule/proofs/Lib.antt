@@ -3,4 +3,3 @@ pub mod ScheduleLaws
 pub mod LengthLaws
 pub mod PlanLaws
 pub mod PlannedLaws
-pub mod LimitLaws

@@ -20,7 +20,7 @@ use Rattle.runs.specs.Stored.{StoredEnvelopes}
 use Rattle.runs.proofs.RequiredLaws.{required-run-list}
 use Rattle.runs.proofs.StoredLaws.{runs-length}
 use Rattle.planning.specs.declared.Overhangs.{Overhangs}
-use Rattle.planning.specs.Envelope.{sideOverhangs, testHazards, acceptJobBy, acceptJob}
+use Rattle.planning.specs.Envelope.{sideOverhangs, testHazards, acceptJob}
 use Rattle.planning.specs.Required.{jobRuns}
 use Rattle.planning.specs.Reply.{cutsOf, testedEnvelopes, testedRuns}
 use Rattle.planning.specs.declared.accept.SideEnvelopes.{SideEnvelopes}
@@ -30,7 +30,7 @@ use Rattle.planning.proofs.EnvelopeLaws.{AcceptedFits, hazards-passed}
 use Rattle.planning.proofs.JobRunLaws.{job-run-list}
 use Rattle.planning.proofs.RoadLaws.{runs-on-road}
 use Rattle.schedule.specs.Schedule.{writeSchedule}
-use Rattle.schedule.specs.Plan.{PlannedSide, fitted, planBy, plan, outputAfter}
+use Rattle.schedule.specs.Plan.{PlannedSide, fitted, plan, outputAfter}
 use mathlib.Core.Bool.{true}
 use native.Mathlib.Omega.{arith}
 use native.Mathlib.Nat.{zero-add}
@@ -57,7 +57,7 @@ placed-first out w h = placed-fits out 0 w (omega arith) ∙ ap (λ (n : ℕ). w
 
 -- The output is as long as before.
 plan-fits : (s : List ℕ) (side room : ℕ) (p : PlannedSide) → plan s side room ≡ accepted p → length (p .schedule) ≤ room
-unfolding planBy fitted
+unfolding plan fitted
 plan-fits s side room p e =
     let b1 = bound (unless-refuse (leb side 1) Row.Argument) _ p e in
     let b2 = bound (acceptJob s) _ p (b1 .rest) in
@@ -75,12 +75,12 @@ output-length s side out = go (plan s side (length out)) refl
     go (refused k v) e = refl
 
 pub plan-bad-side : (s : List ℕ) (side room : ℕ) → 1 < side → plan s side room ≡ refused 8 0
-unfolding planBy
+unfolding plan
 plan-bad-side s side room h = rw (lt-leb side 1 h)
 
 -- By how the job was read.
 pub plan-read : (s : List ℕ) (side room : ℕ) {j : Job} → side ≤ 1 → readJob s ≡ accepted j → plan s side room ≡ testedPlan j side room
-unfolding planBy acceptJobBy testedPlan testedEnvelopes jobRuns
+unfolding plan acceptJob testedPlan testedEnvelopes jobRuns
 plan-read s side room {j} h e = rw (le-leb side 1 h, e) (go (testHazards (j .header) 0 (j .hazards)))
   where
     go : (a : Answer (Unit {0})) → ((a >>= λ _. accepted j) >>= λ k. fitted (writeSchedule (jobRuns k side)) (sideOverhangs k side) room)
@@ -89,7 +89,7 @@ plan-read s side room {j} h e = rw (le-leb side 1 h, e) (go (testHazards (j .hea
     go (refused k v) = refl
 
 pub plan-unread : (s : List ℕ) (side room : ℕ) (x : Refusal) → side ≤ 1 → readJob s ≡ refusal x → plan s side room ≡ refusal x
-unfolding planBy acceptJobBy
+unfolding plan acceptJob
 plan-unread s side room x h e = rw (le-leb side 1 h, e)
 
 -- A planned schedule has at most 5,624 bytes.

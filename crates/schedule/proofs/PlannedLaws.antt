@@ -21,13 +21,13 @@ use Rattle.planning.proofs.EnvelopeLaws.{AcceptedFits, accepted-fits, domain-of
 use Rattle.planning.proofs.FormulaLaws.{formula-level}
 use Rattle.planning.proofs.JobRunLaws.{job-runs, job-run-list}
 use Rattle.schedule.specs.Schedule.{writeSchedule, readSchedule}
-use Rattle.schedule.specs.Plan.{fitted, planBy, plan}
+use Rattle.schedule.specs.Plan.{fitted, plan}
 use Rattle.schedule.specs.Planned.{Accepted, scheduleAlone, Planned, scheduleLevel}
 use Rattle.schedule.proofs.ScheduleLaws.{read-schedule}
 
 pub planned-is : (s : List ℕ) (j : Job) (side room : ℕ) → Accepted s j → side ≤ 1 → length (writeSchedule (jobRuns j side)) ≤ room
     → plan s side room ≡ accepted (record { schedule = writeSchedule (jobRuns j side); overhangs = sideOverhangs j side })
-unfolding planBy fitted
+unfolding plan fitted
 planned-is s j side room a h r = rw (le-leb side 1 h, a, le-leb (length (writeSchedule (jobRuns j side))) room r)
 
 pub planned-writing : (s : List ℕ) (j : Job) (side : ℕ) → Accepted s j → side ≤ 1 → Planned s side (writeSchedule (jobRuns j side))

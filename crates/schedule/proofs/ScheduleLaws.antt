@@ -11,26 +11,20 @@ use lib.Dec.{leb, eqb}
 use borrow.Author.Tests.{le-leb, eqb-true, eq-eqb}
 use Rattle.refusal.specs.Answer.{Answer, accepted, refused, _>>=_}
 use Rattle.refusal.specs.declared.Refusal.the-variants as Row
-use Rattle.refusal.specs.Limits.{Limits, limits}
 use Rattle.refusal.proofs.AnswerLaws.{bound, passed}
 use Rattle.refusal.proofs.TestLaws.{and-left, and-intro, impossible}
-use Rattle.number.specs.Number.{writeNumber, Reading, numberAtBy}
+use Rattle.number.specs.Number.{writeNumber, Reading, numberAt}
 use Rattle.number.proofs.ReadLaws.{read-number, after-number, number-read}
 use Rattle.number.proofs.ByteLaws.{Bytes}
 use Rattle.runs.specs.declared.Stretch.{Stretch}
-use Rattle.runs.specs.RunList.{mostRuns, mayFollowBy, mayFollow, risingRunsBy, isRunListBy, isRunList}
-use Rattle.runs.proofs.RunLaws.{Next, Rising, rising, rising-test}
-use Rattle.runs.proofs.StoredLaws.{run-list-rising, run-list-short}
-use Rattle.schedule.specs.Schedule.{writeRecordBy, writeRecord, writeRecordsBy, writeRecords, writeScheduleBy, writeSchedule, IsSchedule, orTen, headAtBy, ReadRun, recordAtBy, readRecordsBy, readScheduleBy, readSchedule}
+use Rattle.runs.specs.RunList.{mostRuns, mayFollow, risingRuns, isRunList}
+use Rattle.runs.proofs.RunLaws.{Next, Rising, rising-test, run-list-rising, run-list-short}
+use Rattle.schedule.specs.Schedule.{writeRecord, writeRecords, writeSchedule, IsSchedule, orTen, readHead, ReadRun, readRecord, readRecords, readSchedule}
 
 -- Which run may follow another.
 pub may-follow : (e v : ℕ) (r : Stretch) → Next e v r → mayFollow e v r ≡ true
-unfolding risingRunsBy
+unfolding risingRuns
 may-follow e v r n = and-left (mayFollow e v r) true (rising-test e v (r ∷ []) (n, tt))
-
-pub follows : (e v : ℕ) (r : Stretch) → mayFollow e v r ≡ true → Next e v r
-unfolding risingRunsBy
-follows e v r h = rising e v (r ∷ []) (and-intro h refl) .0
 
 -- What is written is read
 
@@ -39,8 +33,8 @@ pub after-bytes : (s : List ℕ) (at : ℕ) (w rest : List ℕ) → drop at s �
 after-bytes s at w rest q = sym (drop-drop (length w) at s) ∙ rw q (drop-append-seam w rest)
 
 record-written : (s : List ℕ) (e v at : ℕ) (r : Stretch) (rest : List ℕ) → Next e v r → drop at s ≡ writeRecord e r ++ rest
-    → recordAtBy limits e v s at ≡ accepted (record { run = r; next = at + length (writeRecord e r) })
-unfolding recordAtBy writeRecordBy
+    → readRecord e v s at ≡ accepted (record { run = r; next = at + length (writeRecord e r) })
+unfolding readRecord writeRecord
 record-written s e v at r rest n q =
     rw (read-number s at gap (writeNumber len ++ behind) (omega (arith, n .long, n .ends)) first)
     (rw (read-number s (at + length (writeNumber gap)) len behind (omega (arith, n .ends)) second)
@@ -73,8 +67,8 @@ record-written s e v at r rest n q =
     third = after-number s (at + length (writeNumber gap)) len behind second
 
 records-written : (s : List ℕ) (e v at : ℕ) (rs : List Stretch) → Rising e v rs → drop at s ≡ writeRecords e rs → at + length (writeRecords e rs) ≡ length s
-    → readRecordsBy limits (length rs) e v s at ≡ accepted rs
-unfolding readRecordsBy writeRecordsBy
+    → readRecords (length rs) e v s at ≡ accepted rs
+unfolding readRecords writeRecords
 records-written s e v at [] up q all = rw (eq-eqb at (length s) (omega arith))
 records-written s e v at (r ∷ rs) up q all =
     rw (
@@ -85,7 +79,7 @@ records-written s e v at (r ∷ rs) up q all =
 
 -- Reading gives back the run list that was written.
 pub read-schedule : (rs : List Stretch) → isRunList rs ≡ true → readSchedule (writeSchedule rs) ≡ accepted rs
-unfolding readScheduleBy headAtBy writeScheduleBy
+unfolding readSchedule readHead writeSchedule
 read-schedule rs h =
     let count = writeNumber (length rs) in
     let s = count ++ writeRecords 0 rs in
@@ -107,49 +101,49 @@ or-ten-refused (accepted a) k v e = impossible cc
 or-ten-refused (refused x y) k v e = refl
 
 pub refused-ten : (s : List ℕ) (k v : ℕ) → readSchedule s ≡ refused k v → readSchedule s ≡ refused 10 0
-unfolding readScheduleBy
-refused-ten s k v e = or-ten-refused (headAtBy limits s >>= λ n. readRecordsBy limits (n .value) 0 0 s (n .next)) k v e
+unfolding readSchedule
+refused-ten s k v e = or-ten-refused (readHead s >>= λ n. readRecords (n .value) 0 0 s (n .next)) k v e
 
 -- The run of a record's three numbers.
 abbrev pub runAfter : (e gap len lev : ℕ) → Stretch
 runAfter e gap len lev = record { start = e + gap; end = e + gap + len; level = lev }
 
 -- What is known of a record that was read: its numbers, and that its run may follow.
-pub record RecordRead (L : Limits) (e v : ℕ) (s : List ℕ) (at : ℕ) (p : ReadRun) : Type 0 where
+pub record RecordRead (e v : ℕ) (s : List ℕ) (at : ℕ) (p : ReadRun) : Type 0 where
   pub gap : Reading
   pub len : Reading
   pub lev : Reading
-  pub gap-read : numberAtBy L s at ≡ accepted gap
-  pub len-read : numberAtBy L s (gap .next) ≡ accepted len
-  pub lev-read : numberAtBy L s (len .next) ≡ accepted lev
+  pub gap-read : numberAt s at ≡ accepted gap
+  pub len-read : numberAt s (gap .next) ≡ accepted len
+  pub lev-read : numberAt s (len .next) ≡ accepted lev
   pub is : record { run = runAfter e (gap .value) (len .value) (lev .value); next = lev .next } ≡ p
-  pub may : mayFollowBy L e v (p .run) ≡ true
+  pub may : mayFollow e v (p .run) ≡ true
 
 -- Of a schedule: its head, and its records.
-pub record ScheduleRead (L : Limits) (s : List ℕ) (rs : List Stretch) : Type 0 where
+pub record ScheduleRead (s : List ℕ) (rs : List Stretch) : Type 0 where
   pub head : Reading
-  pub head-at : headAtBy L s ≡ accepted head
-  pub head-read : numberAtBy L s 0 ≡ accepted head
+  pub head-at : readHead s ≡ accepted head
+  pub head-read : numberAt s 0 ≡ accepted head
   pub few : leb (head .value) mostRuns ≡ true
-  pub records : readRecordsBy L (head .value) 0 0 s (head .next) ≡ accepted rs
+  pub records : readRecords (head .value) 0 0 s (head .next) ≡ accepted rs
 
 -- Of records, of which there is one more: the first and the others.
-pub record FirstRead (L : Limits) (k e v : ℕ) (s : List ℕ) (at : ℕ) (rs : List Stretch) : Type 0 where
+pub record FirstRead (k e v : ℕ) (s : List ℕ) (at : ℕ) (rs : List Stretch) : Type 0 where
   pub first : ReadRun
   pub others : List Stretch
-  pub first-read : recordAtBy L e v s at ≡ accepted first
-  pub others-read : readRecordsBy L k (first .run .end) (first .run .level) s (first .next) ≡ accepted others
+  pub first-read : readRecord e v s at ≡ accepted first
+  pub others-read : readRecords k (first .run .end) (first .run .level) s (first .next) ≡ accepted others
   pub is : first .run ∷ others ≡ rs
 
-module _ (L : Limits) (s : List ℕ) where
-  pub record-read : (e v at : ℕ) (p : ReadRun) → recordAtBy L e v s at ≡ accepted p → RecordRead L e v s at p
-  unfolding recordAtBy
+module _ (s : List ℕ) where
+  pub record-read : (e v at : ℕ) (p : ReadRun) → readRecord e v s at ≡ accepted p → RecordRead e v s at p
+  unfolding readRecord
   record-read e v at p q =
-      let g = bound (numberAtBy L s at) _ p q in
-      let n = bound (numberAtBy L s (g .first .next)) _ p (g .rest) in
-      let l = bound (numberAtBy L s (n .first .next)) _ p (n .rest) in
+      let g = bound (numberAt s at) _ p q in
+      let n = bound (numberAt s (g .first .next)) _ p (g .rest) in
+      let l = bound (numberAt s (n .first .next)) _ p (n .rest) in
       let r = runAfter e (g .first .value) (n .first .value) (l .first .value) in
-      let t = passed (mayFollowBy L e v r) Row.Schedule _ p (l .rest) in
+      let t = passed (mayFollow e v r) Row.Schedule _ p (l .rest) in
       let same : record { run = r; next = l .first .next } ≡ p = let z = t .1 in cc in
       record {
         gap = g .first;
@@ -159,21 +153,21 @@ module _ (L : Limits) (s : List ℕ) where
         len-read = n .taken;
         lev-read = l .taken;
         is = same;
-        may = subst (λ (x : ReadRun). mayFollowBy L e v (x .run) ≡ true) same (t .0);
+        may = subst (λ (x : ReadRun). mayFollow e v (x .run) ≡ true) same (t .0);
       }
 
-  pub first-read : (k e v at : ℕ) (rs : List Stretch) → readRecordsBy L (suc k) e v s at ≡ accepted rs → FirstRead L k e v s at rs
-  unfolding readRecordsBy
+  pub first-read : (k e v at : ℕ) (rs : List Stretch) → readRecords (suc k) e v s at ≡ accepted rs → FirstRead k e v s at rs
+  unfolding readRecords
   first-read k e v at rs q =
-      let p = bound (recordAtBy L e v s at) _ rs q in
-      let others = bound (readRecordsBy L k (p .first .run .end) (p .first .run .level) s (p .first .next)) _ rs (p .rest) in
+      let p = bound (readRecord e v s at) _ rs q in
+      let others = bound (readRecords k (p .first .run .end) (p .first .run .level) s (p .first .next)) _ rs (p .rest) in
       record { first = p .first; others = others .first; first-read = p .taken; others-read = others .taken; is = let z = others .rest in cc }
 
-  pub schedule-parts : (rs : List Stretch) → readScheduleBy L s ≡ accepted rs → ScheduleRead L s rs
-  unfolding readScheduleBy headAtBy
+  pub schedule-parts : (rs : List Stretch) → readSchedule s ≡ accepted rs → ScheduleRead s rs
+  unfolding readSchedule readHead
   schedule-parts rs q =
-      let h = bound (headAtBy L s) _ rs (or-ten _ rs q) in
-      let n = bound (numberAtBy L s 0) _ (h .first) (h .taken) in
+      let h = bound (readHead s) _ rs (or-ten _ rs q) in
+      let n = bound (numberAt s 0) _ (h .first) (h .taken) in
       let t = passed (leb (n .first .value) mostRuns) Row.Schedule _ (h .first) (n .rest) in
       let same : n .first ≡ h .first = let z = t .1 in cc in
       record {
@@ -185,19 +179,19 @@ module _ (L : Limits) (s : List ℕ) where
       }
 
   -- As many runs as were asked for, each of which may follow the one before it.
-  pub records-rise : (k e v at : ℕ) (rs : List Stretch) → readRecordsBy L k e v s at ≡ accepted rs → (length rs ≡ k) × (risingRunsBy L e v rs ≡ true)
-  unfolding readRecordsBy risingRunsBy
+  pub records-rise : (k e v at : ℕ) (rs : List Stretch) → readRecords k e v s at ≡ accepted rs → (length rs ≡ k) × (risingRuns e v rs ≡ true)
+  unfolding readRecords risingRuns
   records-rise zero e v at rs q =
       let none : [] ≡ rs = let z = passed (eqb at (length s)) Row.Schedule _ rs q .1 in cc in
-      subst (λ (x : List Stretch). (length x ≡ 0) × (risingRunsBy L e v x ≡ true)) none (refl, refl)
+      subst (λ (x : List Stretch). (length x ≡ 0) × (risingRuns e v x ≡ true)) none (refl, refl)
   records-rise (suc k) e v at rs q =
       let f = first-read k e v at rs q in
       let more = records-rise k (f .first .run .end) (f .first .run .level) (f .first .next) (f .others) (f .others-read) in
-      subst (λ (x : List Stretch). (length x ≡ suc k) × (risingRunsBy L e v x ≡ true)) (f .is) (ap suc (more .0), and-intro (record-read e v at (f .first) (f .first-read) .may) (more .1))
+      subst (λ (x : List Stretch). (length x ≡ suc k) × (risingRuns e v x ≡ true)) (f .is) (ap suc (more .0), and-intro (record-read e v at (f .first) (f .first-read) .may) (more .1))
 
   -- What can be read is a run list.
-  pub read-list : (rs : List Stretch) → readScheduleBy L s ≡ accepted rs → isRunListBy L rs ≡ true
-  unfolding isRunListBy
+  pub read-list : (rs : List Stretch) → readSchedule s ≡ accepted rs → isRunList rs ≡ true
+  unfolding isRunList
   read-list rs q =
       let w = schedule-parts rs q in
       let up = records-rise (w .head .value) 0 0 (w .head .next) rs (w .records) in
@@ -209,10 +203,10 @@ pub record RecordStands (s : List ℕ) (e at : ℕ) (p : ReadRun) : Type 0 where
   pub split : drop at s ≡ writeRecord e (p .run) ++ drop (p .next) s
 
 module _ (s : List ℕ) (b : Bytes s) where
-  pub record-stands : (e v at : ℕ) (p : ReadRun) → recordAtBy limits e v s at ≡ accepted p → RecordStands s e at p
-  unfolding writeRecordBy
+  pub record-stands : (e v at : ℕ) (p : ReadRun) → readRecord e v s at ≡ accepted p → RecordStands s e at p
+  unfolding writeRecord
   record-stands e v at p q =
-      let r = record-read limits s e v at p q in
+      let r = record-read s e v at p q in
       let g = number-read s at (r .gap) b (r .gap-read) in
       let n = number-read s (r .gap .next) (r .len) b (r .len-read) in
       let l = number-read s (r .len .next) (r .lev) b (r .lev-read) in
@@ -223,23 +217,23 @@ module _ (s : List ℕ) (b : Bytes s) where
         split = rw (start, long) (g .split ∙ rw (n .split, l .split) (simp append-assoc));
       })
 
-  records-stand : (k e v at : ℕ) (rs : List Stretch) → readRecordsBy limits k e v s at ≡ accepted rs → drop at s ≡ writeRecords e rs
-  unfolding readRecordsBy writeRecordsBy
+  records-stand : (k e v at : ℕ) (rs : List Stretch) → readRecords k e v s at ≡ accepted rs → drop at s ≡ writeRecords e rs
+  unfolding readRecords writeRecords
   records-stand zero e v at rs q =
       let t = passed (eqb at (length s)) Row.Schedule _ rs q in
       let none : [] ≡ rs = let z = t .1 in cc in
       subst (λ (x : List Stretch). drop at s ≡ writeRecords e x) none (rw (eqb-true at (length s) (t .0)) (drop-length s))
   records-stand (suc k) e v at rs q =
-      let f = first-read limits s k e v at rs q in
+      let f = first-read s k e v at rs q in
       let p = f .first in
       subst (λ (x : List Stretch). drop at s ≡ writeRecords e x) (f .is)
       (record-stands e v at p (f .first-read) .split ∙ ap (λ (x : List ℕ). writeRecord e (p .run) ++ x) (records-stand k (p .run .end) (p .run .level) (p .next) (f .others) (f .others-read)))
 
 -- What can be read is the writing of a run list.
 pub schedule-read : (s : List ℕ) (rs : List Stretch) → Bytes s → readSchedule s ≡ accepted rs → (isRunList rs ≡ true) × (s ≡ writeSchedule rs)
-unfolding writeScheduleBy
+unfolding writeSchedule
 schedule-read s rs b q =
-    let w = schedule-parts limits s rs q in
+    let w = schedule-parts s rs q in
     let n = w .head in
-    let count = records-rise limits s (n .value) 0 0 (n .next) rs (w .records) .0 in
-    (read-list limits s rs q, number-read s 0 n b (w .head-read) .split ∙ rw (count, records-stand s b (n .value) 0 0 (n .next) rs (w .records)))
+    let count = records-rise s (n .value) 0 0 (n .next) rs (w .records) .0 in
+    (read-list s rs q, number-read s 0 n b (w .head-read) .split ∙ rw (count, records-stand s b (n .value) 0 0 (n .next) rs (w .records)))

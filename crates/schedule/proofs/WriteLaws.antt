@@ -13,19 +13,19 @@ use Rattle.number.proofs.PlaceLaws.{placed-append, placed-length}
 use Rattle.runs.specs.declared.Stretch.{Stretch}
 use Rattle.runs.specs.RunList.{isRunList, runsTo, lastEnd}
 use Rattle.runs.proofs.StoredLaws.{run, firstRuns, behind, run-next}
-use Rattle.schedule.specs.Schedule.{writeRecordBy, writeRecord, writeRecordsBy, writeRecords}
+use Rattle.schedule.specs.Schedule.{writeRecord, writeRecords}
 use Rattle.schedule.specs.Writing.{RecordFits, stretch}
 
 -- The length of a record: the group counts of its three numbers.
 pub record-groups : (end start stop level : ℕ) → RecordFits end start stop level
     → length (writeRecord end (stretch start stop level)) ≡ groupCount (start - end) + groupCount (stop - start) + groupCount level
-unfolding writeRecordBy
+unfolding writeRecord
 record-groups end start stop level f =
     simp length-append (omega (arith, group-count (start - end) (omega (arith, f .long, f .ends)), group-count (stop - start) (omega (arith, f .ends)), group-count level (omega (arith, f .top))))
 
 pub record-sum : (end start stop level : ℕ)
     → length (writeRecord end (stretch start stop level)) ≡ length (writeNumber (start - end)) + length (writeNumber (stop - start)) + length (writeNumber level)
-unfolding writeRecordBy
+unfolding writeRecord
 record-sum end start stop level = simp length-append (omega arith)
 
 -- Three numbers placed one behind the other are the record placed.
@@ -33,7 +33,7 @@ pub record-placed : (s : List ℕ) (at end start stop level : ℕ) → at + leng
     → placed (placed (placed s at (writeNumber (start - end))) (at + length (writeNumber (start - end))) (writeNumber (stop - start)))
     (at + length (writeNumber (start - end)) + length (writeNumber (stop - start))) (writeNumber level)
     ≡ placed s at (writeRecord end (stretch start stop level))
-unfolding writeRecordBy
+unfolding writeRecord
 record-placed s at end start stop level h =
     placed-append (placed s at first) (at + length first) second third (omega (arith, placed-length s at first, room, length-append second third))
     ∙ placed-append s at first (second ++ third) (omega (arith, room, length-append second third))
@@ -51,7 +51,7 @@ record-placed s at end start stop level h =
     room = simp length-append at h
 
 pub record-short : (e : ℕ) (r : Stretch) → length (writeRecord e r) ≤ 18
-unfolding writeRecordBy
+unfolding writeRecord
 record-short e r = simp length-append (omega (arith, number-length (r .start - e), number-length (r .end - r .start), number-length (r .level)))
 
 last-snoc : (e : ℕ) (rs : List Stretch) (r : Stretch) → lastEnd e (rs ++ r ∷ []) ≡ r .end
@@ -59,7 +59,7 @@ last-snoc e [] r = refl
 last-snoc e (x ∷ rs) r = last-snoc (x .end) rs r
 
 records-split : (e : ℕ) (rs : List Stretch) (r : Stretch) (ss : List Stretch) → writeRecords e (rs ++ r ∷ ss) ≡ writeRecords e rs ++ (writeRecord (lastEnd e rs) r ++ writeRecords (r .end) ss)
-unfolding writeRecordsBy
+unfolding writeRecords
 records-split e [] r ss = refl
 records-split e (x ∷ rs) r ss = rw (records-split (x .end) rs r ss) (sym (append-assoc (writeRecord e x) (writeRecords (x .end) rs) (writeRecord (lastEnd (x .end) rs) r ++ writeRecords (r .end) ss)))
 
@@ -73,7 +73,7 @@ module _ (starts ends levels : List ℕ) where
 
   -- One record more.
   pub records-more : (i : ℕ) → writeRecords 0 (firstRuns starts ends levels (i + 1)) ≡ writeRecords 0 (firstRuns starts ends levels i) ++ writeRecord (lastEnd 0 (firstRuns starts ends levels i)) (run starts ends levels i)
-  unfolding runsTo writeRecordsBy
+  unfolding runsTo writeRecords
   records-more i = rw (add-one i) (records-split 0 (firstRuns starts ends levels i) (run starts ends levels i) [] ∙ rw append-nil)
 
   pub last-more : (i : ℕ) → lastEnd 0 (firstRuns starts ends levels (i + 1)) ≡ getD ends i 0
@@ -87,7 +87,7 @@ module _ (starts ends levels : List ℕ) where
       rw (b .split, records-split 0 (firstRuns starts ends levels i) (run starts ends levels i) (b .rest), length-append, length-append) (omega arith)
 
   pub records-none : writeRecords 0 (firstRuns starts ends levels 0) ≡ []
-  unfolding runsTo writeRecordsBy
+  unfolding runsTo writeRecords
   records-none = refl
 
   pub last-none : lastEnd 0 (firstRuns starts ends levels 0) ≡ 0

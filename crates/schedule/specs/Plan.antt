@@ -7,14 +7,13 @@ use lib.Dec.{leb}
 use Rattle.refusal.specs.Answer.{Answer, accepted, refused, _>>=_}
 use Rattle.refusal.specs.Refusal.{unless-refuse, refusal}
 use Rattle.refusal.specs.declared.Refusal.the-variants as Row
-use Rattle.refusal.specs.Limits.{Limits, limits}
 use Rattle.planning.specs.declared.Overhangs.{Overhangs}
-use Rattle.planning.specs.Envelope.{sideOverhangs, acceptJobBy}
+use Rattle.planning.specs.Envelope.{sideOverhangs, acceptJob}
 use Rattle.planning.specs.Required.{jobRuns}
 use Rattle.schedule.specs.declared.reply.Written.{Written}
 use Rattle.schedule.specs.declared.reply.Plan.{Plan}
 use Rattle.schedule.specs.declared.reply.Plan.the-variants as Plan
-use Rattle.schedule.specs.Schedule.{writeScheduleBy}
+use Rattle.schedule.specs.Schedule.{writeSchedule}
 
 -- What plan gives for a side: the schedule, and "among the asked side's hazards, the greatest overhang in millimetres at each end".
 pub record PlannedSide : Type 0 where
@@ -27,14 +26,11 @@ fitted w o room = unless-refuse (leb (length w) room) (Row.Room (length w)) >>= 
 
 -- The schedule to be written and the overhangs, or the refusal: "8; then numbers as they stand, each for 1, 2 and its range; 7; hazards in
 -- order, both sides", for 5; "9".
-unfoldable pub planBy : Limits → (s : List ℕ) (side room : ℕ) → Answer PlannedSide
-planBy L s side room =
+unfoldable pub plan : (s : List ℕ) (side room : ℕ) → Answer PlannedSide
+plan s side room =
     unless-refuse (leb side 1) Row.Argument >>= λ _.
-    acceptJobBy L s >>= λ j.
-    fitted (writeScheduleBy L (jobRuns j side)) (sideOverhangs j side) room
-
-abbrev pub plan : (s : List ℕ) (side room : ℕ) → Answer PlannedSide
-plan = planBy limits
+    acceptJob s >>= λ j.
+    fitted (writeSchedule (jobRuns j side)) (sideOverhangs j side) room
 
 -- "Gives the bytes written", "and the reply carries" the overhangs; a refusal carries none.
 unfoldable pub bytesWritten : Answer PlannedSide → Answer Written

@@ -6,22 +6,18 @@ use lib.Dec.{leb}
 use Rattle.refusal.specs.Answer.{Answer, accepted, _>>=_}
 use Rattle.refusal.specs.Refusal.{unless-refuse, refusal}
 use Rattle.refusal.specs.declared.Refusal.the-variants as Row
-use Rattle.refusal.specs.Limits.{Limits, limits}
-use Rattle.planning.specs.Envelope.{acceptJobBy}
+use Rattle.planning.specs.Envelope.{acceptJob}
 use Rattle.planning.specs.Required.{jobLevel}
 use Rattle.station_level.specs.declared.reply.Level.{Level}
 use Rattle.station_level.specs.declared.reply.Level.the-variants as Level
 
 -- "Give the required level there". "Refusals are those of plan without 9": 8, then the job's, in plan's order. ("Directly from the hazards,
 -- without making runs" is said of the code.)
-unfoldable pub levelAtBy : Limits → (s : List ℕ) (side t : ℕ) → Answer ℕ
-levelAtBy L s side t =
+unfoldable pub levelAt : (s : List ℕ) (side t : ℕ) → Answer ℕ
+levelAt s side t =
     unless-refuse (leb side 1) Row.Argument >>= λ _.
-    acceptJobBy L s >>= λ j.
+    acceptJob s >>= λ j.
     accepted (jobLevel j side t)
-
-abbrev pub levelAt : (s : List ℕ) (side t : ℕ) → Answer ℕ
-levelAt = levelAtBy limits
 
 abbrev pub levelReply : Level → Answer ℕ
 levelReply (Level.Required v) = accepted v

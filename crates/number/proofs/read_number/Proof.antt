@@ -9,7 +9,7 @@ use native.Mathlib.Omega.{arith}
 use lib.ListN.{length, getD}
 use Rattle.number.specs.declared.Read.the-variants.{Number}
 use Rattle.number.specs.declared.Read.{Read}
-use Rattle.number.specs.Number.{readNumber, readingOf, numberAtBy, numberAt}
+use Rattle.number.specs.Number.{readNumber, readingOf, numberAt}
 use Rattle.number.specs.Groups.{readBehind}
 use Rattle.number.proofs.GroupWalk.{read-none, read-one, read-first, read-ended, read-more, read-needless, read-whole, read-overlong, group-less}
 use Rattle.number.proofs.read_number.Statement.{statement}
@@ -74,7 +74,7 @@ room-rest c = mul-le-mul-left {m = B c - 128} {n = 127} (Weight c) (omega (arith
 
 -- By the paper's numbers too.
 numbered : (s : List ℕ) (at : ℕ) (r : Read) → r ≡ readNumber s at → (r ≡ readNumber s at) × (readingOf at r ≡ numberAt s at)
-unfolding numberAtBy
+unfolding numberAt
 numbered s at r e = (e, ap (readingOf at) e)
 
 returns : tie.Need-returns Inv-loop μ-loop

@@ -2,7 +2,7 @@
 use mathlib.Core.Path.{sym}
 use mathlib.Core.List.{[]}
 use borrow.Author.Needs.{needs}
-use Rattle.job.specs.Job.{sharedRangesBy, headerRangesBy, nextInHeader}
+use Rattle.job.specs.Job.{sharedRanges, headerRanges, nextInHeader}
 use Rattle.open_memory.proofs.RangeLaws.{in-ranges, begin-out}
 use Rattle.open_memory.proofs.rules.shared_in_range.Statement.{statement}
 use Rattle.open_memory.proofs.rules.shared_in_range.Tie as tie
@@ -11,7 +11,7 @@ returns : tie.Need-returns
 returns c = sym (begin-out (c .before .before .args .h) (c .if1 .taken))
 
 returns-2 : tie.Need-returns-2
-unfolding headerRangesBy sharedRangesBy
+unfolding headerRanges sharedRanges
 returns-2 c =
     let top = c .before .before .before .before .before .before .before .before .before .before .before .before .before .before .before .before .before .before .before .before .before .before .before .before .before .before .before .road-top in
     rw (top .ensures) (in-ranges nextInHeader [] _)

@@ -11,7 +11,7 @@ use Rattle.number.proofs.ByteLaws.{Bytes, index-bytes}
 use Rattle.runs.proofs.RunLaws.{Next}
 use Rattle.schedule.specs.Schedule.{ReadRun}
 use Rattle.queries.specs.Walk.{headReply, recordAt, recordReply, overlap, overlapAt, overlapSum}
-use Rattle.queries.specs.Lookup.{placeInBy}
+use Rattle.queries.specs.Lookup.{placeIn}
 use Rattle.queries.proofs.StepLaws.{head-refused, record-follows, walk-refused, walk-left-over}
 use Rattle.queries.proofs.OverlapLaws.{summed-over}
 use Rattle.queries.proofs.PlaceLaws.{place-over}
@@ -30,7 +30,7 @@ bytes : (c : tie.After-shared-slice-known Inv-loop μ-loop) → Bytes (c .before
 bytes c = index-bytes _ (λ i. omega (arith, c .shared-slice-known .given i))
 
 returns : tie.Need-returns Inv-loop μ-loop
-unfolding overlapSum placeInBy
+unfolding overlapSum placeIn
 returns c =
     let s = c .before .before .before .before .args .s .now in
     let none = head-refused s (sym (c .before .before .read-head .ensures) ∙ ap headReply (c .enum-told .given .1)) in
@@ -58,7 +58,7 @@ follows : (c : Body) → let l = c .before .before .before .before .before .befo
 follows c = record-follows _ _ _ _ (read c) (is-read c)
 
 returns-2 : tie.Need-returns-2 Inv-loop μ-loop
-unfolding overlapSum placeInBy
+unfolding overlapSum placeIn
 returns-2 c =
     let l = c .before .before .before .before .loop in
     let s = c .before .before .before .before .before .before .before .before .before .before .args .s .now in
@@ -94,7 +94,7 @@ room c =
     omega (arith, c .overlap .ensures, b .before .before .before .before .before .before .loop .inv .fits, follows b .after, follows b .ends)
 
 returns-3 : tie.Need-returns-3 Inv-loop μ-loop
-unfolding overlapSum placeInBy
+unfolding overlapSum placeIn
 returns-3 c =
     let l = c .before .before .loop in
     (walk-left-over (l .inv .summed) (omega arith) (c .if3 .taken), walk-left-over (l .inv .sought) (omega arith) (c .if3 .taken))

@@ -6,7 +6,8 @@ use mathlib.Core.Path.{_≡_, sym, ap, _∙_}
 use lib.ListN.{getD}
 use Rattle.runs.specs.RunList.{lastStation}
 use Rattle.report.specs.Text.{covered}
-use Rattle.runs.proofs.StoredLaws.{firstRuns, runs-none, run-next, count-top, run-list-rising}
+use Rattle.runs.proofs.RunLaws.{run-list-rising}
+use Rattle.runs.proofs.StoredLaws.{firstRuns, runs-none, run-next, count-top}
 use Rattle.report.proofs.LineLaws.{covered-nothing, covered-more, covered-within, covered-top}
 use Rattle.report.proofs.lines.covered_length.Statement.{statement}
 use Rattle.report.proofs.lines.covered_length.Tie as tie

@@ -11,7 +11,7 @@ use Rattle.number.specs.Number.{writeNumber, placed}
 use Rattle.number.proofs.PlaceLaws.{placed-append, placed-length, placed-none}
 use Rattle.runs.specs.declared.RunList.{RunList}
 use Rattle.runs.specs.RunList.{runsOf, lastEnd}
-use Rattle.schedule.specs.Schedule.{writeRecord, writeRecords, writeScheduleBy, writeSchedule}
+use Rattle.schedule.specs.Schedule.{writeRecord, writeRecords, writeSchedule}
 use Rattle.runs.proofs.StoredLaws.{firstRuns, run, runs-length, count-top}
 use Rattle.schedule.proofs.WriteLaws.{run-fits, records-more, records-within, last-more, records-none, last-none}
 use Rattle.schedule.proofs.write.put_schedule.Statement.{statement}
@@ -39,7 +39,7 @@ abbrev recordAt : RunList → ℕ → List ℕ
 recordAt l i = writeRecord (lastEnd 0 (firstRuns (l .starts) (l .ends) (l .levels) i)) (run (l .starts) (l .ends) (l .levels) i)
 
 whole : (l : RunList) → writeSchedule (runsOf l) ≡ writeNumber (l .count) ++ records l (l .count)
-unfolding writeScheduleBy
+unfolding writeSchedule
 whole l = rw (runs-length (l .starts) (l .ends) (l .levels) (l .count))
 
 whole-length : (l : RunList) → length (writeSchedule (runsOf l)) ≡ head l + length (records l (l .count))

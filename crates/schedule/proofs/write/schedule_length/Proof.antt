@@ -8,7 +8,7 @@ use borrow.Author.Needs.{needs}
 use Rattle.runs.specs.RunList.{lastEnd}
 use Rattle.number.specs.Number.{writeNumber}
 use Rattle.number.proofs.WriteLaws.{number-length, group-count}
-use Rattle.schedule.specs.Schedule.{writeRecords, writeScheduleBy}
+use Rattle.schedule.specs.Schedule.{writeRecords, writeSchedule}
 use Rattle.runs.proofs.StoredLaws.{firstRuns, run, runs-length, count-top}
 use Rattle.schedule.proofs.WriteLaws.{run-fits, record-short, records-more, last-more, records-none, last-none}
 use Rattle.schedule.proofs.write.schedule_length.Statement.{statement}
@@ -62,7 +62,7 @@ loop-again c =
     )
 
 returns : tie.Need-returns Inv-loop μ-loop
-unfolding writeScheduleBy
+unfolding writeSchedule
 returns c =
     let l = c .before .before .before .args .t1 in
     let done : c .before .loop .i ≡ l .count = omega arith in

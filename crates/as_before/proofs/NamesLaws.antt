@@ -3,7 +3,7 @@
 use Prim.Native.Nat.{ℕ, zero, suc, _≤_, _<_}
 use native.Mathlib.Omega.{arith}
 use native.Mathlib.Decide.{ℕ-discrete}
-use mathlib.Core.Path.{_≡_, refl, ap, subst, _∙_}
+use mathlib.Core.Path.{_≡_, refl, subst, ap, _∙_}
 use mathlib.Core.Logic.{_⊎_, inl, inr}
 use mathlib.Core.Bool.{Bool, true, false, not}
 use mathlib.Core.List.{List, [], _∷_, _++_, List·Memᴰ, List·Memᴰ·head, List·Memᴰ·cases-cons, List·Memᴰ·not-nil, List·Memᴰ·append-cases, List·Memᴰ·eq-of-singleton}
@@ -21,12 +21,12 @@ use Rattle.open_memory.specs.Memory.{mostStanding, stands, isFull, without, adm
 use Rattle.open_job.specs.Open.{testAdd, replied}
 use Rattle.kept_states.specs.declared.OpenStates.{OpenStates}
 use Rattle.kept_states.specs.States.{addIn}
 use Rattle.open_promises.specs.Lists.{Edit, add, withdraw, Call, edit, Kept, nothing, state, States, opened, standAfter, hazardsAfter, CallsFrom, SchedulesAs, Standing, testNameAndHazard}
-use Rattle.open_promises.specs.Before.{ByteNamed, hazardsBefore, NamedAsBefore, Names-before-12}
+use Rattle.as_before.specs.Names.{ByteNamed, hazardsBefore, Names-before-12}
 use Rattle.open_promises.proofs.HazardLaws.{Distinct, distinct-more, distinct-less, without-cases, none-taken, one-less}
 use Rattle.open_promises.proofs.StandingLaws.{may-add}
 use Rattle.open_promises.proofs.ModelLaws.{AgreeKept, AgreeAll, agree-opened, agree-calls}
 use Rattle.open_promises.proofs.ListLaws.{standing-promise, schedule-promise}
 
 -- No more hazards than names.
 few-names : (n : ℕ) (ps : List NamedHazard) → Distinct ps → ((p : NamedHazard) → List·Memᴰ p ps → p .name < n) → length ps ≤ n
@@ -127,13 +127,17 @@ module _ (s : List ℕ) (j : Job) (calls : List Call) (m : OpenStates) (from : C
   same : are ≡ were
   same = λ i. record { present = alike .present .same i; kept = λ number. same-kept (are .kept number) (were .kept number) (alike .kept number) i }
 
-  as-before : NamedAsBefore h calls m
-  as-before = record {
-    same = same;
-    next-add = λ name z top. subst (λ (t : States (List NamedHazard)). replied (addIn m name z) ≡ replied (testNameAndHazard h (t .present) name z)) same (standing-promise s j calls m from .next-add name z ∙ ap replied (tests-before h (are .present) (alike .present .bytes) name z top));
-    hazards-stand = subst (λ (t : States (List NamedHazard)). Standing h t m) same (standing-promise s j calls m from);
-    schedules = subst (λ (t : States (List NamedHazard)). SchedulesAs h (t .present) m) same (schedule-promise s j calls m from);
-  }
-
 pub names-before-12 : Names-before-12
-names-before-12 s j calls m from byte = as-before s j calls m from byte
+names-before-12 s j calls m from byte =
+    let h = j .header in
+    let k = alike s j calls m from byte in
+    let standing = standing-promise s j calls m from in
+    let are-were = same s j calls m from byte in
+    record {
+      same = are-were;
+      next-add = λ name z top.
+          subst (λ (t : States (List NamedHazard)). replied (addIn m name z) ≡ replied (testNameAndHazard h (t .present) name z)) are-were
+          (standing .next-add name z ∙ ap replied (tests-before h (hazardsAfter h calls .present) (k .present .bytes) name z top));
+      hazards-stand = subst (λ (t : States (List NamedHazard)). Standing h t m) are-were standing;
+      schedules = subst (λ (t : States (List NamedHazard)). SchedulesAs h (t .present) m) are-were (schedule-promise s j calls m from);
+    }

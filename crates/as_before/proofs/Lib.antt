@@ -1,0 +1,5 @@
+pub mod OverhangLaws
+pub mod FiveByteLaws
+pub mod AcceptedLaws
+pub mod ChainageLaws
+pub mod NamesLaws

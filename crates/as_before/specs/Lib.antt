@@ -1,0 +1,4 @@
+pub mod Overhang
+pub mod AcceptedBefore
+pub mod Chainage
+pub mod Names
