@@ -29,7 +29,7 @@ use Rattle.job.specs.declared.Hazard.{Hazard}
 use Rattle.job.specs.Job.{Job, Range, within, nextInHeader, nextInHazard, Fields, readFields, moreNumbers, readHeader, headerOf, hazardOf, Hazards, readHazards, readRest, readJob, outsideHeader, outsideHazard}
 use Rattle.job.specs.Writing.{headerNumbers, hazardNumbers, hazardsNumbers, numbersOf, writeNumbers, writeJob}
 use Rattle.job.specs.Fits.{inRanges, HazardFits}
-use Rattle.job.specs.Rows.{Group, ofHeader, ofHazard, HasGroup, sizeOf, nextIn, numbersBefore, BeforeFits, Stands, behind, Next, OutOfRange, ReadRow}
+use Rattle.job.specs.Rows.{Group, ofHeader, ofHazard, HasGroup, sizeOf, nextIn, numbersBefore, BeforeFits, Stands, behind, Next, OutOfRange, ReadRow, ended, malformed, header-range, hazard-range, left-over}
 use Rattle.job.proofs.RangeLaws.{ranges-parts}
 use Rattle.job.proofs.JobLaws.{FieldsIn, fields-in, HeaderIn, header-in, header-own, header-fits, hazard-own, hazard-fits}
 use Rattle.job.proofs.StandLaws.{numbers-append, outsideOf, row-refused}
@@ -109,8 +109,8 @@ module _ {s : List ℕ} (b : Bytes s) where
       }
 
   outside-holds : (g : Group) (got : List ℕ) → OutOfRange s g got → Holds s (numberOf (outsideOf g got)) (valueOf (outsideOf g got))
-  outside-holds ofHeader got o = record { which = Row.HeaderRange (length got + 1); number = refl; value = refl; row = (got, o, refl) }
-  outside-holds (ofHazard h zs) got o = record { which = Row.HazardRange (length zs); number = refl; value = refl; row = (h, zs, got, o, refl) }
+  outside-holds ofHeader got o = record { which = Row.HeaderRange (length got + 1); number = refl; value = refl; row = header-range got refl o }
+  outside-holds (ofHazard h zs) got o = record { which = Row.HazardRange (length zs); number = refl; value = refl; row = hazard-range h zs got refl o }
 
   -- k numbers more behind `got`, for which the group has room.
   group-read : (g : Group) → HasGroup g → (k : ℕ) (got : List ℕ) (at : ℕ) → HasRoom g k got → At s g got at
@@ -135,8 +135,8 @@ module _ {s : List ℕ} (b : Bytes s) where
       go : (c : Read) → readNumber s at ≡ c → Later
           → GroupSaid s g (readingOf at c >>= λ x. unless-refuse (within (nextIn g got) (x .value)) (outsideOf g got) >>= λ _. readFields (nextIn g) (outsideOf g) k (got ++ x .value ∷ []) s (x .next))
       go (Number x n) e later = tested x n e (within (nextIn g got) x) refl later
-      go Ended e later = record { which = Row.Ended at; number = refl; value = refl; row = record { group = g; got = got; rest = drop at s; next = next; fault = read-ended s at .0 e; begins = here .index } }
-      go Malformed e later = record { which = Row.Malformed at; number = refl; value = refl; row = record { group = g; got = got; rest = drop at s; next = next; fault = read-malformed s at b .0 e; begins = here .index } }
+      go Ended e later = record { which = Row.Ended at; number = refl; value = refl; row = ended at refl (record { group = g; got = got; rest = drop at s; next = next; fault = read-ended s at .0 e; begins = here .index }) }
+      go Malformed e later = record { which = Row.Malformed at; number = refl; value = refl; row = malformed at refl (record { group = g; got = got; rest = drop at s; next = next; fault = read-malformed s at b .0 e; begins = here .index }) }
 
   -- The same numbers, taken to another group.
   at-group : {g q : Group} {got own : List ℕ} {at : ℕ} → numbersBefore g ++ got ≡ numbersBefore q ++ own → BeforeFits q → inRanges (nextIn q) [] own ≡ true → At s g got at → At s q own at
@@ -196,7 +196,7 @@ module _ {s : List ℕ} (b : Bytes s) where
             which = Row.LeftOver (r .next);
             number = refl;
             value = refl;
-            row = record { job = record { header = h; hazards = r .list }; rest = drop (r .next) s; all = size; stands = here .stands; some = rw length-drop (omega (arith, leb-false (length s) (r .next) l)); first = here .index };
+            row = left-over (r .next) refl (record { job = record { header = h; hazards = r .list }; rest = drop (r .next) s; all = size; stands = here .stands; some = rw length-drop (omega (arith, leb-false (length s) (r .next) l)); first = here .index });
           }
 
       hazards : (h : Header) (a : Answer Hazards) → HazardsSaid s h a → JobSaid s (a >>= λ r. unless-refuse (leb (length s) (r .next)) (Row.LeftOver (r .next)) >>= λ _. accepted (record { header = h; hazards = r .list }))

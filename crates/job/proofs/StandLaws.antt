@@ -26,7 +26,7 @@ use Rattle.job.specs.declared.Hazard.{Hazard}
 use Rattle.job.specs.Job.{Range, headerWith, headerOf, nextInHeader, nextInHazard, readFields, moreNumbers, readHeader, readHazards, readRest, readJob, outsideHeader, outsideHazard, sharedNumbers}
 use Rattle.job.specs.Writing.{headerNumbers, hazardNumbers, hazardsNumbers, numbersOf, writeNumbers}
 use Rattle.job.specs.Fits.{inRanges, hazardInRange, HeaderFits, HazardFits}
-use Rattle.job.specs.Rows.{Group, ofHeader, ofHazard, nextIn, numbersBefore, BeforeFits, Stands, behind, Next, Unread, OutOfRange, BytesAfter, ReadRow}
+use Rattle.job.specs.Rows.{Group, ofHeader, ofHazard, nextIn, numbersBefore, BeforeFits, Stands, behind, Next, Unread, OutOfRange, BytesAfter, ReadRow, ended, malformed, header-range, hazard-range, left-over}
 use Rattle.job.proofs.RangeLaws.{within-high, ranges-cons, ranges-split, header-split, header-bounds, header-most, hazard-most}
 
 pub numbers-append : (xs ys : List ℕ) → writeNumbers (xs ++ ys) ≡ writeNumbers xs ++ writeNumbers ys
@@ -207,12 +207,8 @@ module _ {s : List ℕ} where
       job-behind 0 (w .stands) (omega (arith, w .all)) ∙ rw (lt-leb (length s) (behind g []) longer, w .first)
 
 pub row-refused : (s : List ℕ) (r : Refusal) → ReadRow r s → readJob s ≡ refusal r
-row-refused s (Row.Ended at) w = unread-refused 1 Ended (λ i. refl) (λ i. read-ended s i .1) w
-row-refused s (Row.Malformed at) w = unread-refused 2 Malformed (λ i. refl) (λ i. ill-formed s i) w
-row-refused s (Row.HeaderRange number) w = outside-refused (w .1) ∙ ap (refused 3) (sym (w .2))
-row-refused s (Row.HazardRange index) w = outside-refused (w .3) ∙ ap (refused 4) (sym (w .4))
-row-refused s (Row.NearBarrier index) w = absurd w
-row-refused s (Row.LeftOver at) w = after-refused w
-row-refused s Row.Argument w = absurd w
-row-refused s (Row.Room needed) w = absurd w
-row-refused s Row.Schedule w = absurd w
+row-refused s r (ended at e w) = unread-refused 1 Ended (λ i. refl) (λ i. read-ended s i .1) w ∙ ap refusal (sym e)
+row-refused s r (malformed at e w) = unread-refused 2 Malformed (λ i. refl) (λ i. ill-formed s i) w ∙ ap refusal (sym e)
+row-refused s r (header-range got e w) = outside-refused w ∙ ap refusal (sym e)
+row-refused s r (hazard-range h before got e w) = outside-refused w ∙ ap refusal (sym e)
+row-refused s r (left-over at e w) = after-refused w ∙ ap refusal (sym e)

@@ -6,7 +6,6 @@ use mathlib.Core.Bool.{true, false}
 use mathlib.Core.List.{List, [], _++_, List·Memᴰ}
 use lib.ListN.{length, getD}
 use Rattle.refusal.specs.declared.Refusal.{Refusal}
-use Rattle.refusal.specs.declared.Refusal.the-variants.{Ended, Malformed, HeaderRange, HazardRange, NearBarrier, LeftOver, Argument, Room, Schedule, Ranges, Name, State, Full, Lengths, Tries}
 use Rattle.refusal.specs.declared.Refusal.the-variants as Row
 use Rattle.number.specs.Number.{writeNumber, greatest}
 use Rattle.number.specs.Form.{EndsInside, IllFormed}
@@ -91,26 +90,15 @@ pub record BytesAfter (s : List ℕ) (at : ℕ) : Type 0 where
   pub some : 0 < length rest
   pub first : at ≡ behind (ofHazard (job .header) (job .hazards)) []
 
--- The table, row by row. The other rows are not the reading's.
-abbrev pub ReadRow : Refusal → (s : List ℕ) → Type 0
--- 1: "byte index where that number begins"; "job bytes end before or inside a number".
-ReadRow (Ended at) s = Unread EndsInside s at
--- 2: "byte index where it begins"; its sixth byte has the top bit set, "or it isn't in shortest form".
-ReadRow (Malformed at) s = Unread IllFormed s at
--- 3: "header number 1 to 14", of a kind 2 job to 15; "header number outside its range".
-ReadRow (HeaderRange number) s = (got : List ℕ) × OutOfRange s ofHeader got × (number ≡ length got + 1)
--- 4: "hazard index from 0"; "hazard field outside its range". "A value too great for its field is 3 or 4."
-ReadRow (HazardRange index) s = (h : Header) × (before : List Hazard) × (got : List ℕ) × OutOfRange s (ofHazard h before) got × (index ≡ length before)
--- 7: "index of first byte left over"; "bytes after the last hazard".
-ReadRow (LeftOver at) s = BytesAfter s at
-ReadRow (NearBarrier index) s = ⊥
-ReadRow Argument s = ⊥
-ReadRow (Room needed) s = ⊥
-ReadRow Schedule s = ⊥
-ReadRow Ranges s = ⊥
-ReadRow (Name name) s = ⊥
-ReadRow State s = ⊥
-ReadRow Row.Hazard s = ⊥
-ReadRow Full s = ⊥
-ReadRow Lengths s = ⊥
-ReadRow Tries s = ⊥
+-- The table's rows of a job that cannot be read: what is returned, and when.
+pub data ReadRow (r : Refusal) (s : List ℕ) : Type 0 where
+  -- 1: "byte index where that number begins"; "job bytes end before or inside a number".
+  ended : (at : ℕ) → r ≡ Row.Ended at → Unread EndsInside s at → ReadRow r s
+  -- 2: "byte index where it begins"; its sixth byte has the top bit set, "or it isn't in shortest form".
+  malformed : (at : ℕ) → r ≡ Row.Malformed at → Unread IllFormed s at → ReadRow r s
+  -- 3: "header number 1 to 14", of a kind 2 job to 15; "header number outside its range".
+  header-range : (got : List ℕ) → r ≡ Row.HeaderRange (length got + 1) → OutOfRange s ofHeader got → ReadRow r s
+  -- 4: "hazard index from 0"; "hazard field outside its range". "A value too great for its field is 3 or 4."
+  hazard-range : (h : Header) (before : List Hazard) (got : List ℕ) → r ≡ Row.HazardRange (length before) → OutOfRange s (ofHazard h before) got → ReadRow r s
+  -- 7: "index of first byte left over"; "bytes after the last hazard".
+  left-over : (at : ℕ) → r ≡ Row.LeftOver at → BytesAfter s at → ReadRow r s

@@ -4,7 +4,7 @@ use Prim.Native.Nat.{ℕ, suc, _+_}
 use native.Mathlib.Omega.{arith}
 use native.Mathlib.Nat.{zero-add}
 use mathlib.Core.Path.{_≡_, refl, sym, subst, ap, ap₂, _∙_}
-use mathlib.Core.Logic.{_↔_, _⊎_, inl, inr, ⊎-elim}
+use mathlib.Core.Logic.{_↔_, _⊎_, inl, inr}
 use mathlib.Core.Bool.{Bool, true, false, _&&_, not}
 use mathlib.Core.List.{List, [], _∷_, List·Memᴰ·not-nil}
 use lib.ListN.{length}
@@ -14,16 +14,15 @@ use Rattle.refusal.specs.Answer.{Answer, accepted, refused, _>>=_}
 use Rattle.refusal.specs.Refusal.{unless-refuse, numberOf, valueOf, refusal}
 use Rattle.refusal.specs.declared.Refusal.the-variants as Row
 use Rattle.refusal.specs.declared.Refusal.{Refusal}
-use Rattle.refusal.specs.declared.Refusal.the-variants.{Ended, Malformed, HeaderRange, HazardRange, NearBarrier, LeftOver, Argument, Room, Schedule, Ranges, Name, State, Full, Lengths, Tries}
+use Rattle.refusal.proofs.RowLaws.{same-row}
 use Rattle.refusal.proofs.EachLaws.{cons-each}
 use Rattle.job.specs.declared.Header.{Header}
 use Rattle.job.specs.declared.Hazard.{Hazard}
 use Rattle.job.specs.Job.{Job, readJob}
-use Rattle.job.specs.Rows.{ReadRow}
 use Rattle.job.proofs.WritingLaws.{Bytes}
 use Rattle.job.proofs.RowLaws.{read-exactly}
 use Rattle.planning.specs.Envelope.{reached, standsNear, testHazard, testHazards, acceptJob}
-use Rattle.planning.specs.Rows.{Near, Passed, FirstNear, FirstNearOf, JobRow}
+use Rattle.planning.specs.Rows.{Near, Passed, FirstNear, FirstNearOf, JobRow, unread, near-barrier}
 use Rattle.planning.proofs.EnvelopeLaws.{hazard-passed}
 use Rattle.planning.proofs.AcceptedLaws.{hazards-pass}
 use Rattle.refusal.proofs.TestLaws.{impossible}
@@ -101,32 +100,12 @@ module _ (s : List ℕ) where
 
 -- The job is refused for what its row says, and for nothing else.
 pub refused-exactly : (s : List ℕ) (r : Refusal) → Bytes s → (acceptJob s ≡ refusal r) ↔ JobRow r s
-refused-exactly s r b = rows r
+refused-exactly s r b = (λ e. to (job-exactly s (numberOf r) (valueOf r) .0 e), back)
   where
-    reading : (q : Refusal) → (numberOf q ≡ 5 → ⊥) → (acceptJob s ≡ refusal q) ↔ ReadRow q s
-    reading q five =
-        let parts = job-exactly s (numberOf q) (valueOf q) in
-        (λ e. ⊎-elim (read-exactly s q b .0) (λ f. absurd (five (f .0))) (parts .0 e), λ w. parts .1 (inl (read-exactly s q b .1 w)))
+    to : (readJob s ≡ refusal r) ⊎ ((numberOf r ≡ 5) × FirstNearOf s (valueOf r)) → JobRow r s
+    to (inl e) = unread (read-exactly s r b .0 e)
+    to (inr (five, f)) = near-barrier (valueOf r) (same-row r (Row.NearBarrier (valueOf r)) five refl) f
 
-    near : (index : ℕ) → (acceptJob s ≡ refusal (NearBarrier index)) ↔ FirstNearOf s index
-    near index =
-        let parts = job-exactly s 5 index in
-        (λ e. ⊎-elim (λ w. absurd (read-exactly s (NearBarrier index) b .0 w)) (λ f. f .1) (parts .0 e), λ f. parts .1 (inr (refl, f)))
-
-    rows : (q : Refusal) → (acceptJob s ≡ refusal q) ↔ JobRow q s
-    rows (Ended at) = reading (Ended at) (omega arith)
-    rows (Malformed at) = reading (Malformed at) (omega arith)
-    rows (HeaderRange number) = reading (HeaderRange number) (omega arith)
-    rows (HazardRange index) = reading (HazardRange index) (omega arith)
-    rows (NearBarrier index) = near index
-    rows (LeftOver at) = reading (LeftOver at) (omega arith)
-    rows Argument = reading Argument (omega arith)
-    rows (Room needed) = reading (Room needed) (omega arith)
-    rows Schedule = reading Schedule (omega arith)
-    rows Ranges = reading Ranges (omega arith)
-    rows (Name name) = reading (Name name) (omega arith)
-    rows State = reading State (omega arith)
-    rows Row.Hazard = reading Row.Hazard (omega arith)
-    rows Full = reading Full (omega arith)
-    rows Lengths = reading Lengths (omega arith)
-    rows Tries = reading Tries (omega arith)
+    back : JobRow r s → acceptJob s ≡ refusal r
+    back (unread w) = job-exactly s (numberOf r) (valueOf r) .1 (inl (read-exactly s r b .1 w))
+    back (near-barrier index e f) = job-exactly s 5 index .1 (inr (refl, f)) ∙ ap refusal (sym e)
