@@ -18,7 +18,7 @@ ghost use Rattle.panels.specs.Panels.{panelsFor};
 ghost use Rattle.queries.specs.Quantity.{quantity};
 ghost use Rattle.queries.specs.Lookup.{lookup};
 ghost use Rattle.queries.specs.Ranges.{quantities};
-ghost use Rattle.replies.specs.Interface.{replyOf, planReplyOf, recordOf, quantitiesOf, CornersTold, smallestOf, layoutOf, version};
+ghost use Rattle.replies.specs.Interface.{replyOf, planReplyOf, recordOf, quantitiesOf, cornersReplyOf, smallestOf, layoutOf, version};
 
 #[no_mangle]
 pub extern "C" fn barrier_plan(job: &[u8], side: u64, out: &mut [u8]) -> PlanReply
@@ -70,7 +70,7 @@ pub extern "C" fn barrier_corners(
     sheet_station: u64,
     sheet_offset: u64,
 ) -> Corners
-    ensures { λ r. ⌜ CornersTold r (cornersOf (now (job .entry)) hazard «sheet_station» «sheet_offset») ⌝ }
+    ensures { λ r. ⌜ r ≡ cornersReplyOf (cornersOf (now (job .entry)) hazard «sheet_station» «sheet_offset») ⌝ }
 {
     replies::calls::corners(job, hazard, sheet_station, sheet_offset)
 }

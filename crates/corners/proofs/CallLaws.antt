@@ -7,17 +7,11 @@ use mathlib.Core.Bool.{true, false, _||_, and-false}
 use mathlib.Core.List.{List}
 use lib.Dec.{ltb, leb}
 use borrow.Author.Tests.{ltb-true, lt-leb, le-leb, ltb-false}
-use Rattle.refusal.specs.Answer.{Answer, refused, _>>=_}
+use Rattle.refusal.specs.Answer.{refused, _>>=_}
 use Rattle.refusal.proofs.TestLaws.{or-cases, or-false}
 use Rattle.planning.specs.Envelope.{acceptJob}
-use Rattle.corners.specs.declared.reply.Corners.{Corners}
-use Rattle.corners.specs.Corners.{Points, sheetTop, cornersOf}
-use Rattle.corners.specs.Reply.{Replies}
+use Rattle.corners.specs.Corners.{sheetTop, cornersOf}
 use Rattle.corners.specs.Steps.{jobCorners}
-
--- The same reply for an equal answer.
-pub replies-as : {r : Corners} {a b : Answer Points} → Replies r a → b ≡ a → Replies r b
-replies-as w e = rw e w
 
 -- The sheet corner.
 module _ (x y : ℕ) where

@@ -10,6 +10,7 @@ use lib.IntN.{pos, natAbs}
 use borrow.Author.Tests.{ltb-true}
 use Rattle.refusal.specs.Choice.{if_then_else_}
 use Rattle.refusal.specs.Answer.{accepted}
+use Rattle.refusal.specs.Refusal.{outcome}
 use Rattle.refusal.specs.declared.Outcome.the-variants.{Done}
 use Rattle.refusal.proofs.TestLaws.{and-right}
 use Rattle.exact.proofs.WholeLaws.{difference-size}
@@ -24,7 +25,7 @@ use Rattle.planning.proofs.ReachLaws.{reaches-adjacent, reaching-domain, reachi
 use Rattle.corners.specs.declared.points.Lengths.{Lengths}
 use Rattle.corners.specs.declared.reply.Corners.{Corners}
 use Rattle.corners.specs.Corners.{upstreamBy, lengthBefore, flareEntered, upstreamOffset, Point, pointAt, approachPoints}
-use Rattle.corners.specs.Reply.{CornerIs, Replies}
+use Rattle.corners.specs.Reply.{cornerOf, replied, cornersReply}
 use Rattle.corners.specs.Steps.{LengthsOf}
 
 -- Adjacent traffic that reaches a hazard, which stands clear of the barrier, asks for its lengths with the hazard's own offsets.
@@ -72,11 +73,11 @@ endPoint x y h z t n entered = pointAt x y (upstreamBy t z n) (if entered then h
 -- The reply, by whether the flare is entered.
 module _ (x y : ℕ) (h : Header) (z : Hazard) (t : Traffic) (l : Lengths) (is : LengthsOf h z t l) (entered : Bool) (test : (ltb 0 (h .across) && ltb (h .straight) (l .before)) ≡ entered) (r : Corners) where
   pub approach-reply : r .outcome ≡ Done
-      → CornerIs (r .upstream) (endPoint x y h z t (l .raised) entered)
-      → CornerIs (r .flare) (if entered then pointAt x y (upstreamBy t z (h .straight)) (h .offset) else endPoint x y h z t (l .raised) entered)
-      → CornerIs (r .hazard) (pointAt x y (upstreamBy t z 0) (h .offset))
-      → Replies r (accepted (approachPoints x y h z t))
-  unfolding approachPoints upstreamOffset flareEntered
+      → r .upstream ≡ cornerOf (endPoint x y h z t (l .raised) entered)
+      → r .flare ≡ cornerOf (if entered then pointAt x y (upstreamBy t z (h .straight)) (h .offset) else endPoint x y h z t (l .raised) entered)
+      → r .hazard ≡ cornerOf (pointAt x y (upstreamBy t z 0) (h .offset))
+      → cornersReply r ≡ replied (accepted (approachPoints x y h z t))
+  unfolding approachPoints upstreamOffset flareEntered replied
   approach-reply done upstream flare hazard =
       let e : (ltb 0 (h .across) && ltb (h .straight) (lengthBefore h z t)) ≡ entered = rw (is .before) at test in
-      rw (e, ← is .raised) (record { ended = rw done; upstream = upstream; flare = flare; hazard = hazard })
+      rw (e, ← is .raised) (λ i. record { answer = outcome (done i) tt; upstream = upstream i; flare = flare i; hazard = hazard i })

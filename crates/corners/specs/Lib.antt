@@ -1,6 +1,6 @@
 -- The paper's definitions.
 pub mod Corners
--- What the code's structs say of them.
+-- What the call's struct says of them.
 pub mod Reply
 -- Steps of the code.
 pub mod Steps

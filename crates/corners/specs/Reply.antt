@@ -1,26 +1,33 @@
--- What the call's structs say: the outcome by equation, and each float exactly the whole number of the definition.
+-- What the call's struct says: the complete reply, by equation.
 -- Assumes nothing.
-use mathlib.Core.Path.{_≡_}
 use lib.IntN.{pos}
+use lib.Ieee.{binary64, ofInt}
 use Rattle.refusal.specs.Answer.{Answer, accepted, _>>=_}
 use Rattle.refusal.specs.Refusal.{outcome}
 use Rattle.refusal.specs.Stored.{acceptedOr}
-use Rattle.exact.specs.Whole.{Whole}
 use Rattle.corners.specs.declared.reply.Corner.{Corner}
 use Rattle.corners.specs.declared.reply.Corners.{Corners}
 use Rattle.corners.specs.Corners.{Point, Points}
 
-pub record CornerIs (c : Corner) (p : Point) : Type 0 where
-  pub station : Whole (c .station) (p .station)
-  pub offset : Whole (c .offset) (p .offset)
+-- "Each corner is a pair of floats, station and offset": the whole numbers of a point, as 64-bit floats.
+abbrev pub cornerOf : Point → Corner
+cornerOf p = record { station = ofInt binary64 (p .station); offset = ofInt binary64 (p .offset) }
 
 -- Zeros, beside a refusal.
 abbrev pub noPoints : Points
 noPoints = let none : Point = record { station = pos 0; offset = pos 0 } in record { upstream = none; flare = none; hazard = none }
 
--- The complete reply.
-pub record Replies (r : Corners) (answer : Answer Points) : Type 0 where
-  pub ended : outcome (r .outcome) tt ≡ (answer >>= λ _. accepted (tt {0}))
-  pub upstream : CornerIs (r .upstream) (acceptedOr noPoints answer .upstream)
-  pub flare : CornerIs (r .flare) (acceptedOr noPoints answer .flare)
-  pub hazard : CornerIs (r .hazard) (acceptedOr noPoints answer .hazard)
+-- The reply, complete: done or the refusal, and what stands beside it.
+pub record Replied : Type 0 where
+  pub answer : Answer (Unit {0})
+  pub upstream : Corner
+  pub flare : Corner
+  pub hazard : Corner
+
+unfoldable pub replied : Answer Points → Replied
+replied a =
+    let p = acceptedOr noPoints a in
+    record { answer = a >>= λ _. accepted tt; upstream = cornerOf (p .upstream); flare = cornerOf (p .flare); hazard = cornerOf (p .hazard) }
+
+abbrev pub cornersReply : Corners → Replied
+cornersReply r = record { answer = outcome (r .outcome) tt; upstream = r .upstream; flare = r .flare; hazard = r .hazard }

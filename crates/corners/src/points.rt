@@ -10,13 +10,13 @@ use refusal::Outcome;
 ghost use mathlib.Core.Path.{_≡_};
 ghost use mathlib.Core.Bool.{true};
 ghost use Prim.Native.Nat.{_+_, _≤_};
+ghost use lib.Ieee.{binary64, ofInt};
 ghost use Rattle.refusal.specs.Answer.{accepted};
-ghost use Rattle.exact.specs.Whole.{Whole};
 ghost use Rattle.job.specs.Fits.{HeaderFits, HazardFits};
 ghost use Rattle.planning.specs.Envelope.{adjacent, reaches};
 ghost use Rattle.planning.specs.Reply.{trafficOf};
 ghost use Rattle.corners.specs.Corners.{upstreamBy, pointAt, approachPoints};
-ghost use Rattle.corners.specs.Reply.{CornerIs, Replies};
+ghost use Rattle.corners.specs.Reply.{cornerOf, replied, cornersReply};
 ghost use Rattle.corners.specs.Steps.{OnSheet, StationFits, LengthsOf};
 
 // The sheet corner.
@@ -65,7 +65,7 @@ pub fn approach_lengths(header: Header, hazard: Hazard, traffic: Traffic) -> Len
 // A station so far upstream of the hazard's end on the traffic's side; it may be negative.
 fn station_upstream(traffic: Traffic, hazard: Hazard, distance: u64) -> f64
     requires { ⌜ StationFits hazard distance ⌝ }
-    ensures { λ r. ⌜ Whole r (upstreamBy (trafficOf traffic) hazard distance) ⌝ }
+    ensures { λ r. ⌜ r ≡ ofInt binary64 (upstreamBy (trafficOf traffic) hazard distance) ⌝ }
 {
     match traffic {
         Traffic::Forward => hazard.start as f64 - distance as f64,
@@ -78,7 +78,7 @@ fn corner_at(traffic: Traffic, hazard: Hazard, distance: u64, offset: u64, sheet
     requires { ⌜ StationFits hazard distance ⌝ }
     requires { ⌜ offset ≤ 2120000 ⌝ }
     requires { ⌜ OnSheet sheet ⌝ }
-    ensures { λ r. ⌜ CornerIs r (pointAt (sheet .station) (sheet .offset) (upstreamBy (trafficOf traffic) hazard distance) offset) ⌝ }
+    ensures { λ r. ⌜ r ≡ cornerOf (pointAt (sheet .station) (sheet .offset) (upstreamBy (trafficOf traffic) hazard distance) offset) ⌝ }
 {
     let station = station_upstream(traffic, hazard, distance);
     Corner {
@@ -99,7 +99,7 @@ pub fn approach_corners(
     requires { ⌜ HazardFits header hazard ⌝ }
     requires { ⌜ LengthsOf header hazard (trafficOf traffic) lengths ⌝ }
     requires { ⌜ OnSheet sheet ⌝ }
-    ensures { λ r. ⌜ Replies r (accepted (approachPoints (sheet .station) (sheet .offset) header hazard (trafficOf traffic))) ⌝ }
+    ensures { λ r. ⌜ cornersReply r ≡ replied (accepted (approachPoints (sheet .station) (sheet .offset) header hazard (trafficOf traffic))) ⌝ }
 {
     let offset = header.offset;
     let straight = header.straight;

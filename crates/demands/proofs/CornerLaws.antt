@@ -1,4 +1,4 @@
--- Request 9: when the call corners refuses, exactly; where its corners lie; and worked jobs.
+-- Request 9: when the call corners refuses, exactly; where its corners lie; that their floats lose nothing; and worked jobs.
 -- Assumes nothing.
 use Prim.Native.Nat.{ℕ, _+_, _-_, _*_, _/_, _≤_, _<_}
 use native.Mathlib.Omega.{arith}
@@ -6,13 +6,16 @@ use native.Mathlib.Nat.{lt-div-mul-add, div-mul-le-self}
 use native.Mathlib.Decide.{decLe}
 use mathlib.Core.Path.{_≡_, refl, sym, subst, ap, _∙_}
 use mathlib.Core.Logic.{_⊎_, inl, inr}
-use mathlib.Core.Bool.{true}
+use mathlib.Core.Bool.{Bool, true, false}
 use mathlib.Core.List.{List, map}
 use lib.IntN.{ℤ, pos, negℤ, _+ℤ_, _-ℤ_, +ℤ-assoc, +ℤ-comm, +ℤ-idr, -ℤ-+ℤ-cancel, +ℤ-negℤ-cancel}
+use lib.Ieee.{binary64}
 use borrow.Author.Tests.{ltb-true}
-use Rattle.refusal.specs.Choice.{someOf, keep}
-use Rattle.refusal.specs.Answer.{refused}
+use Rattle.refusal.specs.Choice.{if_then_else_, someOf, keep}
+use Rattle.refusal.specs.Answer.{Answer, accepted, refused}
+use Rattle.refusal.specs.Stored.{acceptedOr}
 use Rattle.refusal.proofs.TestLaws.{impossible}
+use Rattle.exact.proofs.WholeLaws.{cast-exact, difference-size}
 use Rattle.number.specs.Number.{writeIn, writeNumber, scan, readNumber, numberAt}
 use Rattle.approach.specs.Approach.{ceilDiv, formulaLength, approachLength}
 use Rattle.approach.specs.Panel.{raised, raisedLength}
@@ -20,17 +23,19 @@ use Rattle.job.specs.declared.Header.{Header}
 use Rattle.job.specs.declared.Hazard.{Hazard}
 use Rattle.job.specs.Job.{Job, sharedRanges, headerRanges, hazardRanges, readFields, readHeader, readHazards, readRest, readJob}
 use Rattle.job.specs.Writing.{writeNumbers}
-use Rattle.job.proofs.RangeLaws.{header-bounds}
+use Rattle.job.proofs.RangeLaws.{HeaderBounds, header-bounds, hazard-bounds}
 use Rattle.planning.proofs.EnvelopeLaws.{accepted-fits}
-use Rattle.planning.proofs.ApproachedLaws.{reach-test, approached-fits}
+use Rattle.planning.proofs.ApproachedLaws.{ApproachedFits, reach-test, approached-fits}
+use Rattle.planning.proofs.ReachLaws.{lengthening-top}
 use Rattle.planning.specs.Envelope.{Traffic, forward, opposite, adjacentTraffic, farther, reachOf, offsetOf, reaches, reached, lengthening, envelope, standsNear, testHazard, testHazards, acceptJob}
 use Rattle.corners.specs.Corners.{upstreamBy, pointAt, lengthBefore, flareEntered, upstreamOffset, Points, approachPoints, sheetTop, cornersOf}
 use Rattle.planning.specs.Approached.{hazardAt, approachedHazard}
-use Rattle.corners.specs.Steps.{jobCorners}
-use Rattle.corners.proofs.PointLaws.{raised-past-straight}
+use Rattle.corners.specs.Reply.{cornerOf, noPoints, replied}
+use Rattle.corners.specs.Steps.{jobCorners, StationFits}
+use Rattle.corners.proofs.PointLaws.{raised-past-straight, upstream-size, away-top}
 use Rattle.corners.proofs.CallLaws.{off-sheet, on-sheet}
 use Rattle.demands.specs.Cases.{header, hazard}
-use Rattle.demands.specs.Corners.{Corners-eight, NoApproach, Corners-fourteen, Corners-refusals, Apart, EnvelopeEnd, hazardEnd, RoundedDown, CornersLie, Corners-lie}
+use Rattle.demands.specs.Corners.{Corners-eight, NoApproach, Corners-fourteen, Corners-refusals, Apart, EnvelopeEnd, hazardEnd, RoundedDown, CornersLie, Corners-lie, LosesNothing, CornersExact, Corners-exact}
 use Rattle.demands.specs.CornerCases.{cornerCases, drawnCorners, expectedCorners}
 use Rattle.demands.specs.Offset.{Approached}
 use Rattle.demands.proofs.HazardLaws.{told, told-given, told-fourteen, told-refusals, told-not-eight}
@@ -126,11 +131,14 @@ points-lie x y h z t some past = record {
   straight = λ e. rw e (refl, refl);
 }
 
+-- The hazard of a reply lies in its ranges.
+own-fits : (s : List ℕ) (j : Job) (i : ℕ) → Approached s j i → ApproachedFits (j .header) (hazardAt j i)
+own-fits s j i a = let fits = accepted-fits s j (a .job) in approached-fits j fits i (a .there) (ltb-true _ _ (sym (reach-test j fits i (a .there)) ∙ a .reach))
+
 approached-lie : (s : List ℕ) (j : Job) (i x y : ℕ) → Approached s j i
     → CornersLie x y (j .header) (hazardAt j i) (adjacentTraffic (j .header) (hazardAt j i .side)) (drawn x y j (hazardAt j i))
 approached-lie s j i x y a =
-    let fits = accepted-fits s j (a .job) in
-    let own = approached-fits j fits i (a .there) (ltb-true _ _ (sym (reach-test j fits i (a .there)) ∙ a .reach)) in
+    let own = own-fits s j i a in
     points-lie x y (j .header) (hazardAt j i) (adjacentTraffic (j .header) (hazardAt j i .side)) (omega (arith, header-bounds (j .header) (own .header) .along-low))
     (raised-past-straight (j .header) (hazardAt j i) (adjacentTraffic (j .header) (hazardAt j i .side)) (own .header) (own .hazard) (own .clear) (a .reach))
 
@@ -150,6 +158,64 @@ corners-lie s j i x y p accept e = go (sheet s i x y)
         let taken = w .1 .job in
         let same : w .0 ≡ j = cc in
         own (w .0) (w .1) (w .2) same
+
+-- What the floats say
+
+-- A number far below 2 ^ 53 is cast exactly, and so is its distance from the sheet corner.
+point-exact : (x y : ℕ) (t : Traffic) (z : Hazard) (d o : ℕ) → x ≤ sheetTop → y ≤ sheetTop → StationFits z d → o ≤ 2120000
+    → LosesNothing (cornerOf (pointAt x y (upstreamBy t z d) o)) (pointAt x y (upstreamBy t z d) o)
+point-exact x y t z d o k l fits top = record {
+  station = cast-exact binary64 (upstreamBy t z d -ℤ pos x) (omega (arith, difference-size (upstreamBy t z d) (pos x), upstream-size t z d, fits .start, fits .end, fits .near));
+  offset = cast-exact binary64 (pos o -ℤ pos y) (omega (arith, difference-size (pos o) (pos y)));
+}
+
+points-exact : (x y : ℕ) (h : Header) (z : Hazard) (t : Traffic) → x ≤ sheetTop → y ≤ sheetTop → ApproachedFits h z → CornersExact (replied (accepted (approachPoints x y h z t))) (approachPoints x y h z t)
+unfolding replied approachPoints upstreamOffset
+points-exact x y h z t k l own = go (flareEntered h z t)
+  where
+    header : HeaderBounds h
+    header = header-bounds h (own .header)
+
+    raised : lengthening h z t < 210000
+    raised = lengthening-top h z (own .header) (own .hazard) (own .clear) t
+
+    at : (d o : ℕ) → d ≤ 210000 → o ≤ 2120000 → LosesNothing (cornerOf (pointAt x y (upstreamBy t z d) o)) (pointAt x y (upstreamBy t z d) o)
+    at d o near top =
+        let hazard = hazard-bounds h z (own .hazard) in
+        point-exact x y t z d o k l (record { start = omega (arith, hazard .long, hazard .ends, header .road-end); end = omega (arith, hazard .ends, header .road-end); near = near }) top
+
+    away : ℕ
+    away = h .across * (lengthening h z t - h .straight) / h .along
+
+    points : Bool → Points
+    points entered =
+        let upstream = pointAt x y (upstreamBy t z (lengthening h z t)) (if entered then h .offset + away else h .offset) in
+        let flare = pointAt x y (upstreamBy t z (h .straight)) (h .offset) in
+        record { upstream = upstream; flare = if entered then flare else upstream; hazard = pointAt x y (upstreamBy t z 0) (h .offset) }
+
+    go : (entered : Bool) → CornersExact (replied (accepted (points entered))) (points entered)
+    go true = record {
+      upstream = at (lengthening h z t) (h .offset + away) (omega (arith, raised)) (omega (arith, header .offset-top, away-top h (own .header) (record { before = 0; raised = lengthening h z t }) raised));
+      flare = at (h .straight) (h .offset) (omega (arith, header .straight-top)) (omega (arith, header .offset-top));
+      hazard = at 0 (h .offset) (omega arith) (omega (arith, header .offset-top));
+    }
+    go false =
+        let upstream = at (lengthening h z t) (h .offset) (omega (arith, raised)) (omega (arith, header .offset-top)) in
+        record { upstream = upstream; flare = upstream; hazard = at 0 (h .offset) (omega arith) (omega (arith, header .offset-top)) }
+
+pub corners-exact : Corners-exact
+unfolding replied
+corners-exact s i x y = go (cornersOf s i x y) refl (sheet s i x y)
+  where
+    zero-exact : LosesNothing (cornerOf (noPoints .hazard)) (noPoints .hazard)
+    zero-exact = record { station = cast-exact binary64 (pos 0) (omega arith); offset = cast-exact binary64 (pos 0) (omega arith) }
+
+    go : (a : Answer Points) → cornersOf s i x y ≡ a → Sheet s i x y → CornersExact (replied a) (acceptedOr noPoints a)
+    go (refused n v) e b = record { upstream = zero-exact; flare = zero-exact; hazard = zero-exact }
+    go (accepted p) e (outside q w) = impossible cc
+    go (accepted p) e (within k l) =
+        let (j, a, q) = told-given (drawn x y) s i p (sym (told-on-sheet s i x y k l) ∙ e) in
+        subst (λ (r : Points). CornersExact (replied (accepted r)) r) q (points-exact x y (j .header) (hazardAt j i) (adjacentTraffic (j .header) (hazardAt j i .side)) k l (own-fits s j i a))
 
 -- Worked jobs, one theorem over the list.
 pub corner-cases-hold : map drawnCorners cornerCases ≡ map expectedCorners cornerCases

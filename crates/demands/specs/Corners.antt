@@ -1,4 +1,5 @@
--- Document 02's request 9 as statements about the definitions: when the call corners refuses, and where the corners lie.
+-- Document 02's request 9 as statements about the definitions: when the call corners refuses, where the corners lie, and that their floats lose
+-- nothing.
 -- Assumes nothing.
 use Prim.Native.Nat.{ℕ, _+_, _-_, _*_, _≤_, _<_}
 use mathlib.Core.Path.{_≡_}
@@ -8,13 +9,17 @@ use mathlib.Core.List.{List}
 use lib.ListN.{length}
 use lib.IntN.{ℤ, pos, _+ℤ_, _-ℤ_}
 use Rattle.refusal.specs.Answer.{accepted, refused}
+use Rattle.refusal.specs.Stored.{acceptedOr}
+use Rattle.exact.specs.Whole.{Whole}
 use Rattle.job.specs.declared.Header.{Header}
 use Rattle.job.specs.declared.Hazard.{Hazard}
 use Rattle.job.specs.Job.{Job}
 use Rattle.planning.specs.Envelope.{Traffic, forward, opposite, adjacentTraffic, lengthening, envelope}
 use Rattle.schedule.specs.Plan.{plan}
 use Rattle.schedule.specs.Planned.{Accepted}
-use Rattle.corners.specs.Corners.{pointAt, Points, flareEntered, sheetTop, cornersOf}
+use Rattle.corners.specs.declared.reply.Corner.{Corner}
+use Rattle.corners.specs.Corners.{Point, pointAt, Points, flareEntered, sheetTop, cornersOf}
+use Rattle.corners.specs.Reply.{noPoints, Replied, replied}
 use Rattle.planning.specs.Approached.{hazardAt, adjacentReaches}
 
 -- Refusals
@@ -79,3 +84,21 @@ pub record CornersLie (x y : ℕ) (h : Header) (z : Hazard) (t : Traffic) (p : P
 abbrev pub Corners-lie : Type 0
 Corners-lie = (s : List ℕ) (j : Job) (i x y : ℕ) (p : Points) → Accepted s j → cornersOf s i x y ≡ accepted p
     → CornersLie x y (j .header) (hazardAt j i) (adjacentTraffic (j .header) (hazardAt j i .side)) p
+
+-- What the floats say
+
+-- "The subtraction is done in floats and loses nothing": the floats of a corner are exactly the whole numbers of its point, with their
+-- signs. None is infinite or NaN, and none is a negative zero.
+pub record LosesNothing (c : Corner) (p : Point) : Type 0 where
+  pub station : Whole (c .station) (p .station)
+  pub offset : Whole (c .offset) (p .offset)
+
+-- Of every corner of a reply.
+pub record CornersExact (r : Replied) (p : Points) : Type 0 where
+  pub upstream : LosesNothing (r .upstream) (p .upstream)
+  pub flare : LosesNothing (r .flare) (p .flare)
+  pub hazard : LosesNothing (r .hazard) (p .hazard)
+
+-- Of every reply, whatever the bytes, the index and the sheet corner are; beside a refusal the points are zeros.
+abbrev pub Corners-exact : Type 0
+Corners-exact = (s : List ℕ) (i x y : ℕ) → CornersExact (replied (cornersOf s i x y)) (acceptedOr noPoints (cornersOf s i x y))

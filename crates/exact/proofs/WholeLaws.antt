@@ -1,5 +1,5 @@
--- Whole numbers in floats: casts, sums and differences lose nothing up to 2 ^ prec, which is 2 ^ 53 in 64 bits; and what a float that is a whole
--- number says of both.
+-- Whole numbers in floats: casts are exact up to 2 ^ prec, which is 2 ^ 53 in 64 bits, and sums and differences of casts are casts; and what a
+-- float that is a whole number says of both.
 -- Assumes nothing.
 use Prim.Native.Nat.{ℕ, zero, suc, _+_, _-_, _*_, _^_, _≤_, _<_}
 use native.Mathlib.Nat.{mul-one, mul-comm, mul-assoc, add-mul, mul-sub, mul-pos, mul-lt-mul-of-pos-right, mul-le-mul-right, eq-of-mul-eq-mul-right, suc-inj}
@@ -100,18 +100,22 @@ neg-at nan s n h = h
 neg-at (inf u) s n h = h
 neg-at (fin u m e) s n h = (ap not (h .0), h .1)
 
--- A sum and a difference of whole numbers is rounded once, from the exact number, and so not at all where that is at most 2 ^ prec.
-module _ (f : Format) {x y : Float} {a b : ℤ} (h : Whole x a) (k : Whole y b) where
-  pub add-exact : natAbs (a +ℤ b) ≤ 2 ^ prec f → Whole (add f x y) (a +ℤ b)
-  add-exact l =
-      let e : add f x y ≡ ofInt f (a +ℤ b) = add-at f x y _ _ _ _ (h .value) (k .value) ∙ sum-integer f a (belowZero b) (natAbs b) ∙ ap (λ (z : ℤ). ofInt f (a +ℤ z)) (signed-whole b .0) in
-      rw e (cast-exact f (a +ℤ b) l)
+-- A sum and a difference of casts, each of an integer up to 2 ^ prec, is rounded once, from the exact number: it is the cast of that.
+module _ (f : Format) (a b : ℤ) (l : natAbs a ≤ 2 ^ prec f) (m : natAbs b ≤ 2 ^ prec f) where
+  abbrev x : Whole (ofInt f a) a
+  x = cast-exact f a l
 
-  pub sub-exact : natAbs (a -ℤ b) ≤ 2 ^ prec f → Whole (sub f x y) (a -ℤ b)
+  abbrev y : Whole (ofInt f b) b
+  y = cast-exact f b m
+
+  pub add-cast : add f (ofInt f a) (ofInt f b) ≡ ofInt f (a +ℤ b)
+  add-cast = add-at f (ofInt f a) (ofInt f b) _ _ _ _ (x .value) (y .value) ∙ sum-integer f a (belowZero b) (natAbs b) ∙ ap (λ (z : ℤ). ofInt f (a +ℤ z)) (signed-whole b .0)
+
+  pub sub-cast : sub f (ofInt f a) (ofInt f b) ≡ ofInt f (a -ℤ b)
   unfolding sub
-  sub-exact l =
-      let e : sub f x y ≡ ofInt f (a -ℤ b) = add-at f x (neg y) _ _ _ _ (h .value) (neg-at y _ _ (k .value)) ∙ sum-integer f a (not (belowZero b)) (natAbs b) ∙ ap (λ (z : ℤ). ofInt f (a +ℤ z)) (signed-whole b .1) in
-      rw e (cast-exact f (a -ℤ b) l)
+  sub-cast =
+      add-at f (ofInt f a) (neg (ofInt f b)) _ _ _ _ (x .value) (neg-at (ofInt f b) _ _ (y .value)) ∙ sum-integer f a (not (belowZero b)) (natAbs b)
+      ∙ ap (λ (z : ℤ). ofInt f (a +ℤ z)) (signed-whole b .1)
 
 -- Sizes
 
@@ -136,17 +140,6 @@ neg-size (negsuc b) = refl
 
 pub difference-size : (a b : ℤ) → natAbs (a -ℤ b) ≤ natAbs a + natAbs b
 difference-size a b = rw neg-size at (add-size a (negℤ b))
-
--- As code has it: `x - n as f64` and `x + n as f64`, at an x that is a whole number.
-module _ (f : Format) {x : Float} {z : ℤ} (n : ℕ) (h : Whole x z) (l : natAbs z + n ≤ 2 ^ prec f) where
-  cast : Whole (ofInt f (pos n)) (pos n)
-  cast = cast-exact f (pos n) (omega arith)
-
-  pub less-cast : Whole (sub f x (ofInt f (pos n))) (z -ℤ pos n)
-  less-cast = sub-exact f h cast (omega (arith, difference-size z (pos n)))
-
-  pub more-cast : Whole (add f x (ofInt f (pos n))) (z +ℤ pos n)
-  more-cast = add-exact f h cast (omega (arith, add-size z (pos n)))
 
 -- What `Whole` says
 

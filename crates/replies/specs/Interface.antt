@@ -1,13 +1,11 @@
 -- The C interface's structs for each answer of the calls.
 -- Assumes nothing.
 use Prim.Native.Nat.{ℕ, _+_, _*_}
-use mathlib.Core.Path.{_≡_}
 use mathlib.Core.List.{[]}
-use Rattle.refusal.specs.Answer.{Answer, accepted, refused, _>>=_}
-use Rattle.refusal.specs.Stored.{acceptedOr}
+use Rattle.refusal.specs.Answer.{Answer, accepted, refused}
 use Rattle.schedule.specs.declared.reply.Written.{Written}
 use Rattle.corners.specs.Corners.{Points}
-use Rattle.corners.specs.Reply.{CornerIs, noPoints}
+use Rattle.corners.specs.Reply.{cornerOf, noPoints}
 use Rattle.clear_offset.specs.Offset.{Smallest, offset, none}
 use Rattle.panels.specs.Layout as panels
 use Rattle.panels.specs.Panels.{Panels}
@@ -49,12 +47,13 @@ unfoldable pub quantitiesOf : Answer Counted → Quantities
 quantitiesOf (accepted c) = record { number = 0; value = 0; records = c .records; quantities = placesOf (c .quantities) }
 quantitiesOf (refused number value) = record { number = number; value = value; records = 0; quantities = placesOf [] }
 
--- The corners' struct: number and value by equation, and each float exactly the whole number; 0 after a refusal.
-pub record CornersTold (r : Corners) (answer : Answer Points) : Type 0 where
-  pub ended : reply (r .number) (r .value) ≡ replyOf (answer >>= λ _. accepted 0)
-  pub upstream : CornerIs (r .upstream) (acceptedOr noPoints answer .upstream)
-  pub flare : CornerIs (r .flare) (acceptedOr noPoints answer .flare)
-  pub hazard : CornerIs (r .hazard) (acceptedOr noPoints answer .hazard)
+-- The corners as floats; zeros after a refusal.
+abbrev pub cornersAt : (number value : ℕ) → Points → Corners
+cornersAt number value p = record { number = number; value = value; upstream = cornerOf (p .upstream); flare = cornerOf (p .flare); hazard = cornerOf (p .hazard) }
+
+unfoldable pub cornersReplyOf : Answer Points → Corners
+cornersReplyOf (accepted p) = cornersAt 0 0 p
+cornersReplyOf (refused number value) = cornersAt number value noPoints
 
 -- The smallest offset, or that there is none.
 unfoldable pub smallestOf : Answer Smallest → SmallestOffset

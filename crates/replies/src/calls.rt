@@ -18,7 +18,7 @@ ghost use Rattle.corners.specs.Corners.{cornersOf};
 ghost use Rattle.queries.specs.Quantity.{quantity};
 ghost use Rattle.queries.specs.Lookup.{lookup};
 ghost use Rattle.queries.specs.Ranges.{quantities};
-ghost use Rattle.replies.specs.Interface.{replyOf, planReplyOf, recordOf, quantitiesOf, CornersTold};
+ghost use Rattle.replies.specs.Interface.{replyOf, planReplyOf, recordOf, quantitiesOf, cornersReplyOf};
 
 pub fn plan(job: &[u8], side: u64, out: &mut [u8]) -> PlanReply
     ensures { λ r. ⌜ r ≡ planReplyOf (bytesWritten (plan (now (job .entry)) side (length (now (out .entry))))) ⌝ }
@@ -95,7 +95,7 @@ pub fn quantities(schedule: &[u8], level: u64, ranges: &[u64]) -> Quantities
 
 // The corners of a hazard's adjacent approach, from the sheet corner.
 pub fn corners(job: &[u8], hazard: u64, sheet_station: u64, sheet_offset: u64) -> Corners
-    ensures { λ r. ⌜ CornersTold r (cornersOf (now (job .entry)) hazard «sheet_station» «sheet_offset») ⌝ }
+    ensures { λ r. ⌜ r ≡ cornersReplyOf (cornersOf (now (job .entry)) hazard «sheet_station» «sheet_offset») ⌝ }
 {
     let reply = corners::call::corners(job, hazard, sheet_station, sheet_offset);
     let outcome = reply.outcome;

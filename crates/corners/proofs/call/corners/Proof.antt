@@ -1,17 +1,16 @@
 -- `corners::call::corners` meets its contract: 8 before anything is read, then the job as it is accepted, and what follows for it. Assumes nothing.
-use mathlib.Core.Path.{_∙_}
 use borrow.Author.Needs.{needs}
 use Rattle.job.specs.Job.{jobOf}
 use Rattle.planning.proofs.EnvelopeLaws.{accepted-fits}
 use Rattle.planning.proofs.AcceptedJobLaws.{accept-done, accept-refused}
-use Rattle.corners.proofs.CallLaws.{replies-as, off-tested, on-tested, off-sheet, on-sheet}
+use Rattle.corners.proofs.CallLaws.{off-tested, on-tested, off-sheet, on-sheet}
 use Rattle.corners.proofs.call.corners.Statement.{statement}
 use Rattle.corners.proofs.call.corners.Tie as tie
 
 returns : tie.Need-returns
 returns c =
     let a = c .before .before .before .args in
-    replies-as (c .refused .ensures) (off-sheet (a .sheet-station) (a .sheet-offset) (a .job .now) (a .hazard) (off-tested (a .sheet-station) (a .sheet-offset) (c .before .if1 .taken)))
+    rw (off-sheet (a .sheet-station) (a .sheet-offset) (a .job .now) (a .hazard) (off-tested (a .sheet-station) (a .sheet-offset) (c .before .if1 .taken))) (c .refused .ensures)
 
 job-corners-requires : tie.Need-job-corners-requires
 job-corners-requires c κs =
@@ -25,16 +24,16 @@ returns-2 c =
     let b = c .before .before .before .before in
     let a = b .before .before .before .args in
     let on = on-tested (a .sheet-station) (a .sheet-offset) (b .before .if1 .left) in
-    replies-as (c .job-corners .ensures)
-    (on-sheet (a .sheet-station) (a .sheet-offset) (a .job .now) (a .hazard) (on .0) (on .1) ∙ rw (accept-done (a .job .now) (b .accept-job .result) (b .accept-job .ensures .0) (c .before .before .enum-told .given .1)))
+    rw (on-sheet (a .sheet-station) (a .sheet-offset) (a .job .now) (a .hazard) (on .0) (on .1), accept-done (a .job .now) (b .accept-job .result) (b .accept-job .ensures .0) (c .before .before .enum-told .given .1))
+    (c .job-corners .ensures)
 
 returns-3 : tie.Need-returns-3
 returns-3 c =
     let b = c .before .before .before .before in
     let a = b .before .before .before .args in
     let on = on-tested (a .sheet-station) (a .sheet-offset) (b .before .if1 .left) in
-    replies-as (c .refused2 .ensures)
-    (on-sheet (a .sheet-station) (a .sheet-offset) (a .job .now) (a .hazard) (on .0) (on .1) ∙ rw (accept-refused (a .job .now) (b .accept-job .result) (b .accept-job .ensures .0) (c .before .before .outcome .given .1)))
+    rw (on-sheet (a .sheet-station) (a .sheet-offset) (a .job .now) (a .hazard) (on .0) (on .1), accept-refused (a .job .now) (b .accept-job .result) (b .accept-job .ensures .0) (c .before .before .outcome .given .1))
+    (c .refused2 .ensures)
 
 pub corners-spec : {M : Type 1} → statement M
 corners-spec =

@@ -1,5 +1,5 @@
 -- `corners::call::hazard_corners` meets its contract: the lengths of the adjacent traffic's approach, and its corners. Assumes nothing.
-use mathlib.Core.Path.{sym, ap, _∙_}
+use mathlib.Core.Path.{ap, _∙_}
 use borrow.Author.Needs.{needs}
 use borrow.Author.Tests.{lt-ltb}
 use Rattle.refusal.specs.Answer.{accepted}
@@ -7,7 +7,7 @@ use Rattle.job.proofs.RangeLaws.{hazard-bounds}
 use Rattle.planning.specs.Envelope.{Traffic}
 use Rattle.planning.proofs.AdjacentLaws.{is-adjacent, adjacent-reaches}
 use Rattle.corners.specs.Corners.{approachPoints}
-use Rattle.corners.proofs.CallLaws.{replies-as}
+use Rattle.corners.specs.Reply.{replied}
 use Rattle.corners.proofs.call.hazard_corners.Statement.{statement}
 use Rattle.corners.proofs.call.hazard_corners.Tie as tie
 
@@ -23,8 +23,8 @@ approach-lengths-requires c κs =
 returns : tie.Need-returns
 returns c =
     let a = c .before .before .before .args in
-    replies-as (c .approach-corners .ensures)
-    (ap (λ (t : Traffic). accepted (approachPoints (a .sheet .station) (a .sheet .offset) (a .header) (a .hazard) t)) (sym (c .before .before .adjacent-traffic .ensures)))
+    c .approach-corners .ensures
+    ∙ ap (λ (t : Traffic). replied (accepted (approachPoints (a .sheet .station) (a .sheet .offset) (a .header) (a .hazard) t))) (c .before .before .adjacent-traffic .ensures)
 
 pub hazard-corners-spec : {M : Type 1} → statement M
 hazard-corners-spec = tie.close (tie.spec (λ c κs. search needs) approach-lengths-requires (λ c κs. search needs) returns)

@@ -5,7 +5,6 @@ use borrow.Author.Needs.{needs}
 use Rattle.job.proofs.RangeLaws.{header-bounds}
 use Rattle.planning.proofs.ApproachedLaws.{stored-none, stored-unreached, stored-fits, stored-approached}
 use Rattle.corners.specs.Steps.{jobCorners}
-use Rattle.corners.proofs.CallLaws.{replies-as}
 use Rattle.corners.proofs.call.job_corners.Statement.{statement}
 use Rattle.corners.proofs.call.job_corners.Tie as tie
 
@@ -17,7 +16,7 @@ unfolding jobCorners
 returns c =
     let s = c .before .before .before .before in
     let a = s .args in
-    replies-as (c .refused .ensures) (rw (stored-none (a .t1) (s .pre .0) (a .index) (omega arith)))
+    rw (stored-none (a .t1) (s .pre .0) (a .index) (omega arith)) (c .refused .ensures)
 
 returns-2 : tie.Need-returns-2
 unfolding jobCorners
@@ -25,7 +24,7 @@ returns-2 c =
     let z = c .before .before .before .before in
     let s = z .before .before .before .before .before in
     let a = s .args in
-    replies-as (c .refused2 .ensures) (rw (stored-unreached (a .t1) (s .pre .0) (a .index) (omega arith) (z .unnamed .result) (z .unnamed .ensures) (omega arith)))
+    rw (stored-unreached (a .t1) (s .pre .0) (a .index) (omega arith) (z .unnamed .result) (z .unnamed .ensures) (omega arith)) (c .refused2 .ensures)
 
 hazard-corners-requires : tie.Need-hazard-corners-requires
 hazard-corners-requires c κs =
@@ -40,7 +39,7 @@ returns-3 c =
     let z = c .before .before .before .before in
     let s = z .before .before .before .before .before in
     let a = s .args in
-    replies-as (c .hazard-corners .ensures) (rw (stored-approached (a .t1) (s .pre .0) (a .index) (omega arith) (z .unnamed .result) (z .unnamed .ensures) (omega arith)))
+    rw (stored-approached (a .t1) (s .pre .0) (a .index) (omega arith) (z .unnamed .result) (z .unnamed .ensures) (omega arith)) (c .hazard-corners .ensures)
 
 pub job-corners-spec : {M : Type 1} → statement M
 job-corners-spec =

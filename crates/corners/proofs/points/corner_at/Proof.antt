@@ -1,10 +1,12 @@
--- `corners::points::corner_at` meets its contract: every number is far below 2 ^ 53, so both differences are exact. Assumes nothing.
+-- `corners::points::corner_at` meets its contract: every number is far below 2 ^ 53, so both differences are those of the integers. Assumes nothing.
 use native.Mathlib.Omega.{arith}
+use mathlib.Core.Path.{ap, _∙_}
 use borrow.Author.Needs.{needs}
 use lib.IntN.{pos}
-use lib.Ieee.{binary64}
-use Rattle.exact.proofs.WholeLaws.{cast-defined, cast-exact, less-cast}
+use lib.Ieee.{Float, binary64, sub, ofInt}
+use Rattle.exact.proofs.WholeLaws.{cast-defined, sub-cast}
 use Rattle.planning.specs.Reply.{trafficOf}
+use Rattle.corners.specs.Corners.{upstreamBy}
 use Rattle.corners.proofs.PointLaws.{upstream-size}
 use Rattle.corners.proofs.points.corner_at.Statement.{statement}
 use Rattle.corners.proofs.points.corner_at.Tie as tie
@@ -24,11 +26,14 @@ returns c =
     let a = s .args in
     let station = s .pre .0 in
     let sheet = s .pre .1 .1 in
-    record {
-      station =
-          less-cast binary64 (a .sheet .station) (c .before .before .before .station-upstream .ensures)
-          (omega (arith, upstream-size (trafficOf (a .traffic)) (a .hazard) (a .distance), station .start, station .end, station .near, sheet .station));
-      offset = less-cast binary64 (a .sheet .offset) (cast-exact binary64 (pos (a .offset)) (omega (arith, s .pre .1 .0))) (omega (arith, s .pre .1 .0, sheet .offset));
+    let upstream = upstreamBy (trafficOf (a .traffic)) (a .hazard) (a .distance) in
+    let size = upstream-size (trafficOf (a .traffic)) (a .hazard) (a .distance) in
+    λ i. record {
+      station = (
+          ap (λ (from : Float). sub binary64 from (ofInt binary64 (pos (a .sheet .station)))) (c .before .before .before .station-upstream .ensures)
+          ∙ sub-cast binary64 upstream (pos (a .sheet .station)) (omega (arith, size, station .start, station .end, station .near)) (omega (arith, sheet .station))
+          ) i;
+      offset = sub-cast binary64 (pos (a .offset)) (pos (a .sheet .offset)) (omega (arith, s .pre .1 .0)) (omega (arith, sheet .offset)) i;
     }
 
 pub corner-at-spec : {M : Type 1} → statement M

@@ -1,9 +1,9 @@
--- `corners::points::station_upstream` meets its contract: stations and distances are below 2 ^ 53, and so is what they come to. Assumes nothing.
+-- `corners::points::station_upstream` meets its contract: stations and distances are below 2 ^ 53. Assumes nothing.
 use native.Mathlib.Omega.{arith}
 use borrow.Author.Needs.{needs}
 use lib.IntN.{pos}
 use lib.Ieee.{binary64}
-use Rattle.exact.proofs.WholeLaws.{cast-defined, cast-exact, less-cast, more-cast}
+use Rattle.exact.proofs.WholeLaws.{cast-defined, add-cast, sub-cast}
 use Rattle.corners.proofs.points.station_upstream.Statement.{statement}
 use Rattle.corners.proofs.points.station_upstream.Tie as tie
 
@@ -11,13 +11,13 @@ returns : tie.Need-returns
 returns c =
     let s = c .before .before .before .before in
     rw (c .before .before .enum-told .given .1)
-    (less-cast binary64 (s .args .distance) (cast-exact binary64 (pos (s .args .hazard .start)) (omega (arith, s .pre .start))) (omega (arith, s .pre .start, s .pre .near)))
+    (sub-cast binary64 (pos (s .args .hazard .start)) (pos (s .args .distance)) (omega (arith, s .pre .start)) (omega (arith, s .pre .near)))
 
 returns-2 : tie.Need-returns-2
 returns-2 c =
     let s = c .before .before .before .before in
     rw (c .before .before .enum-told2 .given .1)
-    (more-cast binary64 (s .args .distance) (cast-exact binary64 (pos (s .args .hazard .end)) (omega (arith, s .pre .end))) (omega (arith, s .pre .end, s .pre .near)))
+    (add-cast binary64 (pos (s .args .hazard .end)) (pos (s .args .distance)) (omega (arith, s .pre .end)) (omega (arith, s .pre .near)))
 
 pub station-upstream-spec : {M : Type 1} → statement M
 station-upstream-spec =
