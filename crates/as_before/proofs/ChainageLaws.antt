@@ -6,22 +6,16 @@ use mathlib.Core.Path.{_≡_, refl, sym, subst, ap, ap₂, _∙_}
 use mathlib.Core.Logic.{_⊎_, inl, inr}
 use mathlib.Core.Bool.{Bool, true, false, _&&_}
 use mathlib.Core.List.{List, [], _∷_, _++_, List·Memᴰ, List·Memᴰ·head, List·Memᴰ·tail, Memᴰ·append-left, Memᴰ·append-right}
-use lib.ListN.{length, replicate, length-append}
-use lib.Dec.{leb, ltb, eqb}
+use lib.ListN.{length, length-append}
+use lib.Dec.{leb, ltb}
 use borrow.Author.Tests.{le-leb, lt-leb, leb-true, lt-ltb, le-ltb, ltb-true}
 use Rattle.refusal.specs.Choice.{if_then_else_}
-use Rattle.refusal.specs.Answer.{accepted, _>>=_}
-use Rattle.refusal.specs.Refusal.{refusal, unless-refuse}
-use Rattle.refusal.specs.declared.Refusal.the-variants as Row
+use Rattle.refusal.specs.Answer.{accepted}
 use Rattle.refusal.proofs.TestLaws.{and-intro}
-use Rattle.refusal.proofs.AnswerLaws.{bound}
 use Rattle.number.specs.Number.{writeIn, writeNumber}
 use Rattle.number.proofs.WriteLaws.{write-five}
-use Rattle.job.specs.Job.{Job, headerSize, readHeader, headerOf, readRest}
+use Rattle.job.specs.Job.{Job}
 use Rattle.job.specs.Writing.{writeJob}
-use Rattle.job.specs.Reply.{headerAt}
-use Rattle.job.proofs.RestLaws.{job-step}
-use Rattle.job.proofs.OpeningLaws.{job-header}
 use Rattle.runs.specs.declared.Stretch.{Stretch}
 use Rattle.runs.specs.Level.{Has}
 use Rattle.runs.specs.RunList.{lastEnd}
@@ -29,7 +23,6 @@ use Rattle.runs.proofs.RunLaws.{Rising, run-list-short, run-list-rising}
 use Rattle.planning.specs.Envelope.{acceptJob}
 use Rattle.planning.specs.Required.{jobRuns}
 use Rattle.planning.proofs.EnvelopeLaws.{accepted-fits}
-use Rattle.planning.proofs.AcceptedLaws.{accepted-read}
 use Rattle.planning.proofs.JobRunLaws.{job-run-list}
 use Rattle.planning.proofs.RoadLaws.{runs-on-road}
 use Rattle.schedule.specs.Schedule.{writeRecord, writeRecords, writeSchedule, readSchedule}
@@ -38,12 +31,11 @@ use Rattle.schedule.proofs.ScheduleLaws.{read-schedule}
 use Rattle.station_level.specs.Level.{levelAt}
 use Rattle.corners.specs.Corners.{sheetTop, onSheet, cornersOf}
 use Rattle.clear_offset.specs.Offset.{smallestOffset}
-use Rattle.open_memory.specs.Memory.{laidOut, madeFrom}
-use Rattle.open_job.specs.Open.{openJob}
-use Rattle.kept_states.specs.States.{mostKept, nothingKept, statesFrom, openStates}
+use Rattle.open_memory.specs.Memory.{madeFrom}
 use Rattle.queries.specs.Quantity.{quantity}
 use Rattle.queries.specs.Ranges.{quantities}
 use Rattle.queries.specs.Lookup.{Found, found, nowhere, findRecord, placeIn, lookup}
+use Rattle.open_promises.proofs.OpeningLaws.{opening-accepted}
 use Rattle.open_promises.proofs.ListLaws.{schedule-promise}
 use Rattle.report.specs.Text.{reported}
 use Rattle.as_before.specs.AcceptedBefore.{writtenBefore, RunsBefore, recordNumbers, allRecordNumbers, scheduleBefore}
@@ -52,22 +44,6 @@ use Rattle.as_before.proofs.FiveByteLaws.{record-five, records-five, sc
 use Rattle.as_before.proofs.AcceptedLaws.{road-before, before-accepted}
 
 -- Jobs
-
--- Opening, by the header alone.
-opened : (s : List ℕ) (j : Job) → acceptJob s ≡ accepted j
-    → openStates s ≡ (if eqb (j .header .count) 0 then accepted (statesFrom (laidOut (j .header) []) (replicate mostKept nothingKept)) else refusal (Row.HeaderRange (headerSize (j .header .kind))))
-unfolding openStates openJob headerAt
-opened s j e =
-    let read = accepted-read s j e in
-    let b = bound (headerAt s) (λ x. readRest (x .header) (x .header .count) [] s (x .next)) j (sym (job-step s) ∙ read) in
-    let f = bound (readHeader s) _ (b .first) (b .taken) in
-    let same : headerOf (f .first .numbers) ≡ j .header = (let z = f .rest in cc) ∙ sym (job-header s (b .taken) read) in
-    rw (f .taken, e, same) (go (eqb (j .header .count) 0))
-  where
-    go : (t : Bool) → ((unless-refuse t (Row.HeaderRange (headerSize (j .header .kind))) >>= λ _. accepted (laidOut (j .header) [])) >>= λ a. accepted (statesFrom a (replicate mostKept nothingKept)))
-        ≡ (if t then accepted (statesFrom (laidOut (j .header) []) (replicate mostKept nothingKept)) else refusal (Row.HeaderRange (headerSize (j .header .kind))))
-    go true = refl
-    go false = refl
 
 written : (rs : List Stretch) → RunsBefore rs → writeSchedule rs ≡ scheduleBefore rs
 written rs b = schedule-five rs (run-list-short rs (b .run-list)) (run-list-rising rs (b .run-list)) (b .ends)
@@ -104,7 +80,7 @@ jobs-before-11 s j b =
         corners = λ index x y h k. rw (and-intro (le-leb x sheetTop (omega arith)) (le-leb y sheetTop (omega arith)), is);
         off-sheet = λ index x y h. rw (off x y h);
         offsets = λ index longest. rw is;
-        opens = opened s j is;
+        opens = opening-accepted s j is;
         schedules = λ calls m from zs few stand side room.
             let answers = schedule-promise s j calls m from zs few stand in
             answers .planned side room ∙ job-planned (writeJob (madeFrom (j .header) zs)) (madeFrom (j .header) zs) (answers .is-accepted) road side room;

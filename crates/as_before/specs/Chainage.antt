@@ -5,15 +5,14 @@ use Prim.Native.Nat.{ℕ, _≤_, _<_}
 use mathlib.Core.Path.{_≡_}
 use mathlib.Core.Logic.{_⊎_, _↔_}
 use mathlib.Core.Bool.{_&&_}
-use mathlib.Core.List.{List, [], _∷_, _++_, map, List·Memᴰ}
-use lib.ListN.{length, replicate}
-use lib.Dec.{leb, eqb}
-use Rattle.refusal.specs.Choice.{if_then_else_}
+use mathlib.Core.List.{List, _∷_, _++_, map, List·Memᴰ}
+use lib.ListN.{length}
+use lib.Dec.{leb}
 use Rattle.refusal.specs.Answer.{Answer, accepted, _>>=_}
 use Rattle.refusal.specs.Refusal.{refusal, unless-refuse}
 use Rattle.refusal.specs.declared.Refusal.the-variants as Row
 use Rattle.job.specs.declared.Hazard.{Hazard}
-use Rattle.job.specs.Job.{Job, unnamed, headerSize}
+use Rattle.job.specs.Job.{Job, unnamed}
 use Rattle.runs.specs.declared.Stretch.{Stretch}
 use Rattle.runs.specs.Level.{Has}
 use Rattle.runs.specs.RunList.{shownLevel, lastEnd}
@@ -24,9 +23,10 @@ use Rattle.schedule.specs.Plan.{PlannedSide, fitted, plan}
 use Rattle.station_level.specs.Level.{levelAt}
 use Rattle.corners.specs.Corners.{approachPoints, cornersOf}
 use Rattle.clear_offset.specs.Offset.{hazardOffset, smallestOffset}
-use Rattle.open_memory.specs.Memory.{mostStanding, laidOut, madeFrom}
+use Rattle.open_memory.specs.Memory.{mostStanding, madeFrom}
 use Rattle.kept_states.specs.declared.OpenStates.{OpenStates}
-use Rattle.kept_states.specs.States.{mostKept, nothingKept, statesFrom, openStates, scheduleIn}
+use Rattle.kept_states.specs.States.{openStates, scheduleIn}
+use Rattle.open_promises.specs.Opening.{openedFrom}
 use Rattle.open_promises.specs.Lists.{Call, addedSince, CallsFrom}
 use Rattle.queries.specs.Quantity.{millimetres, quantity}
 use Rattle.queries.specs.Ranges.{rangesOf, areRanges, mostRanges, quantities}
@@ -48,9 +48,8 @@ pub record RepliesByJob (s : List ℕ) (j : Job) : Type 0 where
   -- 8 for a sheet corner that is out of range still
   pub off-sheet : (index x y : ℕ) → (1000000000000 < x) ⊎ (1000000000000 < y) → cornersOf s index x y ≡ refusal Row.Argument
   pub offsets : (index longest : ℕ) → smallestOffset s index longest ≡ (approachedHazard j index >>= λ z. accepted (hazardOffset (j .header) z longest))
-  -- "Opening takes job bytes that carry no hazard .. a hazard count above 0 is 3": an open job without hazards, nothing kept
-  pub opens : openStates s
-      ≡ (if eqb (j .header .count) 0 then accepted (statesFrom (laidOut (j .header) []) (replicate mostKept nothingKept)) else refusal (Row.HeaderRange (headerSize (j .header .kind))))
+  -- "Opening takes job bytes that carry no hazard": an open job without hazards, nothing kept; "a hazard count above 0 is 3"
+  pub opens : openStates s ≡ openedFrom (j .header) (j .hazards)
   -- after an opening with these bytes and any list of calls: the schedule of a job made from the hazards that stand
   pub schedules : (calls : List Call) (m : OpenStates) → CallsFrom s j calls m → (zs : List Hazard) → length zs ≤ mostStanding
       → ((z : Hazard) → List·Memᴰ z zs ↔ List·Memᴰ z (map unnamed (addedSince (j .header) calls))) → (side room : ℕ)

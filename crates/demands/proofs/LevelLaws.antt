@@ -7,7 +7,7 @@ use mathlib.Core.Path.{_≡_, refl, sym, ap, ap₂, _∙_}
 use mathlib.Core.Logic.{_≢_, _↔_}
 use mathlib.Core.List.{List, [], _++_, append-nil}
 use lib.ListN.{length, drop}
-use Rattle.refusal.specs.Answer.{Answer, accepted, refused, _>>=_}
+use Rattle.refusal.specs.Answer.{accepted, refused}
 use Rattle.number.specs.Number.{writeNumber}
 use Rattle.number.proofs.ReadLaws.{read-number, after-number}
 use Rattle.job.specs.Job.{Job}
@@ -29,8 +29,7 @@ use Rattle.queries.specs.Lookup.{Found, found, nowhere, asked}
 use Rattle.demands.specs.Demands.{ShowsLevel}
 use Rattle.demands.specs.Level.{recordLevel, levelFound, lookupLevel, Level-lookup, Level-refusals, Level-off-road}
 use Rattle.demands.proofs.DemandLaws.{demand2-lookup}
-use Rattle.demands.proofs.RefusalLaws.{plan-refuses}
-use Rattle.refusal.proofs.TestLaws.{impossible}
+use Rattle.demands.proofs.RefusalLaws.{answer-refuses}
 
 -- The level in a run's record is the run's.
 record-level : (e v : ℕ) (r : Stretch) → Next e v r → recordLevel (writeRecord e r) ≡ accepted (r .level)
@@ -90,16 +89,8 @@ level-lookup s j side right left a h p t =
 pub level-refusals : Level-refusals
 level-refusals s side t room k v = go (decLe side 1)
   where
-    alike : (a : Answer Job) → ((a >>= λ j. accepted (jobLevel j side t)) ≡ refused k v) ↔ (a ≡ refused k v)
-    alike (accepted j) = (λ e. impossible cc, λ e. impossible cc)
-    alike (refused i w) =
-        (λ e. let number : i ≡ k = cc in let value : w ≡ v = cc in ap₂ refused number value, λ e. let number : i ≡ k = cc in let value : w ≡ v = cc in ap₂ refused number value)
-
     go : Dec (side ≤ 1) → (levelAt s side t ≡ refused k v) ↔ ((plan s side room ≡ refused k v) × (k ≢ 9))
-    go (yes h) =
-        let plans = plan-refuses s side room h k v in
-        let by = level-by-job s side t h in
-        (λ e. plans .0 (alike (acceptJob s) .0 (sym by ∙ e)), λ w. by ∙ alike (acceptJob s) .1 (plans .1 w))
+    go (yes h) = rw (level-by-job s side t h) (answer-refuses s side room (λ j. jobLevel j side t) h k v)
     go (no h) =
         let level = level-bad-side s side t (omega arith) in
         let planned = plan-bad-side s side room (omega arith) in (

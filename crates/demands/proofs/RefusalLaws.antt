@@ -157,6 +157,15 @@ module _ (s : List ℕ) (side room : ℕ) where
       go e n (no-room b j a l p) = absurd (n (let number : 9 ≡ k = cc in sym number))
       go e n (written b j a l p) = impossible cc
 
+  -- So are those of a call that answers for each accepted job.
+  pub answer-refuses : {A : Type 0} (tell : Job → A) → side ≤ 1 → (k v : ℕ) → ((acceptJob s >>= λ j. accepted (tell j)) ≡ refused k v) ↔ ((plan s side room ≡ refused k v) × (k ≢ 9))
+  answer-refuses {A} tell h k v = let plans = plan-refuses h k v in (λ e. plans .0 (alike (acceptJob s) .0 e), λ w. alike (acceptJob s) .1 (plans .1 w))
+    where
+      alike : (a : Answer Job) → ((a >>= λ j. accepted (tell j)) ≡ refused k v) ↔ (a ≡ refused k v)
+      alike (accepted j) = (λ e. impossible cc, λ e. impossible cc)
+      alike (refused i w) =
+          (λ e. let number : i ≡ k = cc in let value : w ≡ v = cc in ap₂ refused number value, λ e. let number : i ≡ k = cc in let value : w ≡ v = cc in ap₂ refused number value)
+
   -- An accepted job on a good side, whose schedule has n bytes, more than there is room for.
   pub record NeedsRoom (n : ℕ) : Type 0 where
     pub good-side : side ≤ 1

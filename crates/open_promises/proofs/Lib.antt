@@ -1,3 +1,4 @@
+pub mod OpeningLaws
 pub mod SameLaws
 pub mod HazardLaws
 pub mod StandingLaws
@@ -9,4 +10,5 @@ pub mod ListLaws
 pub mod ContentLaws
 pub mod BuildLaws
 pub mod MeaningLaws
+pub mod EqualLaws
 pub mod WithdrawalLaws

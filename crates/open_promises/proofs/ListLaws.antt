@@ -6,52 +6,36 @@ use mathlib.Core.Path.{_≡_, refl, sym, ap, subst, _∙_}
 use mathlib.Core.Logic.{_↔_}
 use mathlib.Core.Bool.{Bool, true}
 use mathlib.Core.List.{List, [], _∷_, _++_, map, foldl, List·Memᴰ, Memᴰ·of-map}
-use lib.ListN.{length, replicate, length-map}
-use Rattle.refusal.specs.Answer.{Answer, accepted}
+use lib.ListN.{length, length-map}
+use Rattle.refusal.specs.Answer.{Answer}
 use Rattle.refusal.specs.Refusal.{unless-refuse}
 use Rattle.refusal.specs.declared.Refusal.the-variants as Row
-use Rattle.refusal.proofs.AnswerLaws.{bound, behind}
+use Rattle.refusal.proofs.AnswerLaws.{behind}
 use Rattle.job.specs.declared.Header.{Header}
 use Rattle.job.specs.declared.Hazard.{Hazard}
 use Rattle.job.specs.declared.NamedHazard.{NamedHazard}
 use Rattle.job.specs.declared.StoredJob.{StoredJob}
-use Rattle.job.specs.Job.{Job, unnamed, readRest}
-use Rattle.job.specs.Reply.{headerAt}
+use Rattle.job.specs.Job.{Job, unnamed}
 use Rattle.job.specs.Fits.{HeaderFits}
-use Rattle.job.proofs.RestLaws.{job-step}
-use Rattle.job.proofs.OpeningLaws.{job-header, header-done, opening-empty}
-use Rattle.planning.specs.Envelope.{acceptJob}
 use Rattle.planning.proofs.EnvelopeLaws.{accepted-fits}
-use Rattle.planning.proofs.AcceptedLaws.{fitting-accepted, accepted-read}
+use Rattle.planning.proofs.AcceptedLaws.{fitting-accepted}
 use Rattle.open_memory.specs.Memory.{mostStanding, laidOut, madeFrom, stands}
 use Rattle.open_memory.proofs.RuleLaws.{Admitted, made-fits, stand-each}
-use Rattle.open_job.specs.Open.{openJob, testAdd, addTo, withdrawFrom, scheduleOf, memoryAfter, replied}
-use Rattle.open_job.proofs.CallLaws.{opening-read}
+use Rattle.open_job.specs.Open.{testAdd, addTo, withdrawFrom, scheduleOf, memoryAfter, replied}
 use Rattle.open_job.proofs.LayoutLaws.{laid-standing, add-laid, withdraw-laid, schedule-laid}
 use Rattle.kept_states.specs.declared.KeptState.{KeptState}
 use Rattle.kept_states.specs.declared.OpenStates.{OpenStates}
-use Rattle.kept_states.specs.States.{mostKept, nothingKept, isUsed, keptUnder, statesFrom, areOpenStates, openStates}
+use Rattle.kept_states.specs.States.{isUsed, keptUnder, areOpenStates}
 use Rattle.kept_states.proofs.StateLaws.{not-used, kept-used}
+use Rattle.open_promises.specs.Opening.{emptyStates, openedFrom}
 use Rattle.open_promises.specs.Lists.{Call, keepAs, returnTo, Kept, nothing, state, States, isKept, opened, statesAfter, hazardsAfter, afterCall, CallsFrom, AnswersAs, SchedulePromise, Holds, HoldsKept, Standing, StandingPromise, ReturnPromise}
+use Rattle.open_promises.proofs.OpeningLaws.{opening-accepted}
 use Rattle.open_promises.proofs.SameLaws.{same-plans}
 use Rattle.open_promises.proofs.HazardLaws.{unnamed-among}
 use Rattle.open_promises.proofs.StandingLaws.{placedAfter, Agree, stands-same, tests-same}
 use Rattle.open_promises.proofs.ModelLaws.{returned, AgreeKept}
 use Rattle.open_promises.proofs.MemoryLaws.{laidKept, laid-states, Follows, follows-all, follows-opened}
 use Rattle.open_promises.proofs.ReplyLaws.{add-now, withdraw-now, schedule-now, keep-replied, return-replied}
-
--- An empty job with an accepted header opens, and nothing stands.
-
-opened-empty : (s : List ℕ) (j : Job) → acceptJob s ≡ accepted j → j .hazards ≡ [] → openJob s ≡ accepted (laidOut (j .header) [])
-opened-empty s j e none =
-    let read = accepted-read s j e in
-    let b = bound (headerAt s) (λ x. readRest (x .header) (x .header .count) [] s (x .next)) j (sym (job-step s) ∙ read) in
-    let count : b .first .header .count ≡ 0 = ap (λ (h : Header). h .count) (sym (job-header s (b .taken) read)) ∙ sym (accepted-fits s j e .fits .hazards .count) ∙ ap length none in
-    opening-read s ∙ rw (opening-empty s (b .taken) count, header-done s read)
-
-pub states-empty : (s : List ℕ) (j : Job) → acceptJob s ≡ accepted j → j .hazards ≡ [] → openStates s ≡ accepted (statesFrom (laidOut (j .header) []) (replicate mostKept nothingKept))
-unfolding openStates
-states-empty s j e none = rw (opened-empty s j e none)
 
 -- Hazards that stand
 
@@ -89,8 +73,8 @@ module _ (s : List ℕ) (j : Job) (calls : List Call) (m : OpenStates) (from : C
 
   follows : Follows h placed are m
   follows =
-      let memory : m ≡ foldl afterCall (statesFrom (laidOut h []) (replicate mostKept nothingKept)) calls =
-      from .memory ∙ ap (λ (a : Answer OpenStates). foldl afterCall (memoryAfter a (from .before)) calls) (states-empty s j (from .is-accepted) (from .empty)) in
+      let memory : m ≡ foldl afterCall (emptyStates h) calls =
+      from .memory ∙ ap (λ (a : Answer OpenStates). foldl afterCall (memoryAfter a (from .before)) calls) (opening-accepted s j (from .is-accepted) ∙ ap (openedFrom h) (from .empty)) in
       subst (Follows h placed are) (sym memory) (follows-all h fits (opened []) (opened []) _ (follows-opened h) calls (from .nameable))
 
   good : areOpenStates m ≡ true

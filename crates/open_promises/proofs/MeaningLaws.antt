@@ -1,4 +1,5 @@
--- What the test of the memory means: it passes exactly the memory that an opening and calls can leave.
+-- What the test of the memory means: it passes exactly the memory that an opening and calls can leave, and every call but opening refuses other
+-- memory.
 -- Assumes nothing.
 use Prim.Native.Nat.{ℕ, _+_, _<_}
 use native.Mathlib.Omega.{arith}
@@ -6,8 +7,8 @@ use native.Mathlib.Decide.{decLt}
 use mathlib.Core.Path.{_≡_, refl, sym, ap, _∙_}
 use mathlib.Core.Logic.{_⊎_, inl, inr}
 use mathlib.Core.Bool.{true}
-use mathlib.Core.List.{List, [], _∷_, _++_, foldl, foldl-append, List·Memᴰ, List·Memᴰ·not-nil}
-use lib.ListN.{length, replicate, length-take}
+use mathlib.Core.List.{List, [], _∷_, _++_, foldl, foldl-append, List·Memᴰ·not-nil}
+use lib.ListN.{length, length-take}
 use borrow.Author.Tests.{eqb-true}
 use Rattle.refusal.specs.Answer.{Answer, accepted}
 use Rattle.refusal.proofs.EachLaws.{getD-member}
@@ -19,18 +20,21 @@ use Rattle.job.specs.Fits.{HeaderFits}
 use Rattle.job.proofs.RangeLaws.{header-bounds}
 use Rattle.planning.specs.Envelope.{acceptJob}
 use Rattle.planning.proofs.AcceptedLaws.{fitting-accepted}
-use Rattle.open_memory.specs.Memory.{standing, laidOut, madeFrom, isOpenJob}
+use Rattle.open_memory.specs.Memory.{standing, madeFrom, isOpenJob}
 use Rattle.open_memory.proofs.RangeLaws.{counted-fits}
 use Rattle.open_memory.proofs.RuleLaws.{counted-hazard, counted-passed, made-fits, Stand}
 use Rattle.open_job.specs.Open.{memoryAfter}
 use Rattle.open_job.proofs.LayoutLaws.{KeepsRules, open-exactly}
 use Rattle.kept_states.specs.declared.KeptState.{KeptState}
 use Rattle.kept_states.specs.declared.OpenStates.{OpenStates}
-use Rattle.kept_states.specs.States.{mostKept, nothingKept, keptFrom, stateOf, isUsed, isNothingKept, keptStates, keptUnder, statesFrom, areOpenStates}
+use Rattle.kept_states.specs.States.{nothingKept, keptFrom, stateOf, isUsed, isNothingKept, keptStates, keptUnder, areOpenStates, addIn, withdrawIn, scheduleIn, keepIn, returnIn}
 use Rattle.kept_states.proofs.StateLaws.{states-same, none-above, nothing-is, sound-cases, now-open, each-sound}
-use Rattle.open_promises.specs.Lists.{Call, Kept, nothing, state, States, opened, afterCall, CallsFrom, MemoryPromise}
+use Rattle.open_promises.specs.Opening.{emptyStates}
+use Rattle.open_promises.specs.Lists.{Call, Kept, nothing, state, States, opened, afterCall, CallsFrom}
+use Rattle.open_promises.specs.Rules.{RulesPromise, HasPlaces, MemoryPromise}
+use Rattle.open_promises.proofs.OpeningLaws.{opening-accepted}
 use Rattle.open_promises.proofs.MemoryLaws.{laidKept, Laid, follows-all, follows-opened}
-use Rattle.open_promises.proofs.ListLaws.{states-empty, standing-promise}
+use Rattle.open_promises.proofs.ListLaws.{standing-promise}
 use Rattle.open_promises.proofs.BuildLaws.{adds, keepBelow, keptBelow, holding, placedAfterAll, adds-leave, StandKept, kept-others, kept-lower, below-kept, CanMake, can-both, can-add, can-below}
 
 -- A header without hazards is an accepted job.
@@ -61,7 +65,15 @@ told h k size (inr w) =
       same = (λ i. record { used = used i; count = k .count; hazards = k .hazards }) ∙ ap keptFrom (r .layout);
     }
 
-module _ (m : OpenStates) (good : areOpenStates m ≡ true) (size : length (m .now .hazards) ≡ 256) (sizes : (k : KeptState) → List·Memᴰ k (keptStates m) → length (k .hazards) ≡ 256) where
+-- 256 places under each number.
+pub places-under : (m : OpenStates) → HasPlaces m → (number : ℕ) → length (keptUnder m number .hazards) ≡ 256
+places-under m places number = go (decLt number 8)
+  where
+    go : Dec (number < 8) → length (keptUnder m number .hazards) ≡ 256
+    go (yes l) = places .states-kept (keptUnder m number) (getD-member (keptStates m) number nothingKept l)
+    go (no l) = ap (λ (k : KeptState). length (k .hazards)) (none-above m number (omega arith))
+
+module _ (m : OpenStates) (good : areOpenStates m ≡ true) (places : HasPlaces m) where
   abbrev h : Header
   h = counted (m .now .header) 0
 
@@ -69,7 +81,7 @@ module _ (m : OpenStates) (good : areOpenStates m ≡ true) (size : length (m .n
   ps = standing (m .now)
 
   kept-rules : KeepsRules (m .now)
-  kept-rules = open-exactly (m .now) size .0 (now-open m good)
+  kept-rules = open-exactly (m .now) (places .state-now) .0 (now-open m good)
 
   fits : HeaderFits h
   fits = counted-fits (m .now .header) 0 (kept-rules .header) (omega arith)
@@ -78,11 +90,7 @@ module _ (m : OpenStates) (good : areOpenStates m ≡ true) (size : length (m .n
   rules = stand-counted (m .now .header) 0 0 ps (kept-rules .hazards)
 
   told-under : (number : ℕ) → Told h (keptUnder m number)
-  told-under number = told (m .now .header) (keptUnder m number) (size-under (decLt number 8)) (sound-cases (keptUnder m number) (m .now .header) (each-sound m good number))
-    where
-      size-under : Dec (number < 8) → length (keptUnder m number .hazards) ≡ 256
-      size-under (yes l) = sizes (keptUnder m number) (getD-member (keptStates m) number nothingKept l)
-      size-under (no l) = ap (λ (k : KeptState). length (k .hazards)) (none-above m number (omega arith))
+  told-under number = told (m .now .header) (keptUnder m number) (places-under m places number) (sound-cases (keptUnder m number) (m .now .header) (each-sound m good number))
 
   what : ℕ → Kept (List NamedHazard)
   what number = told-under number .what
@@ -99,7 +107,7 @@ module _ (m : OpenStates) (good : areOpenStates m ≡ true) (size : length (m .n
   can-make = can-both (keepBelow what 8) (adds ps) (can-below h what what-rules 8) (can-add h 0 ps rules)
 
   abbrev start : OpenStates
-  start = statesFrom (laidOut h []) (replicate mostKept nothingKept)
+  start = emptyStates h
 
   made : placedAfterAll h (opened []) calls ≡ holding ps (keptBelow what 8)
   made =
@@ -129,11 +137,15 @@ module _ (m : OpenStates) (good : areOpenStates m ≡ true) (size : length (m .n
         empty = refl;
         nameable = can-make;
         before = m;
-        memory = left-so ∙ sym (ap (λ (a : Answer OpenStates). foldl afterCall (memoryAfter a m) calls) (states-empty (writeJob job) job fine refl));
+        memory = left-so ∙ sym (ap (λ (a : Answer OpenStates). foldl afterCall (memoryAfter a m) calls) (opening-accepted (writeJob job) job fine));
       }
 
 pub memory-promise : MemoryPromise
-memory-promise m size sizes = (
-  λ e. (writeJob (madeFrom (m .now .header) []), madeFrom (m .now .header) [], calls m e size sizes, left-by m e size sizes),
+memory-promise m places = (
+  λ e. (writeJob (madeFrom (m .now .header) []), madeFrom (m .now .header) [], calls m e places, left-by m e places),
   λ w. standing-promise (w .0) (w .1) (w .2) m (w .3) .is-open,
 )
+
+pub rules-promise : RulesPromise
+unfolding addIn withdrawIn scheduleIn keepIn returnIn
+rules-promise m broken = record { adds = λ name z. rw broken; withdrawals = λ name. rw broken; schedules = λ side room. rw broken; keeps = λ number. rw broken; returns = λ number. rw broken }

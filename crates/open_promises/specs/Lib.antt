@@ -1,2 +1,4 @@
+pub mod Opening
 pub mod Lists
+pub mod Rules
 pub mod Withdrawal

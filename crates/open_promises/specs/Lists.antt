@@ -24,7 +24,7 @@ use Rattle.open_memory.specs.Memory.{mostStanding, greatestName, standing, laid
 use Rattle.open_job.specs.Open.{testAdd, memoryAfter, replied}
 use Rattle.kept_states.specs.declared.KeptState.{KeptState}
 use Rattle.kept_states.specs.declared.OpenStates.{OpenStates}
-use Rattle.kept_states.specs.States.{greatestStateNumber, nothingKept, keptFrom, stateOf, isUsed, keptStates, keptUnder, areOpenStates, openStates, addIn, withdrawIn, scheduleIn, keepIn, returnIn}
+use Rattle.kept_states.specs.States.{greatestStateNumber, nothingKept, keptFrom, stateOf, isUsed, keptUnder, areOpenStates, openStates, addIn, withdrawIn, scheduleIn, keepIn, returnIn}
 
 -- The calls
 
@@ -208,9 +208,3 @@ UntouchedPromise = (m : OpenStates) (c : Call) (number : ℕ) → (c ≡ keepAs 
 -- "Keeping under a used number replaces it", and leaves the open job as it is.
 abbrev pub KeepPromise : Type 0
 KeepPromise = (m next : OpenStates) (number : ℕ) → keepIn m number ≡ accepted next → (keptUnder next number ≡ keptFrom (m .now)) × (next .now ≡ m .now)
-
--- Memory keeps the rules exactly if an opening and calls can leave it so.
-abbrev pub MemoryPromise : Type 0
-MemoryPromise =
-    (m : OpenStates) → length (m .now .hazards) ≡ mostStanding → ((k : KeptState) → List·Memᴰ k (keptStates m) → length (k .hazards) ≡ mostStanding)
-    → (areOpenStates m ≡ true) ↔ ((s : List ℕ) × (j : Job) × (calls : List Call) × CallsFrom s j calls m)
