@@ -76,6 +76,12 @@ module _ (tops : List ℕ) (fall : Falling tops) where
               let same : v ≡ suc n = omega arith in
               absurd (omega (arith, ltb-false t (getD tops (suc n) 0) e, ap (λ (x : ℕ). getD tops x 0) same))
 
+  -- Where level 1 has no top above t, no level has.
+  pub above-none : (t n : ℕ) → getD tops 1 0 ≤ t → aboveTo tops t n ≡ 0
+  above-none t n h =
+      let none : aboveTo tops t n ≤ 0 = not-lt (λ l. omega (arith, above-count t n .low 1 (omega arith) l)) in
+      omega arith
+
   pub count-falls : (level : ℕ) → 0 < level → aboveTo tops (getD tops level 0) 6 < level
   count-falls level p = level-falls tops level _ p (above-count (getD tops level 0) 6 .low)
 

@@ -1,6 +1,7 @@
 // The sweep over envelopes in order of their starts: the break points of the required level, and its runs.
 use super::RunList;
 ghost use mathlib.Core.Path.{_≡_};
+ghost use mathlib.Core.Bool.{true};
 ghost use mathlib.Core.List.{List};
 ghost use Prim.Native.Nat.{ℕ, _+_, _-_, _≤_, _<_, min, max};
 ghost use lib.ListN.{length, getD};
@@ -9,7 +10,7 @@ ghost use Rattle.runs.specs.RunList.{mostRuns};
 ghost use Rattle.runs.specs.Required.{requiredRuns};
 ghost use Rattle.runs.specs.Stored.{storedRuns};
 ghost use Rattle.runs.specs.Breaks.{levelOf, breaksTo, cut, setFrom, runsBelow};
-ghost use Rattle.runs.specs.Stand.{bit, aboveTo, Raised, filledFrom, lifted};
+ghost use Rattle.runs.specs.Stand.{bit, aboveTo, Raised, Falling, filledFrom, lifted};
 ghost use Rattle.runs.specs.Steps.{breakPlaces, Places, Room, Drained, Stepped, envelopesTo, Sweepable, Swept};
 
 // Where a sweep stands: break points in use, and the required level there.
@@ -24,11 +25,15 @@ fn one_if(b: bool) -> usize
     if b { 1 } else { 0 }
 }
 
-// How many levels have a top above t.
+// How many levels have a top above t; where the first has none, no level has.
 fn above(tops: &[u64], t: u64) -> usize
     requires { ⌜ length (now tops) ≡ 8 ⌝ }
+    requires { ⌜ Falling (now tops) ⌝ }
     ensures { λ r. ⌜ (r ≡ aboveTo (now (tops .entry)) t 6) × (r ≤ 6) ⌝ }
 {
+    if tops[1] <= t {
+        return 0;
+    }
     one_if(t < tops[1])
         + one_if(t < tops[2])
         + one_if(t < tops[3])
@@ -119,6 +124,7 @@ fn lift(
 ) -> usize
     requires { ⌜ Places (now starts) (now levels) ⌝ }
     requires { ⌜ length (now tops) ≡ 8 ⌝ }
+    requires { ⌜ Falling (now tops) ⌝ }
     requires { ⌜ p .count + 1 < breakPlaces ⌝ }
     requires { ⌜ l ≤ 6 ⌝ }
     ensures { λ r. ⌜ (r ≤ p .count + 2) × (breaksTo (now (starts .exit)) (now (levels .exit)) r ≡ lifted (now (tops .entry)) (p .level) s l g (breaksTo (now (starts .entry)) (now (levels .entry)) (p .count))) ⌝ }
@@ -176,10 +182,15 @@ pub fn greater(x: u64, y: u64) -> u64
     if x < y { y } else { x }
 }
 
-fn raised(top: u64, end: u64, within: bool) -> u64
+// The top of a level after an envelope more; where that ends past every top, no top is looked at.
+fn raised(top: u64, end: u64, within: bool, past: bool) -> u64
+    requires { ⌜ (past ≡ true → top ≤ end) ⌝ }
     ensures { λ r. ⌜ r ≡ (if within then max top end else top) ⌝ }
 {
     if within {
+        if past {
+            return end;
+        }
         return greater(top, end);
     }
     top
@@ -188,12 +199,15 @@ fn raised(top: u64, end: u64, within: bool) -> u64
 // An envelope more that ends at `end`, at level l: no level up to l has a lower top.
 fn raise(tops: &mut [u64], l: usize, end: u64)
     requires { ⌜ length (now tops) ≡ 8 ⌝ }
+    requires { ⌜ Falling (now tops) ⌝ }
     requires { ⌜ l ≤ 6 ⌝ }
     ensures { λ _. ⌜ Raised l end (now (tops .entry)) (now (tops .exit)) ⌝ }
 {
+    // No level has a top above that of level 0.
+    let past = tops[0] < end;
     let mut v = 0;
     while v < 7 {
-        tops[v] = raised(tops[v], end, v <= l);
+        tops[v] = raised(tops[v], end, v <= l, past);
         v += 1;
     }
 }

@@ -12,6 +12,11 @@ returns c =
     let q = c .before .before .before .before .before .before .drain in
     λ es u e tops′ h st sound r. skip (q .ensures .stands es (a .g) u h st) (record { start = a .s; end = e; level = a .l }) refl sound tops′ r (c .if1 .taken)
 
+lift-requires : tie.Need-lift-requires
+lift-requires c κs =
+    let falling = c .before .before .before .before .before .before .before .before .before .before .before .before .before .before .pre .0 .falling in
+    (search needs, (search needs, (falling, search needs)))
+
 returns-2 : tie.Need-returns-2
 returns-2 c =
     let a = c .before .before .before .before .before .before .before .before .before .before .before .before .before .before .before .before .before .before .before .args in
@@ -28,7 +33,7 @@ step-spec =
     (λ c. search needs)
     (λ c. search needs)
     returns
-    (λ c κs. search needs)
+    lift-requires
     (λ c. search needs)
     (λ c. search needs)
     returns-2)

@@ -8,6 +8,7 @@ use Rattle.runs.specs.Breaks.{breaksTo}
 use Rattle.runs.specs.Steps.{envelopesTo}
 use Rattle.runs.proofs.IndexLaws.{zeros}
 use Rattle.runs.proofs.SweptLaws.{Sweeping, sweeping-first, sweeping-turn, sweeping-room, room-left}
+use Rattle.runs.proofs.SweepLaws.{tops-fall}
 use borrow.Author.Needs.{needs}
 use Rattle.runs.proofs.sweep.sweep.Statement.{statement}
 use Rattle.runs.proofs.sweep.sweep.Tie as tie
@@ -37,7 +38,7 @@ raise-requires c κs =
     let l = c .before .before .before .before .before .before .before .before .before .before .before .before .loop in
     let pre = c .before .before .before .before .before .before .before .before .before .before .before .before .before .before .before .before .before .pre in
     let sound = pre .0 .sound (l .i) (c .before .before .before .before .before .before .before .before .before .before .before .loop-test .taken) in
-    (l .inv .3, omega (arith, sound .top))
+    (l .inv .3, (tops-fall (l .inv .4 .stands .begun), omega (arith, sound .top)))
 
 loop-again : tie.Need-loop-again Inv-loop μ-loop
 loop-again c =
