@@ -44,15 +44,16 @@ range-shared : (kind k : ℕ) → k < 13 → getD (headerRanges kind 0) k (0 to 
 unfolding headerRanges sharedRanges
 range-shared kind k l = List·getD-append (sharedRanges 0) (lastRanges kind) (0 to 0) k l
 
--- The ranges of kind 2 where the road begins at 0 as the code's table, and the range at any place but the third up to the thirteenth.
+-- Up to the thirteenth the ranges but the third are those of kind 2 where the road begins at 0.
+pub range-plain : (kind A k : ℕ) → k < 13 → (k ≡ 2 → ⊥) → getD (headerRanges 2 0) k (0 to 0) ≡ getD (headerRanges kind A) k (0 to 0)
+range-plain kind A k l other = range-shared 2 k l ∙ sym (range-shared kind k l) ∙ sym (range-elsewhere kind A k other)
+
+-- These as the code's table.
 abbrev boundsOf : Range → Bounds
 boundsOf r = record { 0 = r .low; 1 = r .high }
 
-pub table-range : (kind A k : ℕ) → k < 13 → (k ≡ 2 → ⊥)
-    → let b = getD (map boundsOf (headerRanges 2 0)) k (record { 0 = 0; 1 = 0 }) in (b .0) to (b .1) ≡ getD (headerRanges kind A) k (0 to 0)
-table-range kind A k l other =
-    ap (λ (b : Bounds). (b .0) to (b .1)) (List·getD-map boundsOf (headerRanges 2 0) k (0 to 0))
-    ∙ range-shared 2 k l ∙ sym (range-shared kind k l) ∙ sym (range-elsewhere kind A k other)
+pub table-range : (k : ℕ) → let b = getD (map boundsOf (headerRanges 2 0)) k (record { 0 = 0; 1 = 0 }) in (b .0) to (b .1) ≡ getD (headerRanges 2 0) k (0 to 0)
+table-range k = ap (λ (b : Bounds). (b .0) to (b .1)) (List·getD-map boundsOf (headerRanges 2 0) k (0 to 0))
 
 -- The next range goes by the array's first and second number as soon as they count.
 next-in-header : (numbers : List ℕ) (k : ℕ) → k ≤ length numbers → nextInHeader (take k numbers) ≡ getD (headerRanges (getD numbers 0 0) (getD numbers 1 0)) k (0 to 0)

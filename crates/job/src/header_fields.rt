@@ -43,13 +43,13 @@ pub fn header_size(kind: u64) -> usize
     if kind == 2 { 15 } else { 14 }
 }
 
-// The range of the header number behind k others, where the road begins at begin; the road's end lies behind that.
-fn header_range(k: usize, kind: u64, begin: u64) -> Bounds
+// The range of the header number behind k others, where the road begins at begin; the road's end lies behind that. `range` is the table's.
+fn header_range(k: usize, range: Bounds, kind: u64, begin: u64) -> Bounds
     requires { ⌜ k < 14 ⌝ }
+    requires { ⌜ (range .0) to (range .1) ≡ getD (headerRanges 2 0) k (0 to 0) ⌝ }
     requires { ⌜ begin ≤ 999999999999 ⌝ }
     ensures { λ r. ⌜ (r .0) to (r .1) ≡ getD (headerRanges kind begin) k (0 to 0) ⌝ }
 {
-    let range = RANGES[k];
     if k == 2 {
         return Bounds(begin + 1, road_top(begin));
     }
@@ -104,11 +104,13 @@ fn read_count(s: &[u8], numbers: [u64; 14], at: usize) -> HeaderRead
 pub fn read_header(s: &[u8]) -> HeaderRead
     ensures { λ r. ⌜ headerAnswer r ≡ headerAt (now (s .entry)) ⌝ }
 {
+    // The table is laid out once for all numbers.
+    let ranges = RANGES;
     let mut numbers = [0u64; 14];
     let mut at: usize = 0;
     let mut k: usize = 0;
     while k < 14 {
-        let range = header_range(k, numbers[0], numbers[1]);
+        let range = header_range(k, ranges[k], numbers[0], numbers[1]);
         match read_field(s, at, range.0, range.1, Refusal::HeaderRange(k + 1)) {
             Field::Number(reading) => {
                 numbers[k] = reading.value;
