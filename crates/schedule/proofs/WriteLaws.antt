@@ -6,10 +6,10 @@ use native.Mathlib.Numerals.{add-one}
 use mathlib.Core.Path.{_≡_, refl, sym, _∙_}
 use mathlib.Core.Bool.{true}
 use mathlib.Core.List.{List, [], _∷_, _++_, append-assoc, append-nil}
-use lib.ListN.{length, getD, length-append}
+use lib.ListN.{length, getD, set, length-append}
 use Rattle.number.specs.Number.{writeNumber, groupCount, placed}
-use Rattle.number.proofs.WriteLaws.{number-length, group-count}
-use Rattle.number.proofs.PlaceLaws.{placed-append, placed-length}
+use Rattle.number.proofs.WriteLaws.{number-length, group-count, write-one}
+use Rattle.number.proofs.PlaceLaws.{placed-append, placed-length, placed-sets}
 use Rattle.runs.specs.declared.Stretch.{Stretch}
 use Rattle.runs.specs.RunList.{isRunList, runsTo, lastEnd}
 use Rattle.runs.proofs.StoredLaws.{run, firstRuns, behind, run-next}
@@ -49,6 +49,10 @@ record-placed s at end start stop level h =
 
     room : at + (length first + (length second + length third)) ≤ length s
     room = simp length-append at h
+
+-- A level is a number of one byte.
+pub level-placed : (s : List ℕ) (at level : ℕ) → level < 128 → at < length s → set s at level ≡ placed s at (writeNumber level)
+level-placed s at level small h = rw (write-one level small) (sym (placed-sets s at (level ∷ []) (omega arith)))
 
 pub record-short : (e : ℕ) (r : Stretch) → length (writeRecord e r) ≤ 18
 unfolding writeRecord

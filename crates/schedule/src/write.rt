@@ -47,7 +47,9 @@ fn put_record(out: &mut [u8], at: usize, end: u64, start: u64, stop: u64, level:
 {
     let second = put_number(out, at, start - end);
     let third = put_number(out, second, stop - start);
-    put_number(out, third, level as u64)
+    // A level is a number of one byte.
+    out[third] = level;
+    third + 1
 }
 
 // The schedule from the first byte on; its length.
