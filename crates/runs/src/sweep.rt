@@ -254,29 +254,28 @@ fn runs_of(starts: &[u64], levels: &[u8], count: usize) -> RunList
     requires { ⌜ length (runsBelow (getD (now starts) (count - 1) 0) (breaksTo (now starts) (now levels) (count - 1))) ≤ mostRuns ⌝ }
     ensures { λ r. ⌜ r ≡ storedRuns (runsBelow (getD (now (starts .entry)) (count - 1) 0) (breaksTo (now (starts .entry)) (now (levels .entry)) (count - 1))) ⌝ }
 {
-    let mut run_starts: [u64; 512] = [0; 512];
-    let mut run_ends: [u64; 512] = [0; 512];
-    let mut run_levels: [u8; 512] = [0; 512];
+    let mut list = RunList {
+        count: 0,
+        starts: [0; 512],
+        ends: [0; 512],
+        levels: [0; 512],
+    };
     let mut k = 0;
     let mut i = 0;
     while i + 1 < count {
         let level = levels[i];
-        run_starts[k] = starts[i];
-        run_ends[k] = starts[i + 1];
-        run_levels[k] = level;
+        list.starts[k] = starts[i];
+        list.ends[k] = starts[i + 1];
+        list.levels[k] = level;
         k += one_if(0 < level);
         i += 1;
     }
     // A break point of level 0 leaves its stations behind the runs.
-    run_starts[k] = 0;
-    run_ends[k] = 0;
-    run_levels[k] = 0;
-    RunList {
-        count: k,
-        starts: run_starts,
-        ends: run_ends,
-        levels: run_levels,
-    }
+    list.starts[k] = 0;
+    list.ends[k] = 0;
+    list.levels[k] = 0;
+    list.count = k;
+    list
 }
 
 // The required runs of n envelopes whose keys rise.

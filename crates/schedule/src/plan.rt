@@ -35,7 +35,7 @@ fn bytes_needed(list: RunList, room: usize) -> usize
     if 5624 <= room {
         return 0;
     }
-    schedule_length(list)
+    schedule_length(list.count, &list.starts, &list.ends, &list.levels)
 }
 
 // The schedule of a run list from the output's first byte on; where it does not fit, nothing.
@@ -49,7 +49,7 @@ fn place(out: &mut [u8], list: RunList, overhangs: Overhangs) -> Plan
     if out.len() < needed {
         return Plan::Refused(Refusal::Room(needed));
     }
-    let bytes = put_schedule(out, list);
+    let bytes = put_schedule(out, list.count, &list.starts, &list.ends, &list.levels);
     Plan::Done(Written { bytes, overhangs })
 }
 

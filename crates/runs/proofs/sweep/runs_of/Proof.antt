@@ -1,10 +1,11 @@
 -- `runs::sweep::runs_of` meets its contract: after i break points the arrays store their runs, whatever stands in the next place.
 -- Assumes nothing.
-use Prim.Native.Nat.{_+_, _-_, _≤_}
+use Prim.Native.Nat.{ℕ, _+_, _-_, _≤_}
 use native.Mathlib.Nat.{le-trans}
 use native.Mathlib.Omega.{arith}
 use mathlib.Core.Path.{_≡_, refl}
 use lib.ListN.{length, getD}
+use Rattle.runs.specs.declared.RunList.{RunList}
 use Rattle.runs.specs.RunList.{mostRuns}
 use Rattle.runs.specs.Stored.{storedRuns}
 use Rattle.runs.specs.Breaks.{breaksTo, runsBelow}
@@ -14,11 +15,15 @@ use borrow.Author.Needs.{needs}
 use Rattle.runs.proofs.sweep.runs_of.Statement.{statement}
 use Rattle.runs.proofs.sweep.runs_of.Tie as tie
 
+-- The list with k runs.
+abbrev counting : RunList → (k : ℕ) → RunList
+counting l k = record { count = k; starts = l .starts; ends = l .ends; levels = l .levels }
+
 abbrev Inv-loop : tie.InvT-loop
-Inv-loop starts levels count run-starts₀ run-ends₀ run-levels₀ k₀ i₀ run-starts run-ends run-levels k i = (i ≤ count - 1) × (k ≤ mostRuns) × (length run-starts ≡ 512) × (length run-ends ≡ 512) × (length run-levels ≡ 512) × (cleared (record { count = k; starts = run-starts; ends = run-ends; levels = run-levels }) ≡ storedRuns (runsBelow (getD starts i 0) (breaksTo starts levels i)))
+Inv-loop starts levels count list₀ k₀ i₀ list k i = (i ≤ count - 1) × (k ≤ mostRuns) × (length (list .starts) ≡ 512) × (length (list .ends) ≡ 512) × (length (list .levels) ≡ 512) × (cleared (counting list k) ≡ storedRuns (runsBelow (getD starts i 0) (breaksTo starts levels i)))
 
 abbrev μ-loop : tie.MeasureT-loop
-μ-loop starts levels count run-starts₀ run-ends₀ run-levels₀ k₀ i₀ run-starts run-ends run-levels k i = count - i
+μ-loop starts levels count list₀ k₀ i₀ list k i = count - i
 
 loop-holds : tie.Need-loop-holds Inv-loop μ-loop
 unfolding runsBelow breaksTo
@@ -30,7 +35,7 @@ loop-again c =
     let start = c .before .before .before .before .before .before .before .before in
     let starts = start .args .starts .now in
     let levels = start .args .levels .now in
-    let turn = runs-turn starts levels (record { count = l .k; starts = l .run-starts; ends = l .run-ends; levels = l .run-levels }) (l .i) (getD starts (l .i + 1) 0) (c .one-if .result) (l .inv .5) (omega arith) (c .one-if .ensures .0) in
+    let turn = runs-turn starts levels (counting (l .list) (l .k)) (l .i) (getD starts (l .i + 1) 0) (c .one-if .result) (l .inv .5) (omega arith) (c .one-if .ensures .0) in
     (omega arith, le-trans (runs-room starts levels (l .i + 1) (start .args .count - 1) turn (omega arith)) (start .pre .1 .1), search needs, search needs, search needs, turn)
 
 returns : tie.Need-returns Inv-loop μ-loop

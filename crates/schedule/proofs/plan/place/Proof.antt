@@ -16,20 +16,24 @@ returns : tie.Need-returns
 unfolding bytesWritten
 returns c =
     let a = c .before .before .before .args in
-    let w = writeSchedule (runsOf (a .list)) in
+    let w = writeSchedule (runsOf (a .t2)) in
     let counted = c .before .bytes-needed .ensures .1 (c .if1 .taken) in
     let short : length (a .out .now) < length w = omega arith in
     rw (fitted-short w (a .overhangs) (length (a .out .now)) short) (ap (refused 9) counted, refl)
 
 put-schedule-requires : tie.Need-put-schedule-requires
-put-schedule-requires c κs = let fits = c .before .before .bytes-needed .ensures .0 (c .before .if1 .left) in search (needs, fits)
+put-schedule-requires c κs =
+    let e = c .before .before .before .before .before in
+    let fits = e .before .bytes-needed .ensures .0 (e .if1 .left) in
+    search (needs, fits)
 
 returns-2 : tie.Need-returns-2
 unfolding bytesWritten
 returns-2 c =
-    let a = c .before .before .before .before .before .before .before .args in
-    let w = writeSchedule (runsOf (a .list)) in
-    let fits : length w ≤ length (a .out .now) = c .before .before .before .before .before .bytes-needed .ensures .0 (c .before .before .before .before .if1 .left) in
+    let e = c .before .before .before .before .before .before .before .before in
+    let a = e .before .before .before .args in
+    let w = writeSchedule (runsOf (a .t2)) in
+    let fits : length w ≤ length (a .out .now) = e .before .bytes-needed .ensures .0 (e .if1 .left) in
     let put = c .before .before .put-schedule in
     rw (fitted-fits w (a .overhangs) (length (a .out .now)) fits) (ap (λ (n : ℕ). accepted (record { bytes = n; overhangs = a .overhangs })) (put .ensures .0), put .ensures .1 ∙ placed-first (a .out .now) w fits)
 

@@ -24,15 +24,20 @@ records l i = writeRecords 0 (firstRuns (l .starts) (l .ends) (l .levels) i)
 abbrev head : RunList → ℕ
 head l = length (writeNumber (l .count))
 
+-- the run list that is lent
+abbrev lent : (count : ℕ) (starts ends levels : List ℕ) → RunList
+lent count starts ends levels = record { count = count; starts = starts; ends = ends; levels = levels }
+
 abbrev Inv-loop : tie.InvT-loop
-Inv-loop out₀ list count at₀ end₀ done₀ out at end i =
+Inv-loop out₀ count starts ends levels at₀ end₀ done₀ out at end i =
+    let list = lent count starts ends levels in
     (i ≤ count) × (count ≤ 511)
     × (at ≡ head list + length (records list i))
-    × (end ≡ lastEnd 0 (firstRuns (list .starts) (list .ends) (list .levels) i))
+    × (end ≡ lastEnd 0 (firstRuns starts ends levels i))
     × (out ≡ placed out₀ (head list) (records list i))
 
 abbrev μ-loop : tie.MeasureT-loop
-μ-loop out₀ list count at₀ end₀ done₀ out at end i = count - i
+μ-loop out₀ count starts ends levels at₀ end₀ done₀ out at end i = count - i
 
 -- the record of run i
 abbrev recordAt : RunList → ℕ → List ℕ
@@ -45,8 +50,11 @@ whole l = rw (runs-length (l .starts) (l .ends) (l .levels) (l .count))
 whole-length : (l : RunList) → length (writeSchedule (runsOf l)) ≡ head l + length (records l (l .count))
 whole-length l = ap length (whole l) ∙ length-append (writeNumber (l .count)) (records l (l .count))
 
-top : (c : tie.Start Inv-loop μ-loop) → c .args .t2 .count ≤ 511
-top c = let l = c .args .t2 in count-top (l .starts) (l .ends) (l .levels) (l .count) (c .pre .0)
+abbrev list : tie.Start Inv-loop μ-loop → RunList
+list c = lent (c .args .count) (c .args .starts .now) (c .args .ends .now) (c .args .levels .now)
+
+top : (c : tie.Start Inv-loop μ-loop) → c .args .count ≤ 511
+top c = let l = list c in count-top (l .starts) (l .ends) (l .levels) (l .count) (c .pre .0)
 
 -- one record more
 turn : (l : RunList) (i at end next : ℕ) (out₀ out new : List ℕ) → at ≡ head l + length (records l i) → end ≡ lastEnd 0 (firstRuns (l .starts) (l .ends) (l .levels) i)
@@ -61,11 +69,11 @@ turn l i at end next out₀ out new a e o n w fits =
 
 put-number-requires : tie.Need-put-number-requires Inv-loop μ-loop
 put-number-requires c κs =
-    (omega (arith, top (c .before .before)), omega (arith, whole-length (c .before .before .args .t2), c .before .before .pre .1))
+    (omega (arith, top (c .before .before)), omega (arith, whole-length (list (c .before .before)), c .before .before .pre .1))
 
 loop-holds : tie.Need-loop-holds Inv-loop μ-loop
 loop-holds c =
-    let l = c .before .before .before .before .before .args .t2 in
+    let l = list (c .before .before .before .before .before) in
     let none = records-none (l .starts) (l .ends) (l .levels) in (
       omega arith,
       top (c .before .before .before .before .before),
@@ -85,25 +93,25 @@ start c = c .before .before .before .before .before .before .before
 same : (c : tie.At-loop Inv-loop μ-loop) → length (c .loop .out) ≡ length (c .before .before .before .before .before .before .args .out .now)
 same c =
     let s = c .before .before .before .before .before .before in
-    let l = s .args .t2 in
+    let l = list s in
     let first = c .before .before .before .put-number in
     ap length (c .loop .inv .4) ∙ placed-length (first .last .0) (head l) (records l (c .loop .done)) ∙ ap length (first .ensures .1) ∙ placed-length (s .args .out .now) 0 (writeNumber (l .count))
 
-room : (c : Turn) → c .before .loop .at + length (recordAt (start c .args .t2) (c .before .loop .done)) ≤ length (c .before .loop .out)
+room : (c : Turn) → c .before .loop .at + length (recordAt (list (start c)) (c .before .loop .done)) ≤ length (c .before .loop .out)
 room c =
-    let l = start c .args .t2 in
+    let l = list (start c) in
     omega (arith, same (c .before), whole-length l, start c .pre .1, records-within (l .starts) (l .ends) (l .levels) (c .before .loop .done) (l .count) (c .loop-test .taken))
 
 put-record-requires : tie.Need-put-record-requires Inv-loop μ-loop
 put-record-requires c κs =
     let t = c .before .before .before .before in
-    let l = start t .args .t2 in
+    let l = list (start t) in
     rw (t .before .loop .inv .3) (run-fits (l .starts) (l .ends) (l .levels) (l .count) (t .before .loop .done) (start t .pre .0) (t .loop-test .taken), room t)
 
 loop-again : tie.Need-loop-again Inv-loop μ-loop
 loop-again c =
     let t = c .before .before .before .before .before .before .before in
-    let l = start t .args .t2 in
+    let l = list (start t) in
     let at = t .before .loop in
     let first = t .before .before .before .before .put-number in
     let written = c .before .before .put-record in
@@ -118,7 +126,7 @@ same-length c = same (c .before)
 returns : tie.Need-returns Inv-loop μ-loop
 returns c =
     let s = c .before .before .before .before .before .before .before in
-    let l = s .args .t2 in
+    let l = list s in
     let at = c .before .loop in
     let first = c .before .before .before .before .put-number in
     let done : at .done ≡ l .count = omega arith in
