@@ -8,6 +8,7 @@ use mathlib.Core.Bool.{true}
 use mathlib.Core.List.{List, [], _∷_, _++_}
 use lib.ListN.{length, take, set}
 use lib.Seq.{take-suc-set}
+use borrow.Author.Tests.{le-leb}
 use Rattle.refusal.specs.Answer.{Answer, accepted, refused, _>>=_}
 use Rattle.refusal.specs.Refusal.{unless-refuse, refusal}
 use Rattle.refusal.specs.declared.Refusal.{Refusal}
@@ -75,6 +76,12 @@ field-near range outside s at f n read e =
     go (Read.Number v m) p q = let same : m ≡ n .next = ap nextOf q in omega (arith, read-bounds s at v m p .near)
     go Read.Ended p q = impossible cc
     go Read.Malformed p q = impossible cc
+
+-- k numbers more behind the next one, which stands there in its range.
+pub fields-next : (rangeOf : List ℕ → Range) (outside : List ℕ → Refusal) (k : ℕ) (got s : List ℕ) (at v n : ℕ) → readNumber s at ≡ Read.Number v n → rangeOf got .low ≤ v → v ≤ rangeOf got .high
+    → readFields rangeOf outside (suc k) got s at ≡ readFields rangeOf outside k (got ++ v ∷ []) s n
+unfolding readFields numberAt
+fields-next rangeOf outside k got s at v n e low high = rw (e, le-leb (rangeOf got .low) v low, le-leb v (rangeOf got .high) high)
 
 -- k numbers more behind the next one, which is `f`.
 module _ (rangeOf : List ℕ → Range) (outsideAt : List ℕ → Refusal) (outside : Refusal) (k : ℕ) (got s : List ℕ) (at : ℕ) (f : Field)

@@ -3,7 +3,7 @@
 use Prim.Native.Nat.{ℕ, zero, suc, _+_, _-_, _≤_, _<_}
 use native.Mathlib.Omega.{arith}
 use mathlib.Core.Path.{_≡_, refl, sym, ap, ap₂, _∙_}
-use mathlib.Core.List.{List, [], map}
+use mathlib.Core.List.{List, [], _∷_, map}
 use lib.ListN.{length, getD, set, take, List·getD-map}
 use lib.Seq.{length-take-le, getD-take}
 use Rattle.refusal.specs.Answer.{accepted}
@@ -11,11 +11,16 @@ use Rattle.refusal.specs.Refusal.{refusal}
 use Rattle.refusal.specs.declared.Refusal.{Refusal}
 use Rattle.refusal.specs.declared.Refusal.the-variants.{HazardRange}
 use Rattle.job.specs.declared.Header.{Header}
+use Rattle.job.specs.declared.Hazard.{Hazard}
+use Rattle.number.specs.Number.{readNumber}
+use Rattle.number.specs.declared.Read.the-variants.{Number}
 use Rattle.job.specs.declared.field.Reading.{Reading}
 use Rattle.job.specs.declared.field.Field.{Field}
 use Rattle.job.specs.declared.field.Field.the-variants as Field
-use Rattle.job.specs.Job.{Range, _to_, hazardRanges, hazardOf, nextInHazard, outsideHazard}
+use Rattle.job.specs.Job.{Range, _to_, hazardRanges, hazardOf, nextInHazard, readFields, outsideHazard}
+use Rattle.job.specs.Fits.{HazardFits}
 use Rattle.job.specs.Reply.{fieldAt, fieldAnswer, hazardAt}
+use Rattle.job.proofs.FieldLaws.{fields-next}
 use Rattle.job.proofs.ArrayLaws.{NumbersLeft, one-less, next-refused, all-read}
 use Rattle.job.proofs.RangeLaws.{HazardBounds, hazard-bounds}
 use Rattle.job.proofs.JobLaws.{fields-in, hazard-fits}
@@ -69,3 +74,21 @@ module _ (h : Header) {index : ℕ} {s : List ℕ} {first : ℕ} {numbers : List
 
     pub numbers-bounds : HazardBounds h (hazardOf numbers)
     numbers-bounds = hazard-bounds h (hazardOf numbers) (hazard-fits h numbers (fields-in (nextInHazard h) (outsideHazard index) 6 [] s first (record { numbers = numbers; next = at }) (all-read left done)))
+
+-- A hazard whose six numbers stand one behind the other, each in its range.
+pub hazard-whole : (h : Header) (index : ℕ) (s : List ℕ) (at : ℕ) (z : Hazard) (a b c d e next : ℕ) → HazardFits h z
+    → readNumber s at ≡ Number (z .side) a → readNumber s a ≡ Number (z .start) b → readNumber s b ≡ Number (z .end) c
+    → readNumber s c ≡ Number (z .near) d → readNumber s d ≡ Number (z .far) e → readNumber s e ≡ Number (z .level) next
+    → accepted (record { hazard = z; next = next }) ≡ hazardAt h index s at
+unfolding hazardAt hazardRanges readFields
+hazard-whole h index s at z a b c d e next fits side start end near far level =
+    let f = hazard-bounds h z fits in
+    let go = fields-next (nextInHazard h) (outsideHazard index) in
+    rw (
+      go 5 [] s at (z .side) a side (omega arith) (f .side),
+      go 4 (z .side ∷ []) s a (z .start) b start (f .begins) (omega (arith, f .long, f .ends)),
+      go 3 (z .side ∷ z .start ∷ []) s b (z .end) c end (omega (arith, f .long)) (f .ends),
+      go 2 (z .side ∷ z .start ∷ z .end ∷ []) s c (z .near) d near (omega arith) (omega (arith, f .offsets, f .far-top)),
+      go 1 (z .side ∷ z .start ∷ z .end ∷ z .near ∷ []) s d (z .far) e far (f .offsets) (f .far-top),
+      go 0 (z .side ∷ z .start ∷ z .end ∷ z .near ∷ z .far ∷ []) s e (z .level) next level (f .level-low) (f .level-top),
+    )

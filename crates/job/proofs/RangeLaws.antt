@@ -1,13 +1,14 @@
 -- Numbers in their ranges: one by one and in parts; and what the tables say of a header and of a hazard that fit, as inequalities.
 -- Assumes nothing.
-use Prim.Native.Nat.{ℕ, zero, suc, _+_, _≤_, _<_, min}
+use Prim.Native.Nat.{ℕ, zero, suc, _+_, _-_, _≤_, _<_, min}
 use native.Mathlib.Omega.{arith}
+use native.Mathlib.Decide.{decLt}
 use mathlib.Core.Path.{_≡_, refl, sym, ap, _∙_}
 use mathlib.Core.Bool.{Bool, true, false, _&&_, _||_, and-assoc}
 use mathlib.Core.List.{List, [], _∷_, _++_, append-assoc, append-nil}
 use lib.ListN.{length, getD, take, drop}
-use lib.Dec.{leb, eqb}
-use borrow.Author.Tests.{leb-true, eqb-true}
+use lib.Dec.{leb, ltb, eqb}
+use borrow.Author.Tests.{leb-true, le-leb, lt-leb, lt-ltb, le-ltb, eqb-true}
 use Rattle.refusal.specs.Choice.{if_then_else_, allOf}
 use Rattle.refusal.proofs.TestLaws.{and-left, and-right}
 use Rattle.number.specs.Number.{greatest}
@@ -22,6 +23,25 @@ within-low r x h = leb-true _ _ (and-left _ (leb x (r .high)) h)
 
 pub within-high : (r : Range) (x : ℕ) → within r x ≡ true → x ≤ r .high
 within-high r x h = leb-true _ _ (and-right (leb (r .low) x) _ h)
+
+-- The code's tests of a range as the table's.
+pub from-zero : (x : ℕ) → leb 0 x ≡ true
+from-zero x = le-leb 0 x (omega arith)
+
+-- A number is below another exactly if the next one is not above it, and so if it is not above the one before that.
+pub below-next : (a b : ℕ) → ltb a b ≡ leb (a + 1) b
+below-next a b = go (decLt a b)
+  where
+    go : Dec (a < b) → ltb a b ≡ leb (a + 1) b
+    go (yes l) = lt-ltb a b l ∙ sym (le-leb (a + 1) b (omega arith))
+    go (no l) = le-ltb a b (omega arith) ∙ sym (lt-leb (a + 1) b (omega arith))
+
+pub to-last : (a b : ℕ) → 0 < b → leb a (b - 1) ≡ leb (a + 1) b
+to-last a b some = go (decLt a b)
+  where
+    go : Dec (a < b) → leb a (b - 1) ≡ leb (a + 1) b
+    go (yes l) = le-leb a (b - 1) (omega arith) ∙ sym (le-leb (a + 1) b (omega arith))
+    go (no l) = lt-leb a (b - 1) (omega arith) ∙ sym (lt-leb (a + 1) b (omega arith))
 
 -- Numbers
 

@@ -6,11 +6,17 @@ use super::field::ranged;
 use super::hazard_fields::HazardRead;
 use super::hazard_fields::hazard_range;
 use number::within::read_within;
+use number::word::is_four;
+use number::word::is_two;
+use number::word::of_four;
+use number::word::of_two;
+use number::word::word;
 use refusal::Refusal;
 ghost use mathlib.Core.Path.{_≡_};
 ghost use Prim.Native.Nat.{_+_, _≤_, _<_};
 ghost use lib.ListN.{length};
 ghost use Rattle.job.specs.Job.{_to_};
+ghost use Rattle.job.specs.Fits.{hazardInRange};
 ghost use Rattle.job.specs.Reply.{fieldAt, fieldAnswer, hazardAt, hazardAnswer};
 
 // The number at an index, from low to high; `outside` is the refusal of one that is not.
@@ -21,8 +27,25 @@ fn read_field_within(s: &[u8], at: usize, low: u64, high: u64, outside: Refusal)
     ranged(read_within(s, at), at, low, high, outside)
 }
 
-// The hazard with this index, whose first number begins at byte index first.
-pub fn read_hazard_within(s: &[u8], first: usize, header: Header, index: usize) -> HazardRead
+// Whether a hazard's numbers lie in their ranges, in the paper's order.
+fn in_range(header: Header, z: Hazard) -> bool
+    requires { ⌜ 0 < header .end ⌝ }
+    ensures { λ r. ⌜ r ≡ hazardInRange header z ⌝ }
+{
+    (z.side <= 1)
+        & (header.begin <= z.start)
+        & (z.start < header.end)
+        & (z.start < z.end)
+        & (z.end <= header.end)
+        & (z.near <= 60000)
+        & (z.near <= z.far)
+        & (z.far <= 60000)
+        & (1 <= z.level)
+        & (z.level <= 6)
+}
+
+// The hazard with this index, whose first number begins at byte index first, number by number.
+fn read_numbers_within(s: &[u8], first: usize, header: Header, index: usize) -> HazardRead
     requires { ⌜ 0 < header .end ⌝ }
     requires { ⌜ first + 36 ≤ length (now s) ⌝ }
     ensures { λ r. ⌜ hazardAnswer r ≡ hazardAt header index (now (s .entry)) first ⌝ }
@@ -52,4 +75,38 @@ pub fn read_hazard_within(s: &[u8], first: usize, header: Header, index: usize) 
         },
         next: at,
     }
+}
+
+// The same. Stations from 2,097,152 to 268,435,455 take four bytes and offsets from 128 to 16,383 two: such a hazard is taken from words at once.
+pub fn read_hazard_within(s: &[u8], first: usize, header: Header, index: usize) -> HazardRead
+    requires { ⌜ 0 < header .end ⌝ }
+    requires { ⌜ first + 36 ≤ length (now s) ⌝ }
+    ensures { λ r. ⌜ hazardAnswer r ≡ hazardAt header index (now (s .entry)) first ⌝ }
+{
+    let start_word = word(s, first + 1);
+    let end_word = word(s, first + 5);
+    let near_word = word(s, first + 9);
+    let far_word = near_word / 256 / 256;
+    if is_four(start_word) & is_four(end_word) & is_two(near_word) & is_two(far_word) {
+        let start = of_four(start_word);
+        let end = of_four(end_word);
+        let near = of_two(near_word);
+        let far = of_two(far_word);
+        let hazard = Hazard {
+            side: s[first],
+            start,
+            end,
+            near: near as u16,
+            far: far as u16,
+            level: s[first + 13],
+        };
+        // A number takes no more bytes than it needs.
+        if (2097152 <= start) & (128 <= near) & in_range(header, hazard) {
+            return HazardRead::Hazard {
+                hazard,
+                next: first + 14,
+            };
+        }
+    }
+    read_numbers_within(s, first, header, index)
 }

@@ -4,4 +4,5 @@ pub mod ScanLaws
 pub mod ReadLaws
 pub mod PlaceLaws
 pub mod GroupWalk
+pub mod WordLaws
 pub mod FormLaws

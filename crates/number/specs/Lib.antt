@@ -1,3 +1,4 @@
 pub mod Number
 pub mod Groups
 pub mod Form
+pub mod Word

@@ -1,38 +1,20 @@
 -- The code's tests of ranges, beside each other and without those that always pass, are the tables'.
 -- Assumes nothing.
-use Prim.Native.Nat.{ℕ, _+_, _-_, _≤_, _<_}
+use Prim.Native.Nat.{ℕ, _≤_, _<_}
 use native.Mathlib.Omega.{arith}
-use native.Mathlib.Decide.{decLt, ℕ-discrete}
+use native.Mathlib.Decide.{ℕ-discrete}
 use mathlib.Core.Path.{_≡_, refl, sym, ap, _∙_}
 use mathlib.Core.Bool.{Bool, true, false, _&&_, _||_, and-assoc, and-true}
 use mathlib.Core.List.{List, [], _∷_, _++_}
-use lib.Dec.{leb, ltb, eqb}
-use borrow.Author.Tests.{le-leb, lt-leb, lt-ltb, le-ltb, eq-eqb, ne-eqb}
+use lib.Dec.{leb, eqb}
+use borrow.Author.Tests.{le-leb, eq-eqb, ne-eqb}
 use Rattle.refusal.proofs.TestLaws.{and-left, and-right, and-intro}
 use Rattle.job.specs.declared.Header.{Header}
 use Rattle.job.specs.Job.{Range, within, _to_, sharedRanges, headerRanges, nextInHeader, sharedNumbers, counted}
 use Rattle.job.specs.Writing.{lastNumbers}
 use Rattle.job.specs.Fits.{inRanges, headerInRange, HeaderFits}
-use Rattle.job.proofs.RangeLaws.{ranges-parts, ranges-high}
+use Rattle.job.proofs.RangeLaws.{from-zero, ranges-parts, ranges-high}
 use Rattle.open_memory.specs.Steps.{lastInRange}
-
-pub from-zero : (x : ℕ) → leb 0 x ≡ true
-from-zero x = le-leb 0 x (omega arith)
-
--- A number is below another exactly if the next one is not above it, and so if it is not above the one before that.
-pub below-next : (a b : ℕ) → ltb a b ≡ leb (a + 1) b
-below-next a b = go (decLt a b)
-  where
-    go : Dec (a < b) → ltb a b ≡ leb (a + 1) b
-    go (yes l) = lt-ltb a b l ∙ sym (le-leb (a + 1) b (omega arith))
-    go (no l) = le-ltb a b (omega arith) ∙ sym (lt-leb (a + 1) b (omega arith))
-
-pub to-last : (a b : ℕ) → 0 < b → leb a (b - 1) ≡ leb (a + 1) b
-to-last a b some = go (decLt a b)
-  where
-    go : Dec (a < b) → leb a (b - 1) ≡ leb (a + 1) b
-    go (yes l) = le-leb a (b - 1) (omega arith) ∙ sym (le-leb (a + 1) b (omega arith))
-    go (no l) = lt-leb a (b - 1) (omega arith) ∙ sym (lt-leb (a + 1) b (omega arith))
 
 -- Tests, one behind the other.
 allTrue : List Bool → Bool

@@ -1,53 +1,59 @@
--- `job::within::read_hazard_within` meets its contract. The loop's invariant: the numbers read stand in the array, and what is left of the six
--- gives the answer; each took six bytes at most. The measure is how many are left.
--- Assumes nothing.
-use Prim.Native.Nat.{_+_, _-_, _*_, _≤_}
+-- `job::within::read_hazard_within` meets its contract: numbers of the usual lengths stand in the words, the others are read one by one. Assumes nothing.
+use Prim.Native.Nat.{ℕ, _+_, _≤_, _<_}
 use native.Mathlib.Omega.{arith}
-use mathlib.Core.Path.{refl}
+use mathlib.Core.Path.{_≡_, sym, ap, _∙_}
+use mathlib.Core.Bool.{Bool, true, _&&_}
+use lib.ListN.{length, getD}
 use borrow.Author.Needs.{needs}
-use Rattle.job.specs.Job.{hazardOf}
-use Rattle.job.proofs.ArrayLaws.{all-left}
-use Rattle.job.proofs.FieldLaws.{field-near}
-use Rattle.job.proofs.RangeLaws.{HazardBounds}
-use Rattle.job.proofs.HazardLaws.{HazardLeft, hazard-number, hazard-refused, hazard-read, numbers-bounds}
+use borrow.Author.Tests.{leb-true}
+use Rattle.refusal.proofs.TestLaws.{and-left, and-right}
+use Rattle.number.specs.declared.Read.the-variants.{Number}
+use Rattle.number.proofs.GroupWalk.{read-one}
+use Rattle.number.proofs.WordLaws.{read-word, read-behind}
+use Rattle.job.proofs.RangeLaws.{hazard-bounds}
+use Rattle.job.proofs.HazardLaws.{hazard-whole}
 use Rattle.job.proofs.within.read_hazard_within.Statement.{statement}
 use Rattle.job.proofs.within.read_hazard_within.Tie as tie
 
-abbrev Inv-loop : tie.InvT-loop
-Inv-loop s first header index numbers₀ at₀ k₀ numbers at k = HazardLeft header index s first numbers at k × (at ≤ first + 6 * k)
+both : (a b : Bool) → a && b ≡ true → (a ≡ true) × (b ≡ true)
+both a b e = (and-left a b e, and-right a b e)
 
-abbrev μ-loop : tie.MeasureT-loop
-μ-loop s first header index numbers₀ at₀ k₀ numbers at k = 6 - k
-
-hazard-range-requires : tie.Need-hazard-range-requires Inv-loop μ-loop
-hazard-range-requires c κs = (c .loop-test .taken, omega (arith, c .before .loop .inv .0 .second, c .before .before .before .pre .0))
-
-read-field-within-requires : tie.Need-read-field-within-requires Inv-loop μ-loop
-read-field-within-requires c κs = omega (arith, c .before .loop-test .taken, c .before .before .loop .inv .1, c .before .before .before .before .pre .1)
-
-returns : tie.Need-returns Inv-loop μ-loop
+returns : tie.Need-returns
 returns c =
-    let r = c .before .before .before in
-    hazard-refused _ (r .before .before .before .loop .inv .0) (r .before .before .loop-test .taken) (r .read-field-within .result) (r .before .hazard-range .ensures) (r .read-field-within .ensures) (c .before .refusal .given .1)
-
-loop-again : tie.Need-loop-again Inv-loop μ-loop
-loop-again c =
-    let r = c .before .before .before in
-    let l = r .before .before .before in (
-      hazard-number (l .before .before .args .header) (l .loop .inv .0) (r .before .before .loop-test .taken) (r .read-field-within .result) (r .before .hazard-range .ensures) (r .read-field-within .ensures) (c .before .reading .given .1),
-      omega (arith, l .loop .inv .1, field-near _ _ _ _ (r .read-field-within .result) _ (r .read-field-within .ensures) (c .before .reading .given .1)),
-    )
-
--- The six numbers lie in their ranges, so each fits the bits that it is stored in.
-bounds : (c : tie.After-loop Inv-loop μ-loop) → HazardBounds (c .before .before .before .args .header) (hazardOf (c .before .loop .numbers))
-bounds c = numbers-bounds _ (c .before .loop .inv .0) (c .loop-test .left)
+    let made = c .before .before .before .before in
+    let t = made .before .before .before .before in
+    let w = t .before .before .before .before .before in
+    let known = w .before .before .before in
+    let s = known .before .args .s .now in
+    let first = known .before .args .first in
+    let there : first + 36 ≤ length s = known .before .pre .1 in
+    let byte : (i : ℕ) → getD s i 0 < 256 = λ i. omega (arith, known .shared-slice-known .given i) in
+    let far = both _ _ (t .if1 .taken) in
+    let near = both _ _ (far .0) in
+    let stations = both _ _ (near .0) in
+    let fit = both _ _ (c .if2 .taken) in
+    let long = both _ _ (fit .0) in
+    let fits = sym (c .before .in-range .ensures) ∙ fit .1 in
+    let bounds = hazard-bounds _ _ fits in
+    let start-long = leb-true _ _ (long .0) in
+    let near-long = leb-true _ _ (long .1) in
+    let next : first + 13 + 1 ≡ first + 14 = omega arith in
+    hazard-whole _ _ s first _ (first + 1) (first + 5) (first + 9) (first + 11) (first + 13) (first + 14) fits
+    (read-one s first (omega arith) (omega (arith, bounds .side)))
+    (read-word s byte 3 (first + 1) (omega arith) (w .before .before .word .ensures) (made .before .before .before .of-four .ensures) (omega arith) (omega arith)
+    (sym (t .before .before .before .before .is-four .ensures) ∙ stations .0) start-long)
+    (read-word s byte 3 (first + 5) (omega arith) (w .before .word2 .ensures) (made .before .before .of-four2 .ensures) (omega arith) (omega arith)
+    (sym (t .before .before .before .is-four2 .ensures) ∙ stations .1) (omega (arith, bounds .long)))
+    (read-word s byte 1 (first + 9) (omega arith) (w .word3 .ensures) (made .before .of-two .ensures) (omega arith) (omega arith)
+    (sym (t .before .before .is-two .ensures) ∙ near .1) near-long)
+    (read-behind s byte 1 (first + 9) (omega arith) (w .word3 .ensures) (omega arith) (made .of-two2 .ensures) (omega arith) (omega arith)
+    (sym (t .before .is-two2 .ensures) ∙ far .1) (omega (arith, bounds .offsets)))
+    (read-one s (first + 13) (omega arith) (omega (arith, bounds .level-top)) ∙ ap (Number (getD s (first + 13) 0)) next)
 
 pub read-hazard-within-spec : {M : Type 1} → statement M
 read-hazard-within-spec =
     tie.close
-    (tie.spec Inv-loop μ-loop (λ c. (all-left _ refl (omega arith), omega arith)) (λ c. search needs) (λ c. search needs) hazard-range-requires read-field-within-requires
-    (λ c. search needs) (λ c. omega arith) (λ c. search needs) (λ c. search needs) returns
-    (λ c. omega arith) (λ c. omega arith) loop-again
-    (λ c. search needs) (λ c. omega (arith, bounds c .side)) (λ c. search needs) (λ c. search needs)
-    (λ c. search needs) (λ c. omega (arith, bounds c .offsets, bounds c .far-top)) (λ c. search needs) (λ c. omega (arith, bounds c .far-top))
-    (λ c. search needs) (λ c. omega (arith, bounds c .level-top)) (λ c. hazard-read _ (c .before .loop .inv .0) (c .loop-test .left)))
+    (tie.spec (λ c. search needs) (λ c κs. search needs) (λ c. search needs) (λ c κs. search needs) (λ c. search needs) (λ c κs. search needs)
+    (λ c κs. search needs) (λ c κs. search needs) (λ c κs. search needs) (λ c κs. search needs) (λ c κs. search needs) (λ c κs. search needs) (λ c κs. search needs) (λ c κs. search needs)
+    (λ c. search needs) (λ c. search needs) (λ c. search needs) (λ c. search needs) (λ c. search needs) (λ c κs. search needs)
+    (λ c. search needs) returns (λ c κs. search needs) (λ c. search needs))

@@ -2,9 +2,8 @@
 use native.Mathlib.Omega.{arith}
 use mathlib.Core.Bool.{and-assoc, and-true}
 use Rattle.job.specs.Job.{hazardRanges}
-use Rattle.job.proofs.RangeLaws.{header-bounds}
+use Rattle.job.proofs.RangeLaws.{from-zero, below-next, to-last, header-bounds}
 use Rattle.job.specs.Fits.{inRanges, hazardInRange}
-use Rattle.open_memory.proofs.RangeLaws.{from-zero, below-next, to-last}
 use Rattle.open_memory.proofs.rules.hazard_in_range.Statement.{statement}
 use Rattle.open_memory.proofs.rules.hazard_in_range.Tie as tie
 
