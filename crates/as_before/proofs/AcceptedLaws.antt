@@ -77,3 +77,18 @@ printed-before = record {
   hazards = record { count = refl; each = cons-each (λ (z : Hazard). HazardFits (printed .header) z) refl (λ z m. absurd (List·Memᴰ·not-nil m)) };
   passed = cons-each (Passed (printed .header)) (record { clear = λ r. omega arith }) (λ z m. absurd (List·Memᴰ·not-nil m));
 }
+
+-- So was one at the limits: of kind 2, on the last millimetre of the longest chainage.
+abbrev pub limit : Job
+limit =
+    let numbers : List ℕ = 2 ∷ 1999999999 ∷ 2000000000 ∷ 1 ∷ 0 ∷ 1 ∷ 0 ∷ 0 ∷ 1 ∷ 1 ∷ 0 ∷ 0 ∷ 0 ∷ 10000 ∷ 1 ∷ [] in
+    record { header = headerOf numbers; hazards = hazardOf (1 ∷ 1999999999 ∷ 2000000000 ∷ 60000 ∷ 60000 ∷ 6 ∷ []) ∷ [] }
+
+pub limit-before : JobBefore (writtenBefore (numbersOf limit)) limit
+unfolding headerRanges sharedRanges inRanges hazardInRange hazardRanges
+limit-before = record {
+  bytes = refl;
+  header = record { numbers = refl; panel = refl };
+  hazards = record { count = refl; each = cons-each (λ (z : Hazard). HazardFits (limit .header) z) refl (λ z m. absurd (List·Memᴰ·not-nil m)) };
+  passed = cons-each (Passed (limit .header)) (record { clear = λ r. omega arith }) (λ z m. absurd (List·Memᴰ·not-nil m));
+}

@@ -22,7 +22,7 @@ use Rattle.runs.proofs.RunLaws.{Rising}
 use Rattle.schedule.specs.Schedule.{writeRecord, writeRecords, writeSchedule}
 use Rattle.as_before.specs.AcceptedBefore.{writtenBefore, rowsBefore, nextBefore, HeaderBefore, recordNumbers, allRecordNumbers, scheduleBefore}
 
--- None is greater.
+-- No number of a list is above 2,000,000,000.
 abbrev Small : List ℕ → Type 0
 Small [] = Unit {0}
 Small (x ∷ xs) = (x ≤ 2000000000) × Small xs

@@ -7,6 +7,7 @@ pub mod ContractLaws
 pub mod LotLaws
 pub mod RefusalLaws
 pub mod CaseLaws
+pub mod PanelLaws
 pub mod LevelLaws
 pub mod HazardLaws
 pub mod CornerLaws

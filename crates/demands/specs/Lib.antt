@@ -1,6 +1,7 @@
 pub mod Demands
 pub mod Cases
 -- Document 02.
+pub mod Panels
 pub mod Level
 pub mod Road
 pub mod Corners

@@ -1,5 +1,5 @@
--- Whole numbers in floats: casts are exact up to 2 ^ prec, which is 2 ^ 53 in 64 bits, and sums and differences of casts are casts; and what a
--- float that is a whole number says of both.
+-- Whole numbers in floats: casts are exact up to 2 ^ prec, which is 2 ^ 53 in 64 bits, and sums and differences of casts are the casts of the
+-- integers' own.
 -- Assumes nothing.
 use Prim.Native.Nat.{ℕ, zero, suc, _+_, _-_, _*_, _^_, _≤_, _<_}
 use native.Mathlib.Nat.{mul-one, mul-comm, mul-assoc, add-mul, mul-sub, mul-pos, mul-lt-mul-of-pos-right, mul-le-mul-right, eq-of-mul-eq-mul-right, suc-inj}

@@ -44,7 +44,7 @@ range-shared : (kind k : ℕ) → k < 13 → getD (headerRanges kind 0) k (0 to 
 unfolding headerRanges sharedRanges
 range-shared kind k l = List·getD-append (sharedRanges 0) (lastRanges kind) (0 to 0) k l
 
--- Up to the thirteenth the ranges but the third are those of kind 2 where the road begins at 0.
+-- The first thirteen ranges but the third depend neither on the kind nor on A.
 pub range-plain : (kind A k : ℕ) → k < 13 → (k ≡ 2 → ⊥) → getD (headerRanges 2 0) k (0 to 0) ≡ getD (headerRanges kind A) k (0 to 0)
 range-plain kind A k l other = range-shared 2 k l ∙ sym (range-shared kind k l) ∙ sym (range-elsewhere kind A k other)
 

@@ -189,7 +189,7 @@ hazard-bounds h z fits =
     high : (i : ℕ) → i < 6 → getD (hazardNumbers z) i 0 ≤ nextInHazard h (take i (hazardNumbers z)) .high
     high = ranges-high (nextInHazard h) (hazardNumbers z) fits
 
--- No range reaches beyond a number.
+-- No range of a list reaches beyond m.
 pub highs-most : (m : ℕ) (rs : List Range) → allOf (λ (r : Range). leb (r .high) m) rs ≡ true → (k : ℕ) → getD rs k (0 to 0) .high ≤ m
 unfolding allOf
 highs-most m [] e k = omega arith

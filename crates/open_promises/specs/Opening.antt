@@ -1,4 +1,4 @@
--- Document 02's request 3 of opening: what it answers to any bytes.
+-- Document 02, request 3, opening: what it answers to any bytes.
 -- Assumes nothing.
 use Prim.Native.Nat.{ℕ, _≤_, _<_}
 use mathlib.Core.Path.{_≡_}

@@ -63,7 +63,7 @@ pub record SameOpenJob (a b : OpenStates) : Type 0 where
   pub hazards : SameHazards (standing (a .now)) (standing (b .now))
   pub kept : (number : ℕ) → number ≤ greatestStateNumber → SameKept (keptUnder a number) (keptUnder b number)
 
--- As the manual has it: "two open jobs are equal, byte for byte, exactly if their headers are equal, the same hazards stand under the same
+-- As `include/barrier.h` has it: "two open jobs are equal, byte for byte, exactly if their headers are equal, the same hazards stand under the same
 -- names, and the same states are kept under the same numbers, however they came there".
 abbrev pub EqualPromise : Type 0
 EqualPromise = (a b : OpenStates) → HasPlaces a → HasPlaces b → areOpenStates a ≡ true → areOpenStates b ≡ true → (a ≡ b) ↔ SameOpenJob a b

@@ -58,7 +58,7 @@ runs-on-road j side fits r m =
 
 -- Envelopes that stay on the road
 
--- A hazard's envelope, where it is reached.
+-- The envelope of a reached hazard lies on the road.
 abbrev Stays : Header → Hazard → Type 0
 Stays h z = reached h z ≡ true → (h .begin + lengthening h z forward ≤ z .start) × (z .end + lengthening h z opposite ≤ h .end)
 

@@ -22,7 +22,7 @@ use Rattle.job.specs.Job.{Job, readJob}
 use Rattle.job.proofs.WritingLaws.{Bytes}
 use Rattle.job.proofs.RowLaws.{read-exactly}
 use Rattle.planning.specs.Envelope.{reached, standsNear, testHazard, testHazards, acceptJob}
-use Rattle.planning.specs.Rows.{Near, Passed, FirstNear, FirstNearOf, JobRow, unread, near-barrier}
+use Rattle.planning.specs.Rows.{Near, Passed, FirstNear, FirstNearOf, JobRow, of-reading, near-barrier}
 use Rattle.planning.proofs.EnvelopeLaws.{hazard-passed}
 use Rattle.planning.proofs.AcceptedLaws.{hazards-pass}
 use Rattle.refusal.proofs.TestLaws.{impossible}
@@ -103,9 +103,9 @@ pub refused-exactly : (s : List ℕ) (r : Refusal) → Bytes s → (acceptJob s 
 refused-exactly s r b = (λ e. to (job-exactly s (numberOf r) (valueOf r) .0 e), back)
   where
     to : (readJob s ≡ refusal r) ⊎ ((numberOf r ≡ 5) × FirstNearOf s (valueOf r)) → JobRow r s
-    to (inl e) = unread (read-exactly s r b .0 e)
+    to (inl e) = of-reading (read-exactly s r b .0 e)
     to (inr (five, f)) = near-barrier (valueOf r) (same-row r (Row.NearBarrier (valueOf r)) five refl) f
 
     back : JobRow r s → acceptJob s ≡ refusal r
-    back (unread w) = job-exactly s (numberOf r) (valueOf r) .1 (inl (read-exactly s r b .1 w))
+    back (of-reading w) = job-exactly s (numberOf r) (valueOf r) .1 (inl (read-exactly s r b .1 w))
     back (near-barrier index e f) = job-exactly s 5 index .1 (inr (refl, f)) ∙ ap refusal (sym e)

@@ -134,7 +134,8 @@ sideOverhangs j side = overhangs (j .header) side (j .hazards)
 abbrev pub OnRoad : Header → (t : ℕ) → Type 0
 OnRoad h t = (h .begin ≤ t) × (t < h .end)
 
--- No envelope begins before A or ends after B, by sums: before document 02's request 8 a job with one that did was refused 6.
+-- No envelope begins before A or ends after B, by sums. Before document 02's request 8 a job with one that did was refused, with 6 if with nothing
+-- else.
 abbrev pub StaysOnRoad : Job → Type 0
 StaysOnRoad j = (z : Hazard) → List·Memᴰ z (j .hazards) → reached (j .header) z ≡ true
     → (j .header .begin + lengthening (j .header) z forward ≤ z .start) × (z .end + lengthening (j .header) z opposite ≤ j .header .end)

@@ -39,6 +39,6 @@ FirstNearOf s index = (j : Job) × (readJob s ≡ accepted j) × FirstNear (j .h
 
 -- The table's rows of a job: those of its reading, and 5.
 pub data JobRow (r : Refusal) (s : List ℕ) : Type 0 where
-  unread : ReadRow r s → JobRow r s
+  of-reading : ReadRow r s → JobRow r s
   -- 5: "hazard index"; "reached hazard with n < M + D".
   near-barrier : (index : ℕ) → r ≡ Row.NearBarrier index → FirstNearOf s index → JobRow r s

@@ -5,7 +5,7 @@ ghost use Rattle.refusal.specs.Refusal.{numberOf, valueOf};
 pub enum Refusal {
     // The job's bytes end before or inside the number that begins at this index.
     Ended(usize),
-    // The number that begins at this index is overlong, too great or not in shortest form.
+    // The number that begins at this index has its top bit set in the sixth byte too, or is not in shortest form.
     Malformed(usize),
     // This header number, 1 to 14 (of a kind 2 job to 15), is outside its range; 0 where the memory of an open job breaks the rules.
     HeaderRange(usize),

@@ -25,7 +25,7 @@ fn one_if(b: bool) -> usize
     if b { 1 } else { 0 }
 }
 
-// How many levels have a top above t; where the first has none, no level has.
+// How many levels have a top above t; where level 1 has none above it, no level has.
 fn above(tops: &[u64], t: u64) -> usize
     requires { ⌜ length (now tops) ≡ 8 ⌝ }
     requires { ⌜ Falling (now tops) ⌝ }
