@@ -24,10 +24,10 @@ use std::fmt;
 use std::ops::Range;
 
 /// The version of barrier.h that this file was written for.
-pub const VERSION: &str = "3.2.0";
+pub const VERSION: &str = "3.2.1";
 pub const VERSION_MAJOR: u32 = 3;
 pub const VERSION_MINOR: u32 = 2;
-pub const VERSION_PATCH: u32 = 0;
+pub const VERSION_PATCH: u32 = 1;
 
 /// The schedule of every job fits in this many bytes.
 pub const SCHEDULE_MAX: usize = 5624;

@@ -11,8 +11,11 @@ use reference::open::Name;
 
 use crate::jobs::{self, Kind, LAST, Order, ROAD_END};
 
-pub const NAMES: [&str; 26] = [
+pub const NAMES: [&str; 29] = [
     "sparse-shuffled",
+    "sparse-shuffled-64",
+    "sparse-shuffled-8",
+    "sparse-shuffled-1",
     "sparse-shuffled-panels-4000",
     "overhang-sparse-shuffled",
     "chainage-sparse-shuffled",
@@ -75,6 +78,9 @@ impl Single {
     pub fn run(&self) {
         match self.name.as_str() {
             "sparse-shuffled" => self.plan(jobs::job(Kind::Sparse, Order::Shuffled, 256)),
+            "sparse-shuffled-64" => self.plan(jobs::job(Kind::Sparse, Order::Shuffled, 64)),
+            "sparse-shuffled-8" => self.plan(jobs::job(Kind::Sparse, Order::Shuffled, 8)),
+            "sparse-shuffled-1" => self.plan(jobs::job(Kind::Sparse, Order::Shuffled, 1)),
             "sparse-shuffled-panels-4000" => {
                 let job = jobs::job_in_panels(Kind::Sparse, Order::Shuffled, 256, 4_000);
                 self.plan(job)
