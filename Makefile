@@ -23,8 +23,10 @@ engine: proved target/staticlib/libbarrier_engine.a
 proved:
 	rt check
 
-# Makefile.vendor has the recipe. Whatever links the archive or installs it asks for this file, so the proofs and a fresh archive always come first.
-target/staticlib/libbarrier_engine.a: proved
+# Whatever links the archive or installs it asks for this file, so the proofs and a fresh archive always come first.
+VENDOR_OWN_ARCHIVE = target/staticlib/libbarrier_engine.a
+$(VENDOR_OWN_ARCHIVE): proved
+	rt staticlib barrier_engine
 
 # The implementation by another hand: its own tests, the test of the test, and the engine held against it.
 hand: engine

@@ -21,7 +21,7 @@
 
 /* Two kilometres of two-way road, approaches in whole panels of 4 m. */
 static const barrier_help_header road = {
-    2,              /* kind: whole panels */
+    0,              /* kind: by the panel length */
     0, 2000000,     /* A, B: road begin and end */
     101000, 101000, /* LF, LO: runout lengths, forward and opposite */
     9000,           /* C: clear-zone width */
@@ -34,9 +34,11 @@ static const barrier_help_header road = {
     4000            /* panel length */
 };
 
-/* The lots of the contract, and the panels of the yard. */
+/* The lots of the contract, and the panels of the yard, the shortest first: so
+   fewer are taken.  Fifteen of each are twice so long together. */
 static const uint64_t lots[] = {0, 500000, 500000, 1000000, 1000000, 2000000};
-static const uint64_t yard[] = {4000, 2500};
+static const uint64_t yard[] = {2500, 4000};
+static const uint64_t YARD_HALF = 48750;
 enum { LOT_NUMBERS = 6, YARD_LENGTHS = 2 };
 
 /* What the rod reads: metres from the datum, and from the travelled-way edge. */
@@ -238,18 +240,19 @@ static int inspect(const struct standing *now)
 /* How a run is laid from the panels of the yard. */
 static int print_panels(barrier_help_run run)
 {
+    const uint64_t length = run.end - run.start;
+    /* A layout has at most 15 panels of each length: of a long run the longest
+       ones are laid first, until half of that is left, for which there are many
+       layouts. */
+    const uint64_t first = length <= YARD_HALF ? 0 : (length - YARD_HALF + yard[1] - 1) / yard[1];
     const barrier_layout_reply reply =
-        barrier_layout(yard, YARD_LENGTHS, run.end - run.start, BARRIER_TRIES_MAX);
+        barrier_layout(yard, YARD_LENGTHS, length - first * yard[1], BARRIER_TRIES_MAX);
     if (reply.number != BARRIER_DONE)
         return said("layout", BARRIER_HELP_LAYOUT, reply.number, reply.value);
-    printf("  %s m at NC-%" PRIu64 ": ", metres(run.end - run.start), run.level);
-    /* At most 15 of each length: a long run takes more than one layout. */
-    if (reply.found)
-        printf("%" PRIu64 " of 4.000 m, %" PRIu64 " of 2.500 m, %s m over\n", reply.counts[0],
-               reply.counts[1], metres(reply.overrun));
-    else
-        printf("longer than 15 panels of each length\n");
-    return 1;
+    printf("  %s m at NC-%" PRIu64 ": ", metres(length), run.level);
+    printf("%" PRIu64 " of 2.500 m, %" PRIu64 " of 4.000 m, %s m over\n", reply.counts[0],
+           first + reply.counts[1], metres(reply.overrun));
+    return reply.found != 0;
 }
 
 /* The millimetres of each level in each lot; 0 if refused. */

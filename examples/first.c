@@ -5,9 +5,9 @@
 int main(void)
 {
     /* A road of 1 km, and a culvert headwall on its right. Millimetres; what is not named is 0. */
-    /* Kind 1; with kind 2 and a panel length, approaches have whole panels. */
+    /* With a panel length, .panel = 4000 say, approaches have whole panels. */
     const barrier_help_header road = {
-        .kind = 1, .end = 1000000, .runout_forward = 101000, .clear_zone = 9000, .straight = 13340,
+        .end = 1000000, .runout_forward = 101000, .clear_zone = 9000, .straight = 13340,
         .barrier_offset = 3000, .deflection = 1000, .flare_along = 15, .flare_across = 1};
     const barrier_hazard headwall = {BARRIER_RIGHT, 200000, 210000, 5000, 9000, BARRIER_NC_3};
     uint8_t job[BARRIER_JOB_LONGEST], out[BARRIER_SCHEDULE_MAX];

@@ -86,6 +86,7 @@
  * SWAP THE SIDES: hand over a hazard on the left as BARRIER_RIGHT and one on
  * the right as BARRIER_LEFT, and ask for them so too; the schedule of
  * BARRIER_RIGHT is then that of the left side.  LF and LO stay as they are.
+ * barrier_help_swap_side does it.
  *
  *     A two-way road, LF and LO 101000, C 9000, W 3500, M 3000, D 1000, no
  *     flare, and one hazard [200000, 210000), n 5000, f 9000:
@@ -107,6 +108,7 @@
  * [A + B - e, A + B - s), a station t that is asked for as A + B - 1 - t, left
  * for right.  Runs are turned back as ranges are, a corner's station x is
  * A + B - x, and the overhangs before and after change places.
+ * barrier_help_turn_hazard, _run, _station, _corner and _overhangs do it.
  *
  *     The sample job's hazard [200000, 210000) is handed over as
  *     [790000, 800000), and its run [745773, 800000) is [200000, 254227) of the
@@ -325,6 +327,20 @@
  *     hazard      the hazard's end on the
  *                 side of the approach      s or e            M
  *
+ * THESE ARE THE CORNERS OF ONE HAZARD AS IF IT STOOD ALONE, and the schedule is
+ * what is built.  A run of several hazards is not drawn through the corners of
+ * each: it stands along M from its start to its end, and approaches that begin
+ * inside it are not built.  It bends only at an end that touches no other run
+ * and is the upstream end of an approach: there it is drawn through the
+ * upstream and the flare corner of that hazard, the run's upstream one.
+ *
+ * With a flare (b above 0) look at such a run before it is built.  The approach
+ * length of each of its hazards is worked out with a flare of its own, and only
+ * one of these is there: a vehicle on its way to a hazard farther on may pass
+ * behind the run's end, or another hazard may lie in the way of the flare.  No
+ * call tests that.  Planned without a flare (b 0), each approach is worked out
+ * along M, and a run along M shields all of its hazards.
+ *
  * It is the approach of the adjacent traffic alone; there are no corners of the
  * far traffic's.  Forward traffic comes from lower stations and has the first
  * of each two; opposite traffic comes from higher ones and has the second.  l
@@ -393,14 +409,33 @@
  * or not, overruns by less.  So where the overrun is the floor, more tries are
  * of no use.  The floor may be out of reach, though.
  *
- *     Lengths 4000 and 2500, run 54227, that of the sample job: the divisor
+ *     Lengths 2500 and 4000, run 54227, that of the sample job: the divisor
  *     is 500, its multiple 54500, the floor 273.
  *
  *     limit           layout     overrun    tries
- *     1 to 94         none                  the limit
- *     95 to 137       (5, 14)    773        the limit
- *     138 to 256      (8, 9)     273        the limit
- *     257 to 65536    (8, 9)     273        256
+ *     1 to 14         none                  the limit
+ *     15 to 29        (0, 14)    1773       the limit
+ *     30 to 256       (1, 13)    273        the limit
+ *     257 to 65536    (1, 13)    273        256
+ *
+ * PUT THE SHORTEST LENGTH FIRST.  Of layouts with one overrun the first is
+ * replied, in which the first length's count is the smallest; so the longest
+ * length first gives many short panels.
+ *
+ *     run      lengths                     layout            panels   overrun
+ *     54227    2500, 4000                  (1, 13)           14       273
+ *     54227    4000, 2500                  (8, 9)            17       273
+ *     68500    1500, 2000, 3000, 4000      (1, 0, 5, 13)     19       0
+ *     68500    4000, 3000, 2000, 1500      (0, 6, 14, 15)    35       0
+ *
+ * A LONG RUN, which 15 panels of each length do not cover or barely do: lay
+ * panels of the longest length first, until about half of what 15 of each cover
+ * is left, and ask for the layout of that rest.  The overrun of the rest is
+ * that of the run, and the floor is the same: where the overrun is the floor,
+ * no layout of the whole run has less.
+ *
+ *     Lengths 2500 and 4000 cover 97500: of the run 212000 lay 41 panels of
+ *     4000, and the rest, 48000, is (0, 12), overrun 0
  *
  *     Lengths 4000 and 6000, run 1000: the floor is 1000, but the least overrun
  *     is 3000, of one panel of 4000.

@@ -1,29 +1,38 @@
 /*
  * barrier_help.h - what a program writes around the calls of barrier.h
  *
- *     barrier_help_write_job       structs to the bytes of a job
- *     barrier_help_read_job        the bytes of a job to structs
- *     barrier_help_standing        what stands in an open job, as structs
- *     barrier_help_walk_of         a schedule run by run, with stations:
- *     barrier_help_next_run        start, end and level
- *     barrier_help_refusal         a refusal in words, by the call it is of
- *     barrier_help_remedy          what can be done about it
- *     barrier_help_call_name       the name of a call in C
- *     barrier_help_header_name     what a header's numbers are called, and
- *     barrier_help_header_range    what they may be
- *     barrier_help_hazard_name     the same of a hazard's six numbers
+ *     barrier_help_write_job         structs to the bytes of a job
+ *     barrier_help_read_job          the bytes of a job to structs
+ *     barrier_help_standing          what stands in an open job, as structs
+ *     barrier_help_walk_of           a schedule run by run, with stations:
+ *     barrier_help_next_run          start, end and level
+ *     barrier_help_refusal           a refusal in words, by the call it is of
+ *     barrier_help_remedy            what can be done about it
+ *     barrier_help_call_name         the name of a call in C
+ *     barrier_help_header_name       what a header's numbers are called, and
+ *     barrier_help_header_range      what they may be
+ *     barrier_help_hazard_name       the same of a hazard's six numbers
  *     barrier_help_hazard_range
- *     barrier_help_hazard_fault    which of a hazard's numbers is out of range
- *     barrier_help_mm_of_text_down metres to millimetres, from decimal text,
- *     barrier_help_mm_of_text_up   down, up,
- *     barrier_help_mm_of_text      and to the nearest
- *     barrier_help_mm_of_double    from a double, to the nearest
- *     barrier_help_metres          millimetres to a text of metres
- *     barrier_help_metres_signed   the same below 0 too
- *     barrier_help_version_fits    whether the linked engine fits this header
- *     barrier_help_number_length   one number of a job or a schedule: how many
- *     barrier_help_put_number      bytes it takes, written
- *     barrier_help_get_number      and read
+ *     barrier_help_hazard_fault      which of a hazard's numbers is wrong
+ *     barrier_help_mm_of_text_down   metres to millimetres, from decimal text,
+ *     barrier_help_mm_of_text_up     down, up,
+ *     barrier_help_mm_of_text        and to the nearest
+ *     barrier_help_mm_of_double      from a double, to the nearest
+ *     barrier_help_metres            millimetres to a text of metres
+ *     barrier_help_metres_signed     the same below 0 too
+ *     barrier_help_mm_of_kilometres  a station like 1+250.000 to millimetres,
+ *     barrier_help_kilometres        and back,
+ *     barrier_help_kilometres_signed below 0 too
+ *     barrier_help_swap_side         where traffic drives on the left
+ *     barrier_help_turn_hazard       where it travels towards falling stations:
+ *     barrier_help_turn_run          a hazard, a run,
+ *     barrier_help_turn_station      a station,
+ *     barrier_help_turn_corner       a corner point
+ *     barrier_help_turn_overhangs    and the overhangs, turned round
+ *     barrier_help_version_fits      whether the linked engine fits this header
+ *     barrier_help_number_length     a number of a job or a schedule: how many
+ *     barrier_help_put_number        bytes it takes, written
+ *     barrier_help_get_number        and read
  *
  * All of it is in this file, in C99 that is C++11 and later too: nothing has to
  * be linked for it.  It takes no heap, prints nothing and keeps no pointer but
@@ -95,7 +104,8 @@ enum barrier_help_call {
  * millimetres.  The hazard count is not in it: it goes with the hazards.
  */
 typedef struct {
-    uint64_t kind;            /*     1, or 2: approaches in whole panels */
+    uint64_t kind;            /*     1, or 2: approaches in whole panels; 0: 2
+                                     where there is a panel length, else 1 */
     uint64_t begin;           /* A   first station of the road */
     uint64_t end;             /* B   its end station, which is not in it */
     uint64_t runout_forward;  /* LF  runout length of traffic to rising stations */
@@ -108,7 +118,7 @@ typedef struct {
     uint64_t flare_across;    /* b   and b; 0: no flare */
     uint64_t straight;        /* T   straight barrier before the flare */
     uint64_t continuity;      /* G   gaps shorter than this are closed */
-    uint64_t panel;           /*     panel length; of kind 2 alone */
+    uint64_t panel;           /*     panel length; not written for kind 1 */
 } barrier_help_header;
 
 /* ---- Numbers ------------------------------------------------------------ */
@@ -192,12 +202,21 @@ static inline int barrier_help_p_put(const uint64_t *numbers, size_t count, uint
     return 1;
 }
 
+/* The kind that is written: 0 goes by the panel length. */
+static inline uint64_t barrier_help_p_kind(const barrier_help_header *header)
+{
+    if (header->kind != 0)
+        return header->kind;
+    return header->panel == 0 ? 1 : 2;
+}
+
 /* A header's numbers in their order, with the hazard count; how many they are. */
 static inline size_t barrier_help_p_header(const barrier_help_header *header, uint64_t hazards,
                                            uint64_t *numbers)
 {
+    const uint64_t kind = barrier_help_p_kind(header);
     size_t count = 0;
-    numbers[count++] = header->kind;
+    numbers[count++] = kind;
     numbers[count++] = header->begin;
     numbers[count++] = header->end;
     numbers[count++] = header->runout_forward;
@@ -210,7 +229,7 @@ static inline size_t barrier_help_p_header(const barrier_help_header *header, ui
     numbers[count++] = header->flare_across;
     numbers[count++] = header->straight;
     numbers[count++] = header->continuity;
-    if (header->kind == 2)
+    if (kind == 2)
         numbers[count++] = header->panel;
     numbers[count++] = hazards;
     return count;
@@ -253,9 +272,10 @@ static inline size_t barrier_help_p_job(const barrier_help_header *header,
  * NULL and room SIZE_MAX it gives the length alone.
  *
  * Ranges are not tested: whatever the numbers are, they are written, and the
- * engine says what is wrong with them.  The panel length is written for kind 2
- * and left out for every other.  For barrier_open the count is 0, and the
- * hazards may be NULL.
+ * engine says what is wrong with them.  Leave the kind 0, and it is 2 where
+ * there is a panel length and 1 where there is none.  A kind that is given is
+ * written: with 2 the panel length too, with every other without it.  For
+ * barrier_open the count is 0, and the hazards may be NULL.
  */
 static inline size_t barrier_help_write_job(const barrier_help_header *header,
                                             const barrier_hazard *hazards, size_t count,
@@ -1070,6 +1090,127 @@ static inline size_t barrier_help_metres_signed(int64_t mm, char *text, size_t r
     if (room > 0)
         text[0] = length == 0 ? '\0' : '-';
     return length == 0 ? 0 : length + 1;
+}
+
+/*
+ * A station as roads are signed, kilometres + metres, to millimetres:
+ * "1+250.000" and "1+250" are 1250000.  Digits, a plus, three digits and, if
+ * wanted, a point and three digits more; nothing else.  Results as for metres.
+ */
+static inline enum barrier_help_result barrier_help_mm_of_kilometres(const char *station,
+                                                                     size_t length, uint64_t *mm)
+{
+    uint64_t count = 0;
+    size_t plus = 0;
+    size_t i;
+    while (plus < length && station[plus] != '+')
+        plus++;
+    if (plus == 0 || (length != plus + 4 && length != plus + 8))
+        return BARRIER_HELP_NO_NUMBER;
+    for (i = 0; i < length; i++) {
+        const char c = station[i];
+        if (i == plus)
+            continue;
+        if (i == plus + 4 ? c != '.' : c < '0' || c > '9')
+            return BARRIER_HELP_NO_NUMBER;
+        /* Above the range it stays above, and does not grow past 64 bits. */
+        if (c != '.' && count <= BARRIER_STATION_MAX)
+            count = 10 * count + (uint64_t)(c - '0');
+    }
+    if (length == plus + 4 && count <= BARRIER_STATION_MAX)
+        count *= 1000;
+    return barrier_help_p_mm(count, 0, mm);
+}
+
+/* Millimetres as such a station, always three decimals: 1250000 is "1+250.000". */
+static inline size_t barrier_help_kilometres(uint64_t mm, char *text, size_t room)
+{
+    barrier_help_p_text into;
+    into.text = text;
+    into.room = room;
+    into.length = 0;
+    barrier_help_p_digits(&into, mm / 1000000, 1);
+    barrier_help_p_letter(&into, '+');
+    barrier_help_p_digits(&into, mm / 1000 % 1000, 3);
+    barrier_help_p_letter(&into, '.');
+    barrier_help_p_digits(&into, mm % 1000, 3);
+    return barrier_help_p_close(&into);
+}
+
+/* The same below 0 too: -4227 is "-0+004.227". */
+static inline size_t barrier_help_kilometres_signed(int64_t mm, char *text, size_t room)
+{
+    size_t length;
+    if (mm >= 0)
+        return barrier_help_kilometres((uint64_t)mm, text, room);
+    length = room == 0 ? 0 : barrier_help_kilometres(0 - (uint64_t)mm, text + 1, room - 1);
+    if (room > 0)
+        text[0] = length == 0 ? '\0' : '-';
+    return length == 0 ? 0 : length + 1;
+}
+
+/* ---- Roads that are not driven as the engine has it --------------------- */
+
+/*
+ * The other side, for a road whose traffic drives on the left: of a hazard
+ * before it is handed over, of the side that is asked for, and of what is said
+ * of the answer.  What is no side stays as it is.
+ */
+static inline uint64_t barrier_help_swap_side(uint64_t side)
+{
+    return side <= BARRIER_LEFT ? BARRIER_LEFT - side : side;
+}
+
+/*
+ * Turning, for a one-way carriageway [begin, end) whose traffic travels towards
+ * falling stations: barrier.h, "Sides and traffic".  Hand over each hazard
+ * turned, ask for the other side at the turned station, and turn back what is
+ * replied: each of these undoes itself.  On a two-way road turn nothing.
+ *
+ * What lies on the road stays on it, and what lies outside stays outside, where
+ * the engine refuses it: no number is tested here.
+ */
+static inline barrier_hazard barrier_help_turn_hazard(uint64_t begin, uint64_t end,
+                                                      barrier_hazard hazard)
+{
+    const uint64_t start = hazard.start;
+    hazard.side = barrier_help_swap_side(hazard.side);
+    hazard.start = begin + end - hazard.end;
+    hazard.end = begin + end - start;
+    return hazard;
+}
+
+/* A run; the runs of a schedule then fall, so take them from the last on. */
+static inline barrier_help_run barrier_help_turn_run(uint64_t begin, uint64_t end,
+                                                     barrier_help_run run)
+{
+    const uint64_t start = run.start;
+    run.start = begin + end - run.end;
+    run.end = begin + end - start;
+    return run;
+}
+
+/* A station that is asked for, the millimetre from it to the next. */
+static inline uint64_t barrier_help_turn_station(uint64_t begin, uint64_t end, uint64_t station)
+{
+    return begin + end - 1 - station;
+}
+
+/* A corner, counted from the sheet corner (0, 0): a point, not a millimetre. */
+static inline barrier_corner barrier_help_turn_corner(uint64_t begin, uint64_t end,
+                                                      barrier_corner corner)
+{
+    corner.station = (double)(begin + end) - corner.station;
+    return corner;
+}
+
+/* The overhangs of a plan: before and after change places. */
+static inline barrier_plan_reply barrier_help_turn_overhangs(barrier_plan_reply reply)
+{
+    const uint64_t before = reply.before;
+    reply.before = reply.after;
+    reply.after = before;
+    return reply;
 }
 
 /* ---- The version -------------------------------------------------------- */

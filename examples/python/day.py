@@ -26,8 +26,9 @@ HEADER = Header(
 # The contract's lots end where these stations are.
 LOT_STATIONS = (0, 180000, 400000, 700000, 1000000)
 
-# The panel lengths that the yard stocks.
-YARD = (4000, 2500)
+# The panel lengths that the yard stocks.  The shortest first: of layouts with the
+# same overrun the first that is tried wins, and has fewer of the short ones.
+YARD = (2500, 4000)
 
 # The numbers under which hazards stand are those of their drawings.
 HEADWALL, CULVERT, PIER, TREE = 7, 1020, 1021, 1044
@@ -53,10 +54,10 @@ def show_schedule(job: OpenJob) -> None:
 
 def show_overhang(side: Side, schedule: Schedule) -> None:
     """What stands in the neighbouring contract is in no run: it is said apart."""
-    for length, where in ((schedule.before, "before"), (schedule.after, "behind")):
+    for length, end in ((schedule.before, "beginning"), (schedule.after, "end")):
         if length > 0:
-            print(f"    {side.name.lower():5} {engine.metres(length)} m {where} the road, "
-                  "in the neighbouring contract")
+            print(f"    {side.name.lower():5} extends {engine.metres(length)} m past the {end} of "
+                  "the road (neighbouring contract)")
 
 
 def add(job: OpenJob, name: int, what: str, hazard: Hazard) -> None:

@@ -72,10 +72,10 @@ refused keep open_job '  keep 0: refused 13 with 0'
 refused return_to open_job '  return 0: refused 13 with 0'
 grep -qx '    overhang: 4 mm before the road, 5 mm behind it' "$tmp/keep/c" || fail "the overhangs of an open job"
 refused nothing open_job '  add 7: done'
-refused layout layout '  run 54227, at most 94 tries: refused 17 with 0'
+refused layout layout '  run 54227, at most 14 tries: refused 17 with 0'
 refused nothing layout '  no length: done, but it should be refused'
-grep -qx '  run 54227, at most 94 tries: none covers it; 7 tries, floor 8' "$tmp/nothing/c" || fail "no layout"
-grep -qx '  run 54227, at most 95 tries: (3, 4), overrun 2; 7 tries, floor 8' "$tmp/nothing/c" || fail "the layout"
+grep -qx '  run 54227, at most 14 tries: none covers it; 7 tries, floor 8' "$tmp/nothing/c" || fail "no layout"
+grep -qx '  run 54227, at most 15 tries: (3, 4), overrun 2; 7 tries, floor 8' "$tmp/nothing/c" || fail "the layout"
 echo "examples: C and Rust end with 1 at the first call refused, and at one that is not and should be"
 
 # In C alone: the words have the call in them.

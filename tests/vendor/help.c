@@ -196,6 +196,20 @@ static void test_jobs(void)
     header.kind = 2;
     memset(many, 0xFF, sizeof many);
     test_job(&header, many, 3);
+    /* A kind that is left 0 goes by the panel length; one that is given stays. */
+    for (i = 0; i < 6; i++) {
+        static const uint64_t kinds[6][3] = {{0, 0, 1},    {0, 4000, 2}, {1, 4000, 1},
+                                             {2, 4000, 2}, {2, 0, 2},    {1, 0, 1}};
+        barrier_help_header back;
+        header = printed;
+        header.kind = kinds[i][0];
+        header.panel = kinds[i][1];
+        length = barrier_help_write_job(&header, &headwall, 1, job, sizeof job);
+        expect("a job whose kind goes by its panel length",
+               barrier_help_read_job(job, length, &back, &one, 1, &got) == BARRIER_HELP_OK &&
+                   back.kind == kinds[i][2] && back.panel == (back.kind == 2 ? kinds[i][1] : 0) &&
+                   back.end == printed.end && one.level == headwall.level);
+    }
     /* Of another kind the form is not known. */
     header = printed;
     header.kind = 3;
@@ -811,6 +825,72 @@ static void test_metres(void)
     }
 }
 
+/* ---- Kilometres ---- */
+
+static void station_is(const char *station, enum barrier_help_result wanted, uint64_t mm)
+{
+    uint64_t got = 7;
+    uint8_t *text = exact((const uint8_t *)station, strlen(station));
+    const enum barrier_help_result result =
+        barrier_help_mm_of_kilometres((const char *)text, strlen(station), &got);
+    if (result != wanted || got != (wanted == BARRIER_HELP_OK ? mm : 7)) {
+        printf("help: the station '%s'\n", station);
+        wrong = 1;
+    }
+    free(text);
+}
+
+static void kilometres_are(int64_t mm, const char *wanted)
+{
+    const size_t length = strlen(wanted);
+    size_t room;
+    for (room = 0; room <= length + 1; room++) {
+        uint8_t *text = exact((const uint8_t *)"xxxxxxxxxxxxxxxxxxxxxxxxxxxxxx", room);
+        const size_t got = barrier_help_kilometres_signed(mm, (char *)text, room);
+        if (room <= length)
+            expect("kilometres without room", got == 0 && (room == 0 || text[0] == 0));
+        else
+            expect(wanted, got == length && strcmp((char *)text, wanted) == 0);
+        free(text);
+    }
+}
+
+static void test_kilometres(void)
+{
+    static const char *const none[] = {
+        "",          "+",         "1+",       "+250",       "1250",      "1+25",
+        "1+2500",    "1+250.",    "1+250.0",  "1+250.00",   "1+250.0000", "1+250,000",
+        "-1+250",    "1+-50",     "1+2 0",    "1 +250",     "1+250 ",    "1++250",
+        "1+250+000", "1.5+250",   "1+25.000", "1+250.00x",  "a+250",     "1+250.+00"};
+    size_t i;
+    int turn;
+    station_is("1+250.000", BARRIER_HELP_OK, 1250000);
+    station_is("1+250", BARRIER_HELP_OK, 1250000);
+    station_is("0+000.001", BARRIER_HELP_OK, 1);
+    station_is("00001+250.007", BARRIER_HELP_OK, 1250007);
+    station_is("999000+155.773", BARRIER_HELP_OK, UINT64_C(999000155773));
+    station_is("1000000+000.000", BARRIER_HELP_OK, BARRIER_STATION_MAX);
+    station_is("1000000+000", BARRIER_HELP_OK, BARRIER_STATION_MAX);
+    station_is("1000000+000.001", BARRIER_HELP_OUT_OF_RANGE, 0);
+    station_is("1000001+000", BARRIER_HELP_OUT_OF_RANGE, 0);
+    station_is("99999999999999999999999999999+000", BARRIER_HELP_OUT_OF_RANGE, 0);
+    for (i = 0; i < sizeof none / sizeof none[0]; i++)
+        station_is(none[i], BARRIER_HELP_NO_NUMBER, 0);
+    kilometres_are(0, "0+000.000");
+    kilometres_are(7, "0+000.007");
+    kilometres_are(1250000, "1+250.000");
+    kilometres_are(INT64_C(1000000000000), "1000000+000.000");
+    kilometres_are(-4227, "-0+004.227");
+    kilometres_are(INT64_MIN, "-9223372036854+775.808");
+    /* There and back: every millimetre is what it was. */
+    for (turn = 0; turn < 20000; turn++) {
+        const uint64_t mm = random_below(1000000) * random_below(1000001);
+        char text[BARRIER_HELP_TEXT_MAX];
+        barrier_help_kilometres(mm, text, sizeof text);
+        station_is(text, BARRIER_HELP_OK, mm);
+    }
+}
+
 /* ---- The version ---- */
 
 static void test_version(void)
@@ -846,6 +926,7 @@ int main(void)
     test_hazard_faults();
     test_hazard_names();
     test_metres();
+    test_kilometres();
     test_version();
     return wrong;
 }

@@ -38,6 +38,18 @@ if grep -rlIF "$tmp" "$tmp/stage"; then
 fi
 grep -qx 'prefix=/opt/barrier' "$tmp/stage/opt/barrier/lib/pkgconfig/barrier_engine.pc"
 
+# Without the archive: what is missing and what to name, and nothing is built.
+mkdir "$tmp/fresh"
+cp -r Makefile.vendor include cmake barrier_engine.pc.in "$tmp/fresh"
+for folder in target/staticlib "$tmp/none"; do
+    if (cd "$tmp/fresh" && MAKEFLAGS='' make -s -f Makefile.vendor install LIBDIR="$folder" CC="$CC" PREFIX="$tmp/nothing") >"$tmp/said" 2>&1; then
+        echo "install: it installs without an archive" >&2
+        exit 1
+    fi
+    grep -qx "there is no $folder/libbarrier_engine.a: name the folder that has the archive, LIBDIR=FOLDER" "$tmp/said"
+done
+[ ! -e "$tmp/nothing" ] && [ ! -e "$tmp/fresh/target" ]
+
 # A prefix that pkg-config's flags could not name.
 for prefix in relative "$tmp/a b" "$tmp/a&b"; do
     if install_to PREFIX="$prefix" 2>"$tmp/said"; then

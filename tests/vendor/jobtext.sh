@@ -36,11 +36,21 @@ for place in 3 14; do
 done
 
 # Wrong numbers are encoded; the engine judges. Arguments: a sed command for
-# the printed job, a line behind it, and what the engine says.
+# the printed job, a line behind it, and what the engine says: a refusal on
+# standard error alone, with 1, or a schedule.
 judged() {
     { sed "$1" "$printed" && echo "$2"; } | "$jobtext" >"$tmp/job" || fail "no bytes after $1 $2"
-    said=$("$BUILD/listing" -p <"$tmp/job")
-    [ "$said" = "$3" ] || fail "after $1 $2 the engine says $said"
+    status=0
+    "$BUILD/listing" -p <"$tmp/job" >"$tmp/listed" 2>"$tmp/said" || status=$?
+    case $3 in
+    refused*)
+        [ "$status" -eq 1 ] || fail "status $status after $1 $2"
+        [ ! -s "$tmp/listed" ] || fail "printed after $1 $2: $(cat "$tmp/listed")"
+        sed -n '1s/^listing: the job is \(refused [0-9]*\) with \([0-9]*\): .*/\1 \2/p' "$tmp/said" >"$tmp/listed"
+        ;;
+    *) [ "$status" -eq 0 ] || fail "status $status after $1 $2" ;;
+    esac
+    [ "$(cat "$tmp/listed")" = "$3" ] || fail "after $1 $2 the engine says $(cat "$tmp/listed" "$tmp/said")"
 }
 judged '' 'hazards 2' 'refused 1 34'
 # What six bytes hold is a number, and too great for its field; more is none.
@@ -48,8 +58,6 @@ judged '/^clear-zone/d' 'clear-zone 4294967296' 'refused 3 6'
 judged '/^clear-zone/d' 'clear-zone 4398046511103' 'refused 3 6'
 judged '/^clear-zone/d' 'clear-zone 4398046511104' 'refused 2 9'
 judged '/^clear-zone/d' 'clear-zone 18446744073709551615' 'refused 2 9'
-judged '' 'kind 0' 'refused 3 1'
-judged '' 'kind 3' 'refused 3 1'
 judged '' 'panel 0' 'refused 3 14'
 judged '' 'panel 10001' 'refused 3 14'
 judged '3s/.*/hazards 257/' 'panel 10000' 'refused 3 15'
@@ -72,14 +80,24 @@ overhang R 1 0'
 judged 's/ 200000 / 44227 /' '' 'R 0 210000 3
 total 210000 0'
 
-# Text that cannot be read: the line is named, the status is 1, no byte comes
+# A kind that is neither 1 nor 2 is no job in bytes for the programs that take
+# text too.
+for kind in 0 3; do
+    { cat "$printed" && echo "kind $kind"; } | "$jobtext" >"$tmp/job" || fail "no bytes of kind $kind"
+    status=0
+    "$BUILD/listing" -p <"$tmp/job" >"$tmp/listed" 2>"$tmp/said" || status=$?
+    [ "$status" -eq 2 ] && [ ! -s "$tmp/listed" ] || fail "status $status of kind $kind"
+done
+
+# Text that cannot be read: the line is named, the status is 2, no byte comes
 # out. Arguments: the line's number and a sed command for the printed job.
+# texts.txt has the messages, word for word.
 unread() {
     status=0
     sed "$2" "$printed" | "$jobtext" >"$tmp/job" 2>"$tmp/said" || status=$?
-    [ "$status" -eq 1 ] || fail "status $status after $2"
+    [ "$status" -eq 2 ] || fail "status $status after $2"
     [ ! -s "$tmp/job" ] || fail "bytes after $2"
-    grep -q "^jobtext: line $1: " "$tmp/said" || fail "after $2 it says $(cat "$tmp/said")"
+    grep -q "^jobtext: line $1, column [0-9]*: " "$tmp/said" || fail "after $2 it says $(cat "$tmp/said")"
 }
 last=$(($(wc -l <"$printed") + 1))
 unread 4 '4s/.*/roads 0 1000000/'
@@ -98,8 +116,6 @@ unread 15 '14s/.*/panel 4000/;14p'
 unread 14 '14s/.*/panel/'
 unread 14 '14s/.*/panel 4000 4000/'
 unread "$last" '/^flare/s/^/#/'
-printf 'road 0\000 1\n' | "$jobtext" >"$tmp/job" 2>"$tmp/said" && fail "a zero byte was read"
-grep -q '^jobtext: line 1: ' "$tmp/said" || fail "a zero byte: $(cat "$tmp/said")"
 
 # Bytes to text: numbers of 64 bits and sides that are none come back; bytes
 # that are no job are reported, and no text comes out. Arguments: what is said,
@@ -111,7 +127,7 @@ grep -qx 'hazard 5 200000 210000 5000 9000 3' "$tmp/text" || fail "the side 5 do
 unreadable() {
     status=0
     printf "$2" | "$jobtext" -r >"$tmp/text" 2>"$tmp/said" || status=$?
-    [ "$status" -eq 1 ] || fail "status $status for bytes $2"
+    [ "$status" -eq 2 ] || fail "status $status for bytes $2"
     [ ! -s "$tmp/text" ] || fail "text from bytes $2"
     [ "$(cat "$tmp/said")" = "jobtext: $1" ] || fail "for bytes $2 it says $(cat "$tmp/said")"
 }
@@ -123,5 +139,4 @@ unreadable 'bytes are left over behind the job' "$header\000\000"
 unreadable 'the job has more than 256 hazards' "$header\201\002"
 unreadable 'a number is not in its form' '\001\200\000'
 unreadable 'the job is neither of kind 1 nor of kind 2' '\003'
-if "$jobtext" -x <"$printed" >"$tmp/text" 2>"$tmp/said"; then fail "a flag that is none"; fi
 echo "jobtext: right bytes, wrong numbers passed on, unreadable text named by its line; bytes back to text, or reported"

@@ -46,7 +46,8 @@ begin=$((end - length))
 # One millimetre more, at either end.
 for road in "$((begin - 1)) $end" "$begin $((end + 1))"; do
     { echo "road $road" && header 1 0; } | "$BUILD/jobtext" >"$tmp/job"
-    [ "$("$BUILD/listing" -p <"$tmp/job")" = "refused 3 3" ] || fail "the road $road is not refused"
+    if "$BUILD/listing" -p <"$tmp/job" >"$tmp/printed" 2>"$tmp/said"; then fail "the road $road is accepted"; fi
+    grep -q '^listing: the job is refused 3 with 3: ' "$tmp/said" || fail "the road $road is not refused: $(cat "$tmp/said")"
 done
 
 # One long low run with 255 short high ones in it.

@@ -19,14 +19,18 @@ diff examples/listing.out "$tmp/printed" || fail "another table than examples/li
 
 # The job of examples/README.md prints what stands there, without lots and with
 # them; nothing is warned of.
-sed -n '/^    road /,/^    hazard /s/^    //p' examples/README.md | "$BUILD/jobtext" >"$tmp/job"
-"$BUILD/listing" <"$tmp/job" >"$tmp/printed" || fail "status $? for the job of examples/README.md"
+sed -n '/^    road /,/^    hazard /{s/^    //;p;}' examples/README.md >"$tmp/my.job"
+"$BUILD/listing" "$tmp/my.job" >"$tmp/printed" || fail "status $? for the job of examples/README.md"
 sed -n '/^    Right side, in metres$/,/^$/s/^    //p' examples/README.md | diff - "$tmp/printed" || fail "examples/README.md says something else"
-lots=$(sed -n 's|^    target/examples/listing \([0-9. ]*\) <my.bytes$|\1|p' examples/README.md)
+lots=$(sed -n 's|^    target/examples/listing my.job \([0-9. ]*\)$|\1|p' examples/README.md)
 [ -n "$lots" ] || fail "examples/README.md has no lots"
 # Stations are several words: they stand unquoted.
-"$BUILD/listing" $lots <"$tmp/job" >"$tmp/printed" 2>"$tmp/said" || fail "status $? for the lots of examples/README.md"
+"$BUILD/listing" "$tmp/my.job" $lots >"$tmp/printed" 2>"$tmp/said" || fail "status $? for the lots of examples/README.md"
 [ ! -s "$tmp/said" ] || fail "the lots of examples/README.md: $(cat "$tmp/said")"
+# Its message for a length with a point.
+sed 's/ 9000 3 / 9.000 3 /' "$tmp/my.job" >"$tmp/wrong.job"
+"$BUILD/listing" "$tmp/wrong.job" >"$tmp/printed" 2>"$tmp/said" && fail "9.000 is read"
+sed 's/^/    /' "$tmp/said" | grep -qxFf - examples/README.md || fail "examples/README.md has not: $(cat "$tmp/said")"
 
 # Reads a table, in millimetres again: runs as listing -p has them. A row of
 # totals or of a lot ends with the sum of its levels; lots and what lies outside
@@ -68,7 +72,12 @@ count=0
 for job in examples/jobs/*.job; do
     "$BUILD/jobtext" <"$job" >"$tmp/job"
     if grep -q '^refused' "${job%.job}.out"; then
-        "$BUILD/listing" <"$tmp/job" | grep -q '^refused 5 with 0: hazard 0 leaves the barrier no room to deflect$' || fail "$job: no words"
+        status=0
+        "$BUILD/listing" "$job" >"$tmp/printed" 2>"$tmp/said" || status=$?
+        [ "$status" -eq 1 ] && [ ! -s "$tmp/printed" ] || fail "$job: status $status, printed $(cat "$tmp/printed")"
+        grep -qx 'listing: the job is refused 5 with 0: hazard 0 leaves the barrier no room to deflect' "$tmp/said" || fail "$job: no words"
+        grep -q '^ its near offset n is below ' "$tmp/said" || fail "$job: no remedy"
+        grep -q "^ hazard 0 is .*line $(grep -n '^hazard' "$job" | sed -n '1s/:.*//p')\$" "$tmp/said" || fail "$job: not its line: $(cat "$tmp/said")"
         continue
     fi
     "$BUILD/listing" -p <"$tmp/job" | grep -v '^total' | LC_ALL=C sort >"$tmp/wanted" || true
@@ -83,14 +92,24 @@ for job in examples/jobs/*.job; do
     count=$((count + 1))
 done
 
-# A field out of its range is named.
-sed 's/ 9000 3$/ 4000 3/' examples/jobs/printed.job | "$BUILD/jobtext" >"$tmp/job"
-"$BUILD/listing" <"$tmp/job" | grep -qx ' far offset f of hazard 0 may be n to 60000' || fail "the field of refusal 4"
+# A field out of its range is named, of bytes and of text, where the hazard's name
+# and line are named too.
+sed 's/ 9000 3$/ 4000 3 "head # wall"/' examples/jobs/printed.job >"$tmp/text"
+"$BUILD/jobtext" <"$tmp/text" >"$tmp/job"
+for input in job text; do
+    status=0
+    "$BUILD/listing" <"$tmp/$input" >"$tmp/printed" 2>"$tmp/said" || status=$?
+    [ "$status" -eq 1 ] && [ ! -s "$tmp/printed" ] || fail "status $status for a field out of its range"
+    grep -qx ' far offset f of hazard 0 may be n to 60000' "$tmp/said" || fail "the field of refusal 4"
+done
+grep -qx ' hazard 0 is head # wall, line 16' "$tmp/said" || fail "the name of refusal 4: $(cat "$tmp/said")"
 
-# Lots that are none: status 1, something said, nothing printed.
+# Lots that are none: status 2, something said, nothing printed.
 "$BUILD/jobtext" <examples/jobs/printed.job >"$tmp/job"
-for lots in 5 '5 4' '1 x' '0 -1' '1,5 2' '0 1000000001' "$(seq -s ' ' 66)" '-p 5' '-q'; do
-    if "$BUILD/listing" $lots <"$tmp/job" >"$tmp/printed" 2>"$tmp/said"; then fail "it takes the lots $lots"; fi
+for lots in 5 '5 4' '1 x' '0 -1' '0 +5' '1,5 2' '0 1000000001' "$(seq -s ' ' 66)" '-p 5' '-q' '0 1+25' '0+500 0+499.999' '0 1000001+000' '--lots x' '--lots 5'; do
+    status=0
+    "$BUILD/listing" $lots <"$tmp/job" >"$tmp/printed" 2>"$tmp/said" || status=$?
+    [ "$status" -eq 2 ] || fail "it ends with $status for the lots $lots"
     grep -q '^listing: ' "$tmp/said" || fail "nothing said of the lots $lots"
     [ ! -s "$tmp/printed" ] || fail "printed with the lots $lots"
 done
@@ -111,7 +130,20 @@ warned '0 300 999.999' '0.000 to 999.999, do not cover'
 warned '0.001 1000' '0.001 to 1000.000, do not cover'
 warned '0 300000 1000000' '0.000 to 1000000.000, go past'
 warned '100 1001' '100.000 to 1001.000, do not cover' '100.000 to 1001.000, go past'
-"$BUILD/jobtext" <examples/jobs/refused.job >"$tmp/job"
-"$BUILD/listing" 0 5 <"$tmp/job" >"$tmp/printed" 2>"$tmp/said" || fail "status $? for a refused job"
-[ ! -s "$tmp/said" ] || fail "said of a refused job: $(cat "$tmp/said")"
+if "$BUILD/listing" examples/jobs/refused.job 0 5 >"$tmp/printed" 2>"$tmp/said"; then fail "status 0 for a refused job"; fi
+if grep 'warning' "$tmp/said"; then fail "warned of a refused job's lots"; fi
+
+# Kilometres: read as lots and in the text, printed where they are asked for, and
+# nothing else is altered.
+sed 's/^road 0 1000000$/road 0+000 1+000.000/; s/ 200000 210000 / 0+200 0+210.000 /' examples/jobs/printed.job >"$tmp/kilometres"
+cmp "$tmp/kilometres" examples/jobs/printed.job >"$tmp/differs" && fail "no kilometres in the text"
+"$BUILD/jobtext" "$tmp/kilometres" | cmp - "$tmp/job" || fail "kilometres are other stations"
+"$BUILD/listing" "$tmp/job" 0 500 1000 >"$tmp/metres" 2>"$tmp/said" || fail "lots in metres"
+"$BUILD/listing" "$tmp/job" --lots 0+000 0+500.000 1+000 >"$tmp/printed" 2>"$tmp/said" || fail "lots in kilometres"
+diff "$tmp/metres" "$tmp/printed" || fail "lots in kilometres are others"
+"$BUILD/listing" --stations km "$tmp/job" 0 500 1000 >"$tmp/printed" 2>"$tmp/said" || fail "--stations km"
+grep -q '^ *0+155\.773 *0+210\.000 *54\.227  NC-3$' "$tmp/printed" || fail "--stations km: $(cat "$tmp/printed")"
+grep -q '^ *0+500\.000 *1+000\.000 *0\.000 *0\.000$' "$tmp/printed" || fail "lots with --stations km"
+sed 's/\([0-9]\)+\([0-9][0-9][0-9]\)\./\1\2./g; s/ 0*\([0-9][0-9]*\.\)/ \1/g; s/ 0*\([0-9]\)/ \1/g' "$tmp/printed" | tr -s ' ' >"$tmp/again"
+tr -s ' ' <"$tmp/metres" | diff - "$tmp/again" || fail "with --stations km other numbers"
 echo "listing: examples/listing.out; $count sample jobs in tables whose runs, totals and lots agree, refusals in words, wrong lots refused or warned of"

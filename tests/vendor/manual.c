@@ -11,7 +11,7 @@
 
 /* The sample job of the manual: one-way, with a flare. */
 static const barrier_help_header sample = {
-    .kind = 1, .end = 1000000, .runout_forward = 101000, .clear_zone = 9000, .straight = 13340,
+    .end = 1000000, .runout_forward = 101000, .clear_zone = 9000, .straight = 13340,
     .barrier_offset = 3000, .deflection = 1000, .flare_along = 15, .flare_across = 1};
 /* The two-way road of docs/figures/envelope.svg, without a flare. */
 static const barrier_help_header two_way = {
@@ -178,6 +178,153 @@ static void first_fault(void)
             stop("an add does not answer for its hazard");
 }
 
+/* A layout of a run, as the manual writes it; how many panels it has. */
+static uint64_t print_counts(const barrier_layout_reply *reply, size_t lengths)
+{
+    uint64_t panels = 0;
+    size_t i;
+    for (i = 0; i < lengths; i++) {
+        printf("%s%" PRIu64, i == 0 ? "(" : ", ", reply->counts[i]);
+        panels += reply->counts[i];
+    }
+    printf(")");
+    return panels;
+}
+
+/* The order of the lengths: the same overrun, and not as many panels. */
+static void ordered(uint64_t run, const uint64_t *lengths, size_t count)
+{
+    const barrier_layout_reply reply = barrier_layout(lengths, count, run, BARRIER_TRIES_MAX);
+    uint64_t panels;
+    size_t i;
+    if (reply.number != BARRIER_DONE || !reply.found || reply.overrun != reply.floor)
+        stop("a run is not laid with the floor's overrun");
+    printf("header %" PRIu64, run);
+    for (i = 0; i < count; i++)
+        printf("%s %" PRIu64, i == 0 ? "" : ",", lengths[i]);
+    printf(" ");
+    panels = print_counts(&reply, count);
+    printf(" %" PRIu64 " %" PRIu64 "\n", panels, reply.overrun);
+}
+
+/* The table of limits: the layout alters where it says so, and nowhere else. */
+static void limits(const uint64_t *lengths, uint64_t run)
+{
+    barrier_layout_reply before = barrier_layout(lengths, 2, run, 1);
+    uint64_t first = 1, limit;
+    for (limit = 2; limit <= 257; limit++) {
+        const barrier_layout_reply reply = barrier_layout(lengths, 2, run, limit);
+        const int same = reply.found == before.found && reply.overrun == before.overrun &&
+                         reply.counts[0] == before.counts[0] && reply.counts[1] == before.counts[1];
+        if (reply.tries != (limit < 257 ? limit : 256))
+            stop("the tries made are not the limit, or all");
+        if (same && limit < 257)
+            continue;
+        printf("header %" PRIu64 " to %" PRIu64 " ", first, limit - 1);
+        if (before.found) {
+            print_counts(&before, 2);
+            printf(" %" PRIu64 " the limit\n", before.overrun);
+        } else {
+            printf("none the limit\n");
+        }
+        first = limit;
+        before = reply;
+    }
+    printf("header 257 to 65536 ");
+    print_counts(&before, 2);
+    printf(" %" PRIu64 " 256\n", before.overrun);
+}
+
+/* A run that fifteen of each do not cover: long panels first, then the rest. */
+static void long_run(const uint64_t *lengths, uint64_t run, uint64_t first)
+{
+    const uint64_t rest = run - first * lengths[1];
+    const barrier_layout_reply whole = barrier_layout(lengths, 2, run, BARRIER_TRIES_MAX);
+    const barrier_layout_reply reply = barrier_layout(lengths, 2, rest, BARRIER_TRIES_MAX);
+    if (whole.found || !reply.found || whole.floor != reply.floor)
+        stop("a long run is covered, or its rest is not");
+    printf("header of the run %" PRIu64 " lay %" PRIu64 " panels of %" PRIu64 ", and the rest, %" PRIu64
+           ", is ",
+           run, first, lengths[1], rest);
+    print_counts(&reply, 2);
+    printf(", overrun %" PRIu64 "\n", reply.overrun);
+}
+
+static void layouts(void)
+{
+    static const uint64_t two[2] = {2500, 4000}, two_longest[2] = {4000, 2500};
+    static const uint64_t four[4] = {1500, 2000, 3000, 4000}, four_longest[4] = {4000, 3000, 2000, 1500};
+    limits(two, 54227);
+    ordered(54227, two, 2);
+    ordered(54227, two_longest, 2);
+    ordered(68500, four, 4);
+    ordered(68500, four_longest, 4);
+    long_run(two, 212000, 41);
+}
+
+/* A run of two hazards begins where its upstream hazard's approach does, and the
+   other one's approach begins inside it. */
+static void two_hazards(void)
+{
+    const barrier_hazard both[2] = {with_stations(230000, 240000), headwall};
+    barrier_help_header header = sample;
+    barrier_corners_reply upstream, inside;
+    barrier_help_walk walk;
+    barrier_help_run run;
+    header.continuity = 50000;
+    job_len = barrier_help_write_job(&header, both, 2, job, sizeof job);
+    out_len = (size_t)barrier_plan(job, job_len, BARRIER_RIGHT, out, sizeof out).value;
+    walk = barrier_help_walk_of(out, out_len);
+    upstream = barrier_corners(job, job_len, 1, 0, 0);
+    inside = barrier_corners(job, job_len, 0, 0, 0);
+    if (!barrier_help_next_run(&walk, &run) || run.end != 240000 ||
+        (double)run.start != upstream.upstream.station ||
+        (double)run.start >= inside.upstream.station)
+        stop("a run of two hazards does not begin with its upstream hazard's approach");
+}
+
+/* The offset, in millimetres and a little less, of a vehicle at a station on the
+   line along which it would reach a hazard's far edge. */
+static uint64_t on_its_way(const barrier_help_header *header, const barrier_hazard *hazard,
+                           uint64_t station)
+{
+    const uint64_t left_road = hazard->start - header->runout_forward;
+    return station < left_road
+               ? 0
+               : hazard->far_offset * (station - left_road) / header->runout_forward;
+}
+
+/* The run of a shallow hazard and a deep one farther on: with the flare of the
+   first alone a vehicle passes behind the run's end on its way to the second;
+   without flares no vehicle passes behind its barrier, which stands along M. */
+static void flare_of_two(void)
+{
+    barrier_hazard both[2] = {headwall, with_stations(227000, 237000)};
+    barrier_help_header header = sample;
+    barrier_corners_reply corners;
+    barrier_help_walk walk;
+    barrier_help_run run;
+    uint64_t flare;
+    both[0].near_offset = both[0].far_offset = 4000;
+    for (flare = 0; flare <= 1; flare++) {
+        header.flare_across = flare;
+        header.continuity = 50000;
+        job_len = barrier_help_write_job(&header, both, 2, job, sizeof job);
+        out_len = (size_t)barrier_plan(job, job_len, BARRIER_RIGHT, out, sizeof out).value;
+        walk = barrier_help_walk_of(out, out_len);
+        corners = barrier_corners(job, job_len, 0, 0, 0);
+        if (!barrier_help_next_run(&walk, &run) || run.end != both[1].end)
+            stop("two hazards are not one run");
+        if (flare == 0 && (on_its_way(&header, &both[0], run.start) > header.barrier_offset ||
+                           on_its_way(&header, &both[1], run.start) > header.barrier_offset))
+            stop("without a flare a vehicle passes behind the run's end");
+        if (flare == 1 && ((double)run.start != corners.upstream.station ||
+                           (double)on_its_way(&header, &both[1], run.start) <=
+                               corners.upstream.offset))
+            stop("with a flare no vehicle passes behind the run's end");
+    }
+}
+
 int main(void)
 {
     run_of(&sample, headwall);
@@ -188,5 +335,8 @@ int main(void)
     below_zero();
     point();
     first_fault();
+    layouts();
+    two_hazards();
+    flare_of_two();
     return 0;
 }

@@ -133,7 +133,7 @@ barrier_layout_reply barrier_layout(const uint64_t *lengths, size_t lengths_len,
     (void)run;
     if (REFUSED == layout)
         return refused;
-    return limit == 94 ? none : done;
+    return limit == 14 ? none : done;
 }
 
 barrier_reply barrier_open(barrier_open_job *job, const uint8_t *bytes, size_t bytes_len)

@@ -11,18 +11,28 @@ from .calls import (
     corners, layout, level, lookup, offset, plan, plan_into, quantities, quantity, version,
 )
 from .job import Hazard, Header, Job, Side
-from .job_text import bytes_of_text, text_of_job
-from .metres import Rounding, metres, millimetres
+from .job_text import TextJob, bytes_of_text, read_job, read_text, text_of_job
+from .metres import Rounding, kilometres, metres, millimetres, station_of_kilometres
 from .number_form import Malformed, get_number, put_number
 from .open_job import OpenJob
-from .refused import Number, Refused
+from .planned import PlannedHazard, PlannedRoad, PlannedSide, plan_road
+from .refused import HAZARD_NUMBERS, Number, Refused, hazard_fault, refusal, remedy
 from .schedule import SCHEDULE_MAX, Run, Schedule, bytes_of_runs, runs_of_bytes
+from .spreadsheet import csv_tables, hazards_csv, overhangs_csv, quantities_csv, runs_csv
+from .turning import (
+    Orientation, swap_side, turn_corner, turn_hazard, turn_overhangs, turn_range, turn_run,
+    turn_station,
+)
 
 __all__ = [
-    "SCHEDULE_MAX", "TRIES_MAX", "Corner", "Corners", "Hazard", "Header", "Job", "Laid",
-    "Layout", "LibraryError", "Malformed", "Number", "OpenJob", "Quantities", "Record",
-    "Refused", "Rounding", "Run", "Schedule", "Side", "Version", "Written",
-    "bytes_of_runs", "bytes_of_text", "corners", "get_number", "layout", "level", "lookup",
-    "metres", "millimetres", "offset", "plan", "plan_into", "put_number", "quantities",
-    "quantity", "runs_of_bytes", "text_of_job", "version",
+    "HAZARD_NUMBERS", "SCHEDULE_MAX", "TRIES_MAX", "Corner", "Corners", "Hazard", "Header", "Job",
+    "Laid", "Layout", "LibraryError", "Malformed", "Number", "OpenJob", "Orientation",
+    "PlannedHazard", "PlannedRoad", "PlannedSide", "Quantities", "Record", "Refused", "Rounding",
+    "Run", "Schedule", "Side", "TextJob", "Version", "Written", "bytes_of_runs", "bytes_of_text",
+    "corners", "csv_tables", "get_number", "hazard_fault", "hazards_csv", "kilometres", "layout",
+    "level", "lookup", "metres", "millimetres", "offset", "overhangs_csv", "plan", "plan_into",
+    "plan_road", "put_number", "quantities", "quantities_csv", "quantity", "read_job",
+    "read_text", "refusal", "remedy", "runs_csv", "runs_of_bytes", "station_of_kilometres",
+    "swap_side", "text_of_job", "turn_corner", "turn_hazard", "turn_overhangs", "turn_range",
+    "turn_run", "turn_station", "version",
 ]

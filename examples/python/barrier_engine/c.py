@@ -6,11 +6,12 @@ from __future__ import annotations
 
 import ctypes
 import ctypes.util
-import operator
 import os
 import threading
 from ctypes import POINTER, Structure, c_double, c_size_t, c_uint8, c_uint16, c_uint32, c_uint64
 from typing import Any, Dict, List, Optional, Tuple
+
+from .whole import shown, whole
 
 HAZARDS_MAX = 256
 NAME_MAX = 65535
@@ -152,17 +153,17 @@ class LibraryError(Exception):
 
 def u64(value: int, what: str) -> int:
     """A number as the call takes it: ctypes would cut one that does not fit."""
-    number = operator.index(value)
+    number = whole(value, what)
     if not 0 <= number < 1 << 64:
-        raise ValueError(f"{what} has to be a number from 0 that 64 bits hold, not {number}")
+        raise ValueError(f"{what} has to be a number from 0 that 64 bits hold, not {shown(number)}")
     return number
 
 
 def u16_name(value: int) -> int:
     """A name as the call takes it: C would cut a greater one to another name."""
-    number = operator.index(value)
+    number = whole(value, "a name")
     if not 0 <= number <= NAME_MAX:
-        raise ValueError(f"a name has to be 0 to {NAME_MAX}, not {number}")
+        raise ValueError(f"a name has to be 0 to {NAME_MAX}, not {shown(number)}")
     return number
 
 

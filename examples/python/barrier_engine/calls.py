@@ -92,10 +92,6 @@ def version() -> Optional[Version]:
     return Version(number // 1000000, number // 1000 % 1000, number % 1000)
 
 
-def _kind(data: bytes) -> Optional[int]:
-    return data[0] if data else None
-
-
 def lent(out: bytearray) -> Any:
     """A lent output as the call takes it.  None where there is no byte of it."""
     if len(out) == 0:
@@ -103,8 +99,8 @@ def lent(out: bytearray) -> Any:
     return (ctypes.c_uint8 * len(out)).from_buffer(out)
 
 
-def written(reply: Any, call: str, kind: Optional[int] = None) -> Written:
-    refuse_unless_done(reply.number, reply.value, call, kind)
+def written(reply: Any, call: str) -> Written:
+    refuse_unless_done(reply.number, reply.value, call)
     return Written(reply.value, reply.before, reply.after)
 
 
@@ -116,7 +112,7 @@ def plan_into(job: JobLike, side: int, out: bytearray) -> Written:
     data = job_bytes(job)
     reply = c.library().barrier_plan(
         data, len(data), c.u64(side, "a side"), lent(out), len(out))
-    return written(reply, "barrier_plan", _kind(data))
+    return written(reply, "barrier_plan")
 
 
 def plan(job: JobLike, side: int) -> Schedule:
@@ -134,7 +130,7 @@ def level(job: JobLike, side: int, station: int) -> int:
     data = job_bytes(job)
     reply = c.library().barrier_level(
         data, len(data), c.u64(side, "a side"), c.u64(station, "a station"))
-    refuse_unless_done(reply.number, reply.value, "barrier_level", _kind(data))
+    refuse_unless_done(reply.number, reply.value, "barrier_level")
     return int(reply.value)
 
 
@@ -153,7 +149,7 @@ def corners(
     reply = c.library().barrier_corners(
         data, len(data), c.u64(hazard, "a hazard's index"),
         c.u64(sheet_station, "a sheet corner"), c.u64(sheet_offset, "a sheet corner"))
-    refuse_unless_done(reply.number, reply.value, "barrier_corners", _kind(data))
+    refuse_unless_done(reply.number, reply.value, "barrier_corners")
     return Corners(_corner(reply.upstream), _corner(reply.flare), _corner(reply.hazard))
 
 
@@ -166,7 +162,7 @@ def offset(job: JobLike, hazard: int, longest: int) -> Optional[int]:
     data = job_bytes(job)
     reply = c.library().barrier_offset(
         data, len(data), c.u64(hazard, "a hazard's index"), c.u64(longest, "a longest approach"))
-    refuse_unless_done(reply.number, reply.value, "barrier_offset", _kind(data))
+    refuse_unless_done(reply.number, reply.value, "barrier_offset")
     return int(reply.value) if reply.found else None
 
 

@@ -5,11 +5,12 @@ whatever numbers it is given: whether they are right is for the engine to say.
 """
 from __future__ import annotations
 
-from dataclasses import dataclass, field, replace
+from dataclasses import dataclass, field, fields, replace
 from enum import IntEnum
-from typing import List, Optional, Sequence, Tuple, Union
+from typing import Any, List, Optional, Sequence, Tuple, Union
 
 from .number_form import Malformed, get_number, get_numbers, put_numbers
+from .whole import whole
 
 HAZARDS_MAX = 256
 HAZARD_NUMBERS = 6
@@ -20,6 +21,14 @@ class Side(IntEnum):
 
     RIGHT = 0
     LEFT = 1
+
+
+def _make_whole(thing: Any) -> None:
+    """Turns whole floats and numpy's integers into ints, and names what is neither."""
+    for number in fields(thing):
+        value = getattr(thing, number.name)
+        if value is not None and not isinstance(value, int):
+            object.__setattr__(thing, number.name, whole(value, number.name))
 
 
 @dataclass(frozen=True)
@@ -36,6 +45,9 @@ class Hazard:
     near_offset: int  # 0 to 60000
     far_offset: int  # near offset to 60000
     level: int  # containment level, 1 to 6 (NC-1 to NC-6)
+
+    def __post_init__(self) -> None:
+        _make_whole(self)
 
     def numbers(self) -> Tuple[int, ...]:
         return (self.side, self.start, self.end, self.near_offset, self.far_offset, self.level)
@@ -62,6 +74,9 @@ class Header:
     straight: int  # T, straight barrier before the flare, 0 to 100000
     continuity: int  # G, gaps shorter than this are closed, 0 to 200000
     panel: Optional[int] = None  # panel length, 1 to 10000, or none
+
+    def __post_init__(self) -> None:
+        _make_whole(self)
 
     @property
     def kind(self) -> int:

@@ -3,6 +3,8 @@ from __future__ import annotations
 
 from typing import Iterable, List, Tuple
 
+from .whole import shown, whole
+
 # The engine takes at most six bytes for a number ("The number form").
 NUMBER_BYTES_MAX = 6
 
@@ -17,8 +19,9 @@ def put_number(value: int) -> bytes:
     A number above 4398046511103 takes more than six bytes: it is written all
     the same, and the engine refuses it with 2.
     """
+    value = whole(value, "a number of a job")
     if value < 0:
-        raise ValueError(f"{value} is below 0: the number form has no sign")
+        raise ValueError(f"{shown(value)} is below 0: the number form has no sign")
     groups = []
     while value > 0x7F:
         groups.append(0x80 | value & 0x7F)

@@ -30,7 +30,7 @@ class OpenJob:
         self._standing: Dict[int, Hazard] = {}
         self._kept: Dict[int, Dict[int, Hazard]] = {}
         reply = c.library().barrier_open(ctypes.byref(self._memory), data, len(data))
-        refuse_unless_done(reply.number, reply.value, "barrier_open", data[0] if data else None)
+        refuse_unless_done(reply.number, reply.value, "barrier_open")
         self._header = Job.from_bytes(data).header
 
     def _call(self, call: str, *arguments: Any) -> None:
@@ -88,13 +88,29 @@ class OpenJob:
     def copy(self) -> OpenJob:
         """Another open job in which the same stands and the same is kept."""
         twin = OpenJob.__new__(OpenJob)
-        twin._lock = threading.Lock()
-        with self._lock:
-            twin._memory = c.OpenJob.from_buffer_copy(self._memory)
-            twin._header = self._header
-            twin._standing = dict(self._standing)
-            twin._kept = {state: dict(kept) for state, kept in self._kept.items()}
+        twin.__setstate__(self.__getstate__())
         return twin
+
+    def __copy__(self) -> OpenJob:
+        return self.copy()
+
+    def __deepcopy__(self, memo: Dict[int, Any]) -> OpenJob:
+        return self.copy()
+
+    def __getstate__(self) -> Dict[str, Any]:
+        """What is copied and stored: the engine's memory, and what was noted beside it."""
+        with self._lock:
+            return {
+                "memory": bytes(self._memory), "header": self._header,
+                "standing": dict(self._standing),
+                "kept": {state: dict(kept) for state, kept in self._kept.items()},
+            }
+
+    def __setstate__(self, state: Dict[str, Any]) -> None:
+        self._lock = threading.Lock()
+        self._memory = c.OpenJob.from_buffer_copy(state["memory"])
+        self._header, self._standing, self._kept = (
+            state["header"], state["standing"], state["kept"])
 
     def __bytes__(self) -> bytes:
         """The engine's memory.  Two open jobs are equal exactly if these are."""

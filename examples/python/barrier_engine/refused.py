@@ -1,8 +1,13 @@
-"""Refusals as exceptions, with words that say what can be done."""
+"""Refusals as exceptions, with words that say what can be done.
+
+The words are those of include/barrier_help.h: one text in C, Rust and Python.
+"""
 from __future__ import annotations
 
 from enum import IntEnum
-from typing import Dict, Optional, Tuple
+from typing import Callable, Dict, Optional, Tuple
+
+from .job import Hazard
 
 
 class Number(IntEnum):
@@ -31,126 +36,239 @@ class Refused(Exception):
     """A call that the engine refused.  Nothing that was lent has changed.
 
     number and value are those of the table in barrier.h, call is the name of
-    the engine's call, message says in words what is wrong and what can be done.
+    the engine's call; reason says in words what is wrong, remedy what can be
+    done about it.
     """
 
-    def __init__(self, number: int, value: int, call: str, message: str) -> None:
-        super().__init__(number, value, call, message)
+    def __init__(self, number: int, value: int, call: str) -> None:
+        super().__init__(number, value, call)
         self.number = number
         self.value = value
         self.call = call
-        self.message = message
+        self.reason = refusal(call, number, value)
+        self.remedy = remedy(call, number, value)
+
+    @property
+    def message(self) -> str:
+        return f"{self.reason}; {self.remedy}"
 
     def __str__(self) -> str:
         return f"{self.call} refused {self.number} with {self.value}: {self.message}"
 
 
-# What each header number is, and what it may be, in millimetres.
+_JOB = ("barrier_plan", "barrier_level", "barrier_corners", "barrier_offset")
+_BYTES = _JOB + ("barrier_open",)
+_SCHEDULE = ("barrier_quantity", "barrier_quantities", "barrier_lookup")
+_MEMORY = ("barrier_add", "barrier_withdraw", "barrier_open_schedule", "barrier_keep",
+           "barrier_return")
+
+# Which calls can be refused with a number.  3 is for memory with value 0.
+_GIVEN: Dict[int, Tuple[str, ...]] = {
+    Number.JOB_ENDED: _BYTES,
+    Number.NUMBER_MALFORMED: _BYTES,
+    Number.HEADER_RANGE: _BYTES,
+    Number.HAZARD_RANGE: _JOB + ("barrier_add",),
+    Number.HAZARD_NEAR: _JOB + ("barrier_add",),
+    Number.JOB_LEFT_OVER: _BYTES,
+    Number.ARGUMENT: ("barrier_plan", "barrier_level", "barrier_corners",
+                      "barrier_open_schedule") + _SCHEDULE,
+    Number.OUTPUT_SHORT: ("barrier_plan", "barrier_open_schedule"),
+    Number.NO_SCHEDULE: _SCHEDULE,
+    Number.TOO_MANY_RANGES: ("barrier_quantities",),
+    Number.NAME: ("barrier_add", "barrier_withdraw"),
+    Number.STATE: ("barrier_keep", "barrier_return"),
+    Number.NO_APPROACH: ("barrier_corners", "barrier_offset"),
+    Number.FULL: ("barrier_add",),
+    Number.LENGTHS: ("barrier_layout",),
+    Number.LIMIT: ("barrier_layout",),
+}
+
+# What each header number is called, and what it may be.  14 is the hazard count
+# of kind 1 and the panel length of kind 2.
 _HEADER: Dict[int, Tuple[str, str]] = {
-    1: ("the kind", "1, or 2 with a panel length"),
-    2: ("the road begin A", "0 to 999999999999"),
-    3: ("the road end B", "A + 1 to 1000000000000, and at most A + 2000000000"),
-    4: ("the runout length of forward traffic", "1 to 200000"),
-    5: ("the runout length of opposite traffic", "0 to 200000, 0 for none"),
-    6: ("the clear-zone width C", "1 to 30000"),
-    7: ("the distance W from edge to centreline", "0 to 20000"),
-    8: ("the barrier offset M", "0 to 20000"),
-    9: ("the deflection allowance D", "1 to 5000"),
-    10: ("the flare's length along", "1 to 100"),
-    11: ("the flare's width across", "0 to 10, 0 for no flare"),
-    12: ("the straight barrier T", "0 to 100000"),
-    13: ("the continuity limit G", "0 to 200000"),
+    1: ("kind", "1 to 2"),
+    2: ("road begin A", "0 to 999999999999"),
+    3: ("road end B", "A + 1 to 1000000000000, and at most A + 2000000000"),
+    4: ("runout length LF of forward traffic", "1 to 200000"),
+    5: ("runout length LO of opposite traffic", "0 to 200000"),
+    6: ("clear-zone width C", "1 to 30000"),
+    7: ("travelled-way edge to centreline W", "0 to 20000"),
+    8: ("barrier offset M", "0 to 20000"),
+    9: ("deflection allowance D", "1 to 5000"),
+    10: ("flare a along", "1 to 100"),
+    11: ("flare b across", "0 to 10"),
+    12: ("straight barrier T before the flare", "0 to 100000"),
+    13: ("continuity limit G", "0 to 200000"),
+    14: ("hazard count h (kind 1) or panel length (kind 2)",
+         "0 to 256 (kind 1) or 1 to 10000 (kind 2)"),
+    15: ("hazard count h", "0 to 256"),
 }
-_PANEL = ("the panel length", "1 to 10000")
-_COUNT = ("the hazard count", "0 to 256")
-_NO_HAZARD_YET = ("the hazard count", "0 when a job is opened: add the hazards afterwards")
 
-_SHORT_WORDS: Dict[int, str] = {
-    1: "the job's bytes end before or inside the number that begins at byte {0}: "
-       "hand over the whole job",
-    2: "the number that begins at byte {0} is not in shortest form or longer than six "
-       "bytes: write the job's bytes anew",
-    7: "bytes are left over from byte {0} on: the hazard count has to be that of the "
-       "hazards, and nothing may follow them",
-    9: "the schedule takes {0} bytes: lend an output of that size, or of SCHEDULE_MAX, "
-       "which is always enough",
-    10: "the bytes are not a schedule: hand over all bytes that were written for this "
-        "side, and no more",
-    11: "more than 64 ranges: ask for them in groups of 64",
-    14: "the job has no hazard with this index, or adjacent traffic does not reach it, "
-        "as its near offset is not below the clear zone: there is no approach",
-    15: "256 hazards stand already: withdraw one first",
-    16: "hand over one to four panel lengths, each 1 to 20000 mm",
-    17: "the limit has to be 1 to 65536 tries",
+# What a hazard's six numbers are called, and what they may be.
+HAZARD_NUMBERS: Tuple[Tuple[str, str], ...] = (
+    ("side", "0 (right) or 1 (left)"),
+    ("first station s", "A to B - 1"),
+    ("end station e", "s + 1 to B"),
+    ("near offset n", "0 to 60000"),
+    ("far offset f", "n to 60000"),
+    ("containment level", "1 to 6"),
+)
+
+Pair = Tuple[str, str]  # what is wrong, and what can be done
+
+_SAID: Dict[int, Pair] = {
+    Number.DONE: ("done", "nothing has to be done"),
+    Number.JOB_ENDED: (
+        "the job ends before or inside the number at byte {0}",
+        "hand over all of the job's bytes, with as many hazards as its hazard count says"),
+    Number.NUMBER_MALFORMED: (
+        "no number in the right form begins at byte {0}",
+        "write each number in its shortest form; none that a job may have is above "
+        "1000000000000"),
+    Number.JOB_LEFT_OVER: (
+        "bytes are left over from byte {0} on",
+        "the hazard count is below the hazards that follow, or the length given is not the "
+        "job's"),
+    Number.OUTPUT_SHORT: (
+        "the schedule takes {0} bytes",
+        "lend as many bytes; BARRIER_SCHEDULE_MAX, 5624, always suffice"),
+    Number.NO_SCHEDULE: (
+        "these bytes are not a schedule",
+        "hand over a schedule as it was written, with the length that was replied; this is "
+        "not a side without barriers"),
+    Number.TOO_MANY_RANGES: (
+        "more than 64 ranges", "ask in several calls, of at most 64 ranges each"),
+    Number.NO_APPROACH: (
+        "no such hazard, or adjacent traffic does not reach it",
+        "hazards count from 0 in the job's order; one whose near offset n is not below the "
+        "clear-zone width C has no such approach"),
+    Number.FULL: ("256 hazards stand already", "withdraw a hazard first"),
+    Number.LENGTHS: (
+        "no panel length, too many, or one outside its range",
+        "give one to four panel lengths, each 1 to 20000 millimetres"),
+    Number.LIMIT: (
+        "a limit of no tries, or of more than 65536",
+        "give a limit from 1 to 65536; 65536 tries every layout"),
 }
-_ARGUMENT_WORDS: Dict[str, str] = {
-    "barrier_corners": "a sheet corner's number is above 1000000000000",
-    "barrier_quantity": "the level has to be 1 to 6, and the range p, q with p not above q",
-    "barrier_quantities": "the level has to be 1 to 6, and each range p, q with p not above q",
-}
-_SIDE_WORDS = "the side has to be 0 (right) or 1 (left)"
+_UNKNOWN: Pair = (
+    "a number that barrier.h does not have for this call",
+    "look whether call and reply belong together, and program and archive are of one version")
 
 
-def _header_words(value: int, call: str, kind: Optional[int]) -> str:
+def _header(call: str, value: int) -> Pair:
     if value == 0:
-        return ("the memory is not an open job, or was written over: "
-                "open it anew, or take an earlier copy")
-    name, may_be = _HEADER.get(value, _COUNT)
-    if value == 14 and kind == 2:
-        name, may_be = _PANEL
-    elif value >= 14 and call == "barrier_open":
-        name, may_be = _NO_HAZARD_YET
-    return f"header number {value}, {name}, has to be {may_be}"
+        return ("the memory is not an open job",
+                "open the job with barrier_open first, and let nothing else write to its memory")
+    name, may_be = _HEADER[value]
+    mend = f"it has to be {may_be}"
+    if call == "barrier_open" and value == 14:
+        mend = ("to open a job its hazard count (kind 1) has to be 0, hazards are added "
+                "afterwards; a panel length (kind 2) has to be 1 to 10000")
+    elif call == "barrier_open" and value == 15:
+        mend = "to open a job its hazard count has to be 0: hazards are added afterwards"
+    return f"header number {value}, {name}, is outside its range", mend
 
 
-def _which_hazard(value: int, call: str) -> str:
-    return f"the hazard to be added as {value}" if call == "barrier_add" else f"hazard {value}"
+def _hazard_range(call: str, value: int) -> Pair:
+    which = "the hazard to be named" if call == "barrier_add" else "hazard"
+    return (f"a field of {which} {value} is outside its range",
+            "side 0 or 1; stations that rise and lie on the road; offsets, near then far, that "
+            "do not fall and are at most 60000 millimetres; level 1 to 6")
 
 
-def _hazard_range_words(value: int, call: str) -> str:
-    return (f"{_which_hazard(value, call)} has a number outside its range: side 0 or 1, start A "
-            "to B - 1, end start + 1 to B, near offset 0 to 60000, far offset near to 60000, "
-            "level 1 to 6")
+def _hazard_near(call: str, value: int) -> Pair:
+    which = "the hazard to be named" if call == "barrier_add" else "hazard"
+    return (f"{which} {value} leaves the barrier no room to deflect",
+            "its near offset n is below barrier offset M and deflection allowance D together: "
+            "measure n again, or plan with a smaller M or a barrier that deflects less")
 
 
-def _near_words(value: int, call: str) -> str:
-    return (f"{_which_hazard(value, call)} leaves the barrier no room to deflect: its near "
-            "offset is below barrier offset + deflection (M + D); measure it again, or plan "
-            "with a smaller barrier offset or a barrier that deflects less")
+def _argument(call: str, _value: int) -> Pair:
+    mend = "ask for a level from 1 to 6, over ranges [p, q) with p not above q"
+    if call == "barrier_quantity":
+        return "the level is not 1 to 6, or p is above q", mend
+    if call == "barrier_quantities":
+        return "the level is not 1 to 6, p is above q in a range, or the last p has no q", mend
+    if call == "barrier_corners":
+        return ("a number of the sheet corner is above 1000000000000",
+                "give a sheet corner whose station and offset are 0 to 1000000000000 "
+                "millimetres")
+    return "the side is neither 0 (right) nor 1 (left)", "ask for BARRIER_RIGHT or BARRIER_LEFT"
 
 
-def _name_words(value: int, call: str) -> str:
+def _name(call: str, value: int) -> Pair:
     if call == "barrier_add":
-        return f"a hazard stands under {value} already: withdraw it first, or take another name"
-    return f"no hazard stands under {value}: look at the name"
+        return (f"the name {value} stands already",
+                "take another name, or withdraw the hazard that stands under this one")
+    return (f"the name {value} does not stand",
+            "it was never added, or is withdrawn already: look at the name")
 
 
-def _state_words(call: str) -> str:
-    if call == "barrier_return":
-        return "nothing is kept under this state number: return to one of 0 to 7 that was kept"
-    return "a state number is 0 to 7"
+def _state(call: str, _value: int) -> Pair:
+    if call == "barrier_keep":
+        return "the state number is above 7", "keep under a number from 0 to 7"
+    return ("the state number is above 7, or nothing is kept under it",
+            "return to a number from 0 to 7 that was kept since the job was opened")
 
 
-def words(number: int, value: int, call: str, kind: Optional[int] = None) -> str:
-    """What a refusal means; kind is that of the job's bytes, where it is known."""
-    if number == Number.HEADER_RANGE:
-        return _header_words(value, call, kind)
-    if number == Number.HAZARD_RANGE:
-        return _hazard_range_words(value, call)
-    if number == Number.HAZARD_NEAR:
-        return _near_words(value, call)
-    if number == Number.ARGUMENT:
-        return _ARGUMENT_WORDS.get(call, _SIDE_WORDS)
-    if number == Number.NAME:
-        return _name_words(value, call)
-    if number == Number.STATE:
-        return _state_words(call)
-    known = _SHORT_WORDS.get(number)
-    if known is None:
-        return "this package does not know the number: it is older than the library"
-    return known.format(value)
+# The numbers whose words are others by the call.
+_BY_CALL: Dict[int, Callable[[str, int], Pair]] = {
+    Number.HEADER_RANGE: _header,
+    Number.HAZARD_RANGE: _hazard_range,
+    Number.HAZARD_NEAR: _hazard_near,
+    Number.ARGUMENT: _argument,
+    Number.NAME: _name,
+    Number.STATE: _state,
+}
 
 
-def refuse_unless_done(number: int, value: int, call: str, kind: Optional[int] = None) -> None:
+def _given(call: str, number: int, value: int) -> bool:
+    """Whether a call can be refused with that number and value."""
+    if number == Number.HEADER_RANGE and value == 0:
+        return call in _MEMORY
+    if number == Number.HEADER_RANGE and value not in _HEADER:
+        return False
+    return number == Number.DONE or call in _GIVEN.get(number, ())
+
+
+def _both(call: str, number: int, value: int) -> Pair:
+    if not _given(call, number, value):
+        return _UNKNOWN
+    by_call = _BY_CALL.get(number)
+    if by_call is not None:
+        return by_call(call, value)
+    reason, mend = _SAID[number]
+    return reason.format(value), mend
+
+
+def refusal(call: str, number: int, value: int) -> str:
+    """A refusal in words: what is wrong.  The call is the engine's name of it."""
+    return _both(call, number, value)[0]
+
+
+def remedy(call: str, number: int, value: int) -> str:
+    """What can be done about it, in words."""
+    return _both(call, number, value)[1]
+
+
+def hazard_fault(begin: int, end: int, hazard: Hazard) -> Optional[int]:
+    """The place, 0 to 5, of the first of a hazard's numbers that is out of its range on
+    the road [begin, end); None where none is.
+
+    Refusal 4 names the hazard and not the number: this is to show which.  The
+    engine is the judge all the same.
+    """
+    fits = (
+        hazard.side in (0, 1),
+        begin <= hazard.start < end,
+        hazard.start < hazard.end <= end,
+        hazard.near_offset <= 60000,
+        hazard.near_offset <= hazard.far_offset <= 60000,
+        1 <= hazard.level <= 6,
+    )
+    return None if all(fits) else fits.index(False)
+
+
+def refuse_unless_done(number: int, value: int, call: str) -> None:
     if number != Number.DONE:
-        raise Refused(number, value, call, words(number, value, call, kind))
+        raise Refused(number, value, call)

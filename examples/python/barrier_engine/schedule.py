@@ -4,6 +4,7 @@ from __future__ import annotations
 from dataclasses import dataclass
 from typing import List, Sequence, Tuple, Union
 
+from .metres import metres
 from .number_form import Malformed, get_number, get_numbers, put_numbers
 
 # The schedule of every job fits in this many bytes.
@@ -23,8 +24,11 @@ class Run:
     def length(self) -> int:
         return self.end - self.start
 
+    def __str__(self) -> str:
+        return f"{metres(self.start)} to {metres(self.end)} m, NC-{self.level}"
 
-@dataclass(frozen=True)
+
+@dataclass(frozen=True, repr=False)
 class Schedule:
     """The schedule of one side, as the engine wrote it, and its overhangs.
 
@@ -44,6 +48,23 @@ class Schedule:
 
     def __bytes__(self) -> bytes:
         return self.data
+
+    def __str__(self) -> str:
+        """The runs, one on a line, and the overhangs, in metres."""
+        try:
+            rows = [str(run) for run in self.runs] or ["no barrier"]
+        except Malformed as error:
+            rows = [f"no schedule: {error}"]
+        rows += [f"extends {metres(length)} m past the {end} of the road (neighbouring contract)"
+                 for length, end in ((self.before, "beginning"), (self.after, "end")) if length]
+        return "\n".join(rows)
+
+    def __repr__(self) -> str:
+        try:
+            shown = f"runs={self.runs!r}"
+        except Malformed:
+            shown = f"data={self.data!r}"
+        return f"Schedule({shown}, before={self.before}, after={self.after})"
 
 
 # A schedule may be handed to a call as a Schedule or as its bytes.

@@ -1,5 +1,7 @@
 """Pictures of jobs: both sides of a road, drawn from what the engine says."""
 from .draw import picture
+from .dxf import dxf
 from .scene import Scene, scene_of
+from .sheets import SHEETS_MAX, parts_of, sheets
 
-__all__ = ["Scene", "picture", "scene_of"]
+__all__ = ["SHEETS_MAX", "Scene", "dxf", "parts_of", "picture", "scene_of", "sheets"]

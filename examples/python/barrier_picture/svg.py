@@ -2,7 +2,7 @@
 from __future__ import annotations
 
 from typing import List, Optional, Sequence, Tuple
-from xml.sax.saxutils import escape
+from xml.sax.saxutils import escape as _escape
 
 FONT = "DejaVu Sans, Verdana, Arial, Helvetica, sans-serif"
 # Widths of DejaVu Sans from the space on, in thousandths of the font size.  It
@@ -25,6 +25,13 @@ def text_width(words: str, size: float) -> float:
     thousandths = sum(
         _WIDTHS[ord(c) - 32] if 32 <= ord(c) < 127 else _WIDEST for c in words)
     return thousandths * size / 1000
+
+
+def escape(words: str) -> str:
+    """Words as XML takes them: it has no control characters and no non-characters."""
+    return _escape("".join(
+        c if c == "\t" or " " <= c < "\x7f" or "\xa0" <= c and c not in "\ufffe\uffff"
+        and not "\ud800" <= c <= "\udfff" else "\ufffd" for c in words))
 
 
 def _number(value: float) -> str:
@@ -86,18 +93,23 @@ class Sheet:
 
     def document(
         self, top: float, bottom: float, width: float, title: str, told: Sequence[str],
-        definitions: Optional[Sequence[str]] = None,
+        definitions: Optional[Sequence[str]] = None, paper: Optional[Tuple[int, int]] = None,
+        margin: float = 0,
     ) -> str:
-        """The whole file.  told is the picture in words, for those who hear it."""
-        height = _number(bottom - top)
-        box = f"0 {_number(top)} {_number(width)} {height}"
+        """The whole file.  told is the picture in words, for those who hear it.
+        paper is the size in which it is printed, in millimetres."""
+        corner = f"{_number(-margin)}", f"{_number(top - margin)}"
+        across, height = _number(width + 2 * margin), _number(bottom - top + 2 * margin)
+        box = f"{corner[0]} {corner[1]} {across} {height}"
+        size = f'width="{across}" height="{height}"' if paper is None else (
+            f'width="{paper[0]}mm" height="{paper[1]}mm"')
         rows = [
-            f'<svg xmlns="http://www.w3.org/2000/svg" width="{_number(width)}" height="{height}" '
+            f'<svg xmlns="http://www.w3.org/2000/svg" {size} '
             f'viewBox="{box}" font-family="{FONT}" role="img">',
             f"<title>{escape(title)}</title>",
             "<desc>", *[f"    {escape(line)}" for line in told], "</desc>",
             "<defs>", *(definitions or ()), "</defs>",
-            f'<rect x="0" y="{_number(top)}" width="{_number(width)}" height="{height}" '
+            f'<rect x="{corner[0]}" y="{corner[1]}" width="{across}" height="{height}" '
             'fill="#ffffff"/>',
             *self.parts, "</svg>",
         ]

@@ -10,7 +10,7 @@ import support  # noqa: F401
 from barrier_picture.svg import text_width
 
 NAMES = "{http://www.w3.org/2000/svg}"
-LEFT, RIGHT = 150.0, 1180.0  # where the window is drawn
+LEFT = 150.0  # where the window is drawn
 ABOVE, BELOW, BOLD = 0.78, 0.24, 1.15
 UPRIGHT = re.compile(r"translate\(([-\d.]+) ([-\d.]+)\) rotate\(-90\)")
 
@@ -50,6 +50,12 @@ def view_box(svg):
     return Box("the sheet", x, y, x + width, y + height)
 
 
+def window_right(svg):
+    """Where the window ends, at which what is drawn in it is cut."""
+    rect = tree.fromstring(svg).find(f".//{NAMES}clipPath/{NAMES}rect")
+    return float(rect.get("x")) + float(rect.get("width"))
+
+
 def _drawn(svg, tag):
     """The elements of a kind, each with whether it is cut at the window's ends."""
     root = tree.fromstring(svg)
@@ -57,20 +63,20 @@ def _drawn(svg, tag):
     return [(part, part in clipped) for part in root.iter(NAMES + tag)]
 
 
-def _cut(box, clipped):
+def _cut(box, clipped, right):
     """What of a box can be seen of elements that are cut at the window's ends."""
     if not clipped:
         return box
-    return Box(box.words, max(box.left, LEFT), box.top, min(box.right, RIGHT), box.bottom)
+    return Box(box.words, max(box.left, LEFT), box.top, min(box.right, right), box.bottom)
 
 
 def bars(svg):
     """The rects that stand for something: hazards, envelopes, levels."""
-    found = []
+    found, edge = [], window_right(svg)
     for rect, clipped in _drawn(svg, "rect"):
         if rect.get("class") == "bar":
             x, y, width, height = (float(rect.get(k)) for k in ("x", "y", "width", "height"))
-            found.append(_cut(Box(rect.get("fill"), x, y, x + width, y + height), clipped))
+            found.append(_cut(Box(rect.get("fill"), x, y, x + width, y + height), clipped, edge))
     return found
 
 
@@ -123,7 +129,7 @@ def crosses(segment, box, margin=0.5):
 
 def faults(svg):
     """What hurts reading: labels over labels, lines or bars, or off the sheet."""
-    found, sheet = labels(svg), view_box(svg)
+    found, sheet, edge = labels(svg), view_box(svg), window_right(svg)
     shelf = Shelf(found)
     said = [f"off the sheet: {box}" for box in found
             if box.left < sheet.left or box.right > sheet.right
@@ -134,7 +140,7 @@ def faults(svg):
     for segment, clipped in segments(svg):
         heights = sorted((segment[0][1], segment[1][1]))
         said += [f"a line {segment} through {box}" for box in shelf.near(*heights)
-                 if crosses(segment, _cut(box, clipped))]
+                 if crosses(segment, _cut(box, clipped, edge))]
     for bar in bars(svg):
         said += [f"a bar under {box}: {bar}" for box in shelf.near(bar.top, bar.bottom)
                  if bar.left < bar.right and box.meets(bar)]

@@ -1,7 +1,12 @@
 """What the tests share.  Importing it makes the package and the programs found."""
+import atexit
+import functools
 import os
 import random
+import shutil
+import subprocess
 import sys
+import tempfile
 from dataclasses import replace
 
 HERE = os.path.dirname(os.path.abspath(__file__))
@@ -42,6 +47,33 @@ def sample_jobs():
 def sample_text(name, ending=".job"):
     with open(os.path.join(JOBS, name + ending), encoding="utf-8") as file:
         return file.read()
+
+
+HAS_CC = shutil.which("cc") is not None
+
+
+@functools.lru_cache(None)
+def built(name):
+    """A program of examples in C, built against the library that is tested."""
+    folder = tempfile.mkdtemp()
+    atexit.register(shutil.rmtree, folder, ignore_errors=True)
+    program = os.path.join(folder, name)
+    words = ["cc", "-std=c99", "-O1", "-I" + os.path.join(ROOT, "include"),
+             os.path.join(ROOT, "examples", name + ".c"), "-o", program]
+    library = os.environ.get("BARRIER_LIBRARY")
+    if name != "jobtext" and library:
+        words += [library, "-Wl,-rpath," + os.path.dirname(os.path.abspath(library))]
+    elif name != "jobtext":
+        words += ["-lbarrier_engine"]
+    subprocess.run(words, check=True)
+    return program
+
+
+def called(name, data, *words):
+    """What a program in C makes of its input: status, output, and what it says."""
+    done = subprocess.run([built(name), *words], input=data, stdout=subprocess.PIPE,
+                          stderr=subprocess.PIPE, timeout=60)
+    return done.returncode, done.stdout, done.stderr.decode("utf-8")
 
 
 # Seeds with which few hazards show much: both sides, both traffics, overhangs.

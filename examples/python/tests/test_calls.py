@@ -180,9 +180,47 @@ class OutOfReach(unittest.TestCase):
             ):
                 self.assertRaises(ValueError, call)
 
-    def test_a_float_is_no_station(self):
-        self.assertRaises(TypeError, level, PRINTED, 0, 155773.0)
-        self.assertRaises(TypeError, layout, [4000.0], 1)
+    def test_a_whole_float_is_taken_and_another_is_named(self):
+        self.assertEqual(level(PRINTED, 0, 155773.0), 3)
+        self.assertEqual(layout([4000.0], 8000.0).laid.counts, (2,))
+        hazard = replace(support.HEADWALL, start=200000.0, near_offset=5000.0)
+        self.assertEqual((hazard, type(hazard.start)), (support.HEADWALL, int))
+        for call, said in (
+            (lambda: level(PRINTED, 0, 155773.5), "a station has to be a whole number of millimetres"),
+            (lambda: replace(support.HEADWALL, start=155.773), "start has to be a whole number"),
+            (lambda: replace(support.HEADER, clear_zone=float("nan")), "clear_zone has to be a whole"),
+        ):
+            with self.assertRaisesRegex(ValueError, said):
+                call()
+        for wrong in ("155773", b"1", [1], None, 1j):
+            with self.assertRaisesRegex(TypeError, r"whole number of millimetres .* millimetres\(\) takes"):
+                level(PRINTED, 0, wrong)
+
+    def test_numbers_of_other_kinds(self):
+        class Whole:
+            """As numpy's integers are: no int, but an index."""
+
+            def __init__(self, value):
+                self.value = value
+
+            def __index__(self):
+                return int(self.value)
+
+        self.assertEqual(level(PRINTED, Whole(0), Whole(155773)), 3)
+        hazard = support.Hazard(*map(Whole, support.HEADWALL.numbers()))
+        self.assertEqual(hazard, support.HEADWALL)
+        self.assertEqual(layout([Whole(4000)], Whole(8000)).laid.counts, (2,))
+
+    def test_numpy(self):
+        try:
+            import numpy
+        except ImportError:
+            self.skipTest("there is no numpy")
+        for kind in (numpy.int32, numpy.int64, numpy.uint32, numpy.float64, numpy.float32):
+            hazard = support.Hazard(*map(kind, support.HEADWALL.numbers()))
+            self.assertEqual(hazard, support.HEADWALL)
+            self.assertEqual(level(PRINTED, kind(0), kind(155773)), 3)
+            self.assertEqual(layout(numpy.array([4000], kind), kind(8000)).laid.counts, (2,))
 
 
 class OfTheLibrary(unittest.TestCase):

@@ -1,4 +1,6 @@
 """An open job as an object: what stands, copies, kept states."""
+import copy
+import pickle
 import random
 import unittest
 from dataclasses import replace
@@ -55,6 +57,19 @@ class Standing(unittest.TestCase):
 
 
 class Copies(unittest.TestCase):
+    def test_copied_and_stored_by_the_standard_modules(self):
+        open_job = OpenJob(support.HEADER)
+        open_job.add(7, support.HEADWALL)
+        open_job.keep(3)
+        open_job.withdraw(7)
+        for twin in (copy.copy(open_job), copy.deepcopy(open_job), copy.deepcopy([open_job])[0],
+                     pickle.loads(pickle.dumps(open_job))):
+            self.assertEqual(twin, open_job)
+            twin.return_to(3)
+            self.assertEqual(twin.hazards, {7: support.HEADWALL})
+            self.assertEqual(twin.schedule(0), plan(support.PRINTED, 0))
+            self.assertEqual(open_job.hazards, {})
+
     def test_a_copy_goes_its_own_way(self):
         first = OpenJob(HEADER)
         first.add(7, HEADWALL)

@@ -12,15 +12,25 @@ import boxes
 import kept_pictures
 import support
 import picture as program
-from barrier_engine import Side, bytes_of_text, metres, plan, quantity, text_of_job
+from barrier_engine import Side, metres, plan, quantity, read_job, read_text, text_of_job
 from barrier_picture import palette, picture, scene_of
 from barrier_picture.palette import LEVEL
 
 SPREAD = (1, 2, 10, 30, 60, 100, 256)
 
 
+def seen(job, lots=(), window=None, in_kilometres=False):
+    """The scene of a job without names."""
+    return scene_of(read_job(job.to_bytes()), lots, window, in_kilometres)
+
+
+def sampled(name, lots=(), window=None):
+    """The scene of a sample job."""
+    return scene_of(read_text(support.sample_text(name)), lots, window)
+
+
 def drawn(job, lots=(), window=None, name="A job"):
-    return picture(scene_of(job.to_bytes(), lots, window), name)
+    return picture(seen(job, lots, window), name)
 
 
 def lots_of(job, count):
@@ -29,6 +39,12 @@ def lots_of(job, count):
 
 def texts(svg):
     return [text.text for text in tree.fromstring(svg).iter(boxes.NAMES + "text")]
+
+
+def lines(svg, kind):
+    """The points of each line of a kind."""
+    return [[tuple(map(float, pair.split())) for pair in path.get("d")[1:].split("L")]
+            for path in tree.fromstring(svg).iter(boxes.NAMES + "path") if path.get("class") == kind]
 
 
 def told(svg):
@@ -55,8 +71,8 @@ class Legible(unittest.TestCase):
     def test_sample_jobs(self):
         for name in support.sample_jobs():
             if name != "refused":
-                data = bytes_of_text(support.sample_text(name))
-                self.assertEqual(boxes.faults(picture(scene_of(data, [0, 1, 500000]), name)), [], name)
+                svg = picture(sampled(name, [0, 1, 500000]), name)
+                self.assertEqual(boxes.faults(svg), [], name)
 
     def test_parts_of_a_road_and_many_lots(self):
         job = support.made_job(100)
@@ -126,8 +142,7 @@ class WhatIsDrawn(unittest.TestCase):
         for name in support.sample_jobs():
             wanted = support.sample_text(name, ".out").splitlines()
             if not wanted[0].startswith("refused"):
-                data = bytes_of_text(support.sample_text(name))
-                rows = told(picture(scene_of(data), name))
+                rows = told(picture(sampled(name), name))
                 self.assertEqual([r for r in rows if not r.startswith("overhang")], wanted)
                 if os.path.exists(os.path.join(support.JOBS, name + ".overhang")):
                     over = support.sample_text(name, ".overhang").splitlines()
@@ -145,24 +160,22 @@ class WhatIsDrawn(unittest.TestCase):
                 x1, x2 = (160 + 1010 * (t - first) / (last - first) for t in (run_.start, run_.end))
                 self.assertTrue(any(
                     bar.words == LEVEL[run_.level] and abs(bar.left - x1) < 0.11
-                    and abs(bar.right - x2) < 0.21 and abs(bar.bottom - bar.top - 10 * run_.level) < 0.11
+                    and abs(bar.right - x2) < 0.21 and abs(bar.bottom - bar.top - 8 * run_.level) < 0.11
                     for bar in bars), run_)
 
     def test_the_approach_goes_through_the_corners(self):
-        chainage = bytes_of_text(support.sample_text("chainage"))
-        for svg in (drawn(support.PRINTED), picture(scene_of(chainage), "chainage")):
+        for svg in (drawn(support.PRINTED), picture(sampled("chainage"), "chainage")):
             self.has_the_printed_approach(svg)
 
     def has_the_printed_approach(self, svg):
-        # One metre is 1.01 along; the deepest offset drawn, 1.25 C or 11,250, is 130.
-        x = [160 + 1.01 * t / 1000 for t in (155773, 186660, 200000, 210000)]
-        wanted = [(x[0], 5059), (x[1], 3000), (x[2], 3000), (x[3], 3000)]
-        paths = [path.get("d")[1:].split("L") for path, clipped in boxes._drawn(svg, "path") if clipped]
-        self.assertEqual(len(paths), 1)
-        points = [tuple(map(float, pair.split())) for pair in paths[0]]
-        for (x, y), (wanted_x, offset) in zip(points, wanted):
-            self.assertAlmostEqual(x, wanted_x, delta=0.06)
-            self.assertAlmostEqual(y, 32 + 130 * offset / 11250, delta=0.06)
+        # One metre is 1.01 along; the deepest offset drawn, 1.25 C or 11,250, is 110.
+        for kind, stations in (("approach", (155773, 186660, 200000)), ("run", (155773, 186660, 210000))):
+            paths = lines(svg, kind)
+            self.assertEqual(len(paths), 1)
+            self.assertEqual(len(paths[0]), 3)
+            for (x, y), station, offset in zip(paths[0], stations, (5059, 3000, 3000)):
+                self.assertAlmostEqual(x, 160 + 1.01 * station / 1000, delta=0.06)
+                self.assertAlmostEqual(y, 32 + 110 * offset / 11250, delta=0.06)
 
     def test_a_pole_is_seen(self):
         pole = support.replace(support.HEADWALL, end=support.HEADWALL.start + 1, far_offset=5000, level=6)
@@ -177,7 +190,7 @@ class WhatIsDrawn(unittest.TestCase):
     def test_the_legend_has_the_colour_of_overhangs(self):
         svg = drawn(support.made_job(10))
         shown = {(text.text, text.get("fill")) for text in tree.fromstring(svg).iter(boxes.NAMES + "text")}
-        for words in ("station in this colour: end of an overhang", "-30.802"):
+        for words in ("station in this colour: how far barrier extends past the road", "-30.802"):
             self.assertIn((words, palette.ZONE), shown)
 
     def test_stations_of_runs_and_overhangs(self):
@@ -188,20 +201,20 @@ class WhatIsDrawn(unittest.TestCase):
                 self.assertGreaterEqual(found.count(metres(run_.start)), 2)
                 self.assertGreaterEqual(found.count(metres(run_.end)), 2)
         self.assertIn("-30.802", found)
-        self.assertTrue(any("30.802 m hang over before the road, in the" in words for words in found))
+        self.assertTrue(any("extends 30.802 m past the beginning of the road" in words for words in found))
 
     def test_both_overhangs_of_one_side(self):
-        data = bytes_of_text(support.sample_text("overhang"))
-        found = texts(picture(scene_of(data), "overhang"))
-        self.assertTrue(any("21.501 m hang over before the road and 20.758 m behind it" in words
-                            for words in found))
+        found = texts(picture(sampled("overhang"), "overhang"))
+        for words in ("extends 21.501 m past the beginning of the road (neighbouring contract)",
+                      "extends 20.758 m past the end of the road (neighbouring contract)"):
+            self.assertTrue(any(words in row for row in found))
 
     def test_the_lots_quantities(self):
         job = support.made_job(100)
         stations = lots_of(job, 70)
-        scene = scene_of(job.to_bytes(), stations)
+        scene = seen(job, stations)
         for side in Side:
-            for lot, p, q in zip(scene.lots, stations, stations[1:]):
+            for lot, p, q in zip(scene.lots(), stations, stations[1:]):
                 wanted = tuple(quantity(plan(job, side), level, p, q) for level in range(1, 7))
                 self.assertEqual(lot.amounts[side], wanted)
         found = texts(drawn(job, stations))
@@ -213,19 +226,18 @@ class WhatIsDrawn(unittest.TestCase):
     def test_what_lies_outside_the_lots(self):
         job = support.made_job(100)
         for stations in ([1000000, 2000000], [0, job.header.end], [0, 1], [job.header.end, 10**12]):
-            scene = scene_of(job.to_bytes(), stations)
+            scene = seen(job, stations)
             for side in Side:
                 schedule = plan(job, side)
                 for level in range(1, 7):
                     whole = quantity(schedule, level, 0, job.header.end)
-                    inside = sum(lot.amounts[side][level - 1] for lot in scene.lots)
-                    self.assertEqual(scene.outside[side][level - 1], whole - inside)
+                    inside = sum(lot.amounts[side][level - 1] for lot in scene.lots())
                     if whole:
                         self.assertIn(metres(whole - inside), texts(picture(scene, "lots")))
             self.assertIn("outside the lots", texts(picture(scene, "lots")))
 
     def test_envelopes_before_they_are_cut(self):
-        scene = scene_of(bytes_of_text(support.sample_text("overhang")))
+        scene = sampled("overhang")
         self.assertEqual([d.envelope for d in scene.hazards], [
             (85773, 155758), (78499, 134758), (88773, 155258), (335773, 420758), (345773, 412758),
             None, (395000, 442227)])
@@ -283,8 +295,7 @@ class TheProgram(unittest.TestCase):
     def test_nothing_is_written_for_a_refused_job(self):
         for data, said in (
             (support.sample_text("refused").encode(), "refused 5 with 0"),
-            (b"", "refused 1 with 0"), (b"\1\0", "refused 1 with 2"), (b"\xff\xfe", "refused 1 with 0"),
-            (b"road 0\n", "line 1: wants two numbers: road"),
+            (b"\1\0", "refused 1 with 2"),
         ):
             out = self.path("none.svg")
             status, words = run(self.path("bad.job", data), "-o", out)
@@ -322,7 +333,7 @@ class TheProgram(unittest.TestCase):
 
     def test_files_that_are_not_there(self):
         status, words = run(self.path("no.job"))
-        self.assertEqual(status, 1)
+        self.assertEqual(status, 2)
         self.assertIn("No such file", words)
 
     def test_bad_words(self):

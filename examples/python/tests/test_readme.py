@@ -7,6 +7,7 @@ import unittest
 
 import support
 import barrier_engine
+import picture
 from barrier_engine import Refused, Side, c, plan
 
 
@@ -34,13 +35,30 @@ class Readme(unittest.TestCase):
         self.assertEqual(set(c.CALLS) | {"barrier_version"}, named - {"barrier_picture"})
 
     def test_what_the_table_names_is_there(self):
-        table = readme().split("## The calls")[1].split("## Refusals")[0]
+        table = readme().split("## The calls")[1].split("## A job by hand")[0]
         for name in re.findall(r"^\| `(\w+)\(", table, re.M):
             self.assertTrue(hasattr(barrier_engine, name), name)
         methods = re.findall(r"`\.(\w+)", table)
         self.assertGreater(len(methods), 8)
         for name in methods:
             self.assertTrue(hasattr(barrier_engine.OpenJob, name), name)
+
+    def test_what_is_said_of_planned_roads(self):
+        part = readme().split("## A job by hand")[1].split("## Refusals")[0]
+        road = barrier_engine.plan_road(barrier_engine.read_job(support.PRINTED.to_bytes()))
+        for name in re.findall(r"`\.(\w+)", part):
+            self.assertTrue(hasattr(road, name), name)
+        for name in re.findall(r"`((?:swap|turn|plan|read|csv)_\w+)", part):
+            self.assertTrue(hasattr(barrier_engine, name), name)
+        self.assertEqual(set(re.findall(r"`(\w+)`", part)) & {"runs", "quantities", "hazards", "overhangs"},
+                         set(barrier_engine.csv_tables(road)))
+
+    def test_the_options_of_picture(self):
+        table = readme().split("| option |")[1].split("| status |")[0]
+        named = set(re.findall(r"^\| `(-+\w+)", table, re.M)) | {"--to"}
+        there = {max(action.option_strings, key=lambda o: (o == "-o", len(o)))
+                 for action in picture.parser()._actions if action.option_strings}
+        self.assertEqual(named, there - {"--help"})
 
 
 if __name__ == "__main__":

@@ -1,6 +1,10 @@
 """Each refusal that a call can give, its value, its words, and memory after it."""
 import ctypes
+import os
 import pickle
+import shutil
+import subprocess
+import tempfile
 import unittest
 from dataclasses import replace
 
@@ -9,12 +13,38 @@ from barrier_engine import (
     Hazard, Job, OpenJob, Refused, Side, corners, layout, level, lookup, offset, plan, plan_into,
     put_number, quantities, quantity,
 )
-from barrier_engine.refused import words
+from barrier_engine import c, refused as said_so
 from support import HEADER, HEADWALL, PRINTED, refusal
 
 DATA = PRINTED.to_bytes()
 TOO_NEAR = support.job(HEADER, {}, {"near_offset": 3999})
 KIND_2 = replace(HEADER, panel=4000)
+
+# The calls in the order of barrier_help.h, and values that its words tell apart.
+CALLS = (
+    "barrier_plan", "barrier_level", "barrier_corners", "barrier_offset", "barrier_quantity",
+    "barrier_quantities", "barrier_lookup", "barrier_layout", "barrier_open", "barrier_add",
+    "barrier_withdraw", "barrier_open_schedule", "barrier_keep", "barrier_return")
+VALUES = list(range(18)) + [255, 65535, (1 << 64) - 1]
+ROWS_IN_C = """#include <inttypes.h>
+#include <stdio.h>
+#include <barrier_help.h>
+int main(void)
+{
+    const uint64_t values[] = {%s};
+    char words[BARRIER_HELP_TEXT_MAX], remedy[BARRIER_HELP_TEXT_MAX];
+    for (unsigned call = 0; call < 14; call++)
+        for (uint64_t number = 0; number < 20; number++)
+            for (size_t i = 0; i < sizeof values / sizeof values[0]; i++) {
+                const enum barrier_help_call of = (enum barrier_help_call)call;
+                barrier_help_refusal(of, number, values[i], words, sizeof words);
+                barrier_help_remedy(of, number, values[i], remedy, sizeof remedy);
+                printf("%%s %%" PRIu64 " %%" PRIu64 ": %%s: %%s\\n", barrier_help_call_name(of), number,
+                       values[i], words, remedy);
+            }
+    return 0;
+}
+""" % ", ".join(f"{value}u" for value in VALUES)
 
 # Jobs that are not accepted, with the refusal's number and value.
 BAD_JOBS = [
@@ -228,33 +258,47 @@ class Words(unittest.TestCase):
         broken = OpenJob(HEADER)
         ctypes.memset(ctypes.byref(broken._memory), 0xFF, 8)
         for text, call, *arguments in (
-            ("barrier offset M, has to be 0 to 20000", plan, Job(replace(HEADER, barrier_offset=20001)), 0),
-            ("number 14, the hazard count, has to be 0 to 256", plan, HEADER.to_bytes()[:-1] + b"\x81\2", 0),
-            ("number 14, the panel length, has to be 1 to 10000", plan, Job(replace(HEADER, panel=0)), 0),
-            ("number 15, the hazard count, has to be 0 to 256", plan, KIND_2.to_bytes()[:-1] + b"\x81\2", 0),
-            ("add the hazards afterwards", OpenJob, PRINTED),
-            ("add the hazards afterwards", OpenJob, Job(KIND_2, [HEADWALL])),
-            ("open it anew", broken.keep, 0),
-            ("hazard 1 leaves the barrier no room to deflect", plan, TOO_NEAR, 0),
-            ("to be added as 9 leaves", open_job.add, 9, replace(HEADWALL, near_offset=3999)),
-            ("to be added as 9 has a number", open_job.add, 9, replace(HEADWALL, level=7)),
-            ("stands under 7 already", open_job.add, 7, HEADWALL),
-            ("no hazard stands under 8", open_job.withdraw, 8),
-            ("nothing is kept", open_job.return_to, 1),
-            ("state number is 0 to 7", open_job.keep, 8),
-            ("side has to be 0 (right) or 1 (left)", plan, PRINTED, 2),
+            ("barrier offset M, is outside its range; it has to be 0 to 20000", plan,
+             Job(replace(HEADER, barrier_offset=20001)), 0),
+            ("number 14, hazard count h (kind 1) or panel length (kind 2)", plan,
+             HEADER.to_bytes()[:-1] + b"\x81\2", 0),
+            ("0 to 256 (kind 1) or 1 to 10000 (kind 2)", plan, Job(replace(HEADER, panel=0)), 0),
+            ("number 15, hazard count h, is outside its range; it has to be 0 to 256", plan,
+             KIND_2.to_bytes()[:-1] + b"\x81\2", 0),
+            ("hazards are added afterwards", OpenJob, PRINTED),
+            ("hazards are added afterwards", OpenJob, Job(KIND_2, [HEADWALL])),
+            ("let nothing else write to its memory", broken.keep, 0),
+            ("hazard 1 leaves the barrier no room to deflect; its near offset n is below", plan,
+             TOO_NEAR, 0),
+            ("to be named 9 leaves", open_job.add, 9, replace(HEADWALL, near_offset=3999)),
+            ("the hazard to be named 9 is outside", open_job.add, 9, replace(HEADWALL, level=7)),
+            ("the name 7 stands already; take another name", open_job.add, 7, HEADWALL),
+            ("the name 8 does not stand", open_job.withdraw, 8),
+            ("nothing is kept under it", open_job.return_to, 1),
+            ("keep under a number from 0 to 7", open_job.keep, 8),
+            ("the side is neither 0 (right) nor 1 (left)", plan, PRINTED, 2),
             ("sheet corner", corners, PRINTED, 0, 10**12 + 1),
-            ("level has to be 1 to 6", quantity, b"\0", 0, 0, 1),
-            ("takes 8 bytes", plan_into, PRINTED, 0, bytearray(7)),
-            ("groups of 64", quantities, b"\0", 1, [(0, 1)] * 65),
+            ("the level is not 1 to 6", quantity, b"\0", 0, 0, 1),
+            ("takes 8 bytes; lend as many", plan_into, PRINTED, 0, bytearray(7)),
+            ("at most 64 ranges each", quantities, b"\0", 1, [(0, 1)] * 65),
         ):
             self.assertIn(text, self.said(call, *arguments))
 
-    def test_every_number_has_words(self):
-        for number in (1, 2, 3, 4, 5, 7, 8, 9, 10, 11, 12, 13, 14, 15, 16, 17):
-            self.assertNotIn("does not know", words(number, 1, "barrier_plan"))
-        for number in (6, 18):
-            self.assertIn("does not know", words(number, 1, "barrier_plan"))
+    @unittest.skipUnless(shutil.which("cc"), "there is no cc")
+    def test_they_are_those_of_the_header(self):
+        """Every call, number and value: one text in C and in Python."""
+        with tempfile.TemporaryDirectory() as folder:
+            source, program = os.path.join(folder, "rows.c"), os.path.join(folder, "rows")
+            with open(source, "w", encoding="utf-8") as file:
+                file.write(ROWS_IN_C)
+            include = "-I" + os.path.join(support.ROOT, "include")
+            subprocess.run(["cc", "-std=c99", include, source, "-o", program], check=True)
+            printed = subprocess.run([program], stdout=subprocess.PIPE, check=True).stdout.decode()
+        rows = [f"{call} {number} {value}: {said_so.refusal(call, number, value)}: "
+                f"{said_so.remedy(call, number, value)}"
+                for call in CALLS for number in range(20) for value in VALUES]
+        self.assertEqual(printed.splitlines(), rows)
+        self.assertEqual(set(CALLS), set(c.CALLS))
 
     def test_a_refusal_can_be_stored(self):
         try:

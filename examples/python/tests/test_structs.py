@@ -1,5 +1,6 @@
 """The structs and constants of the package are those of the header."""
 import ctypes
+import dataclasses
 import os
 import re
 import shutil
@@ -8,7 +9,7 @@ import tempfile
 import unittest
 
 import support
-from barrier_engine import Number, SCHEDULE_MAX, Side, TRIES_MAX, c
+from barrier_engine import Header, Number, SCHEDULE_MAX, Side, TRIES_MAX, c
 from barrier_engine.job import HAZARDS_MAX
 from barrier_engine.schedule import RUNS_MAX
 
@@ -69,6 +70,13 @@ class Names(unittest.TestCase):
         for body, name in bodies:
             fields = re.findall(r"(\w+)(?:\[\w+\])?;", body)
             self.assertEqual([field for field, _ in c.STRUCTS[name]._fields_], fields)
+
+    def test_the_header_has_the_names_of_barrier_help(self):
+        path = os.path.join(support.ROOT, "include", "barrier_help.h")
+        with open(path, encoding="utf-8") as file:
+            body = re.search(r"^typedef struct \{\n([^}]*)\} barrier_help_header;", file.read(), re.M).group(1)
+        fields = re.findall(r"uint64_t (\w+);", body)
+        self.assertEqual(fields, ["kind"] + [field.name for field in dataclasses.fields(Header)])
 
     def test_constants(self):
         values = dict(re.findall(r"^#define BARRIER_(\w+) (\d+)$", self.text, re.M))

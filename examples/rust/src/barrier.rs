@@ -58,6 +58,9 @@ pub const ROAD_MAX: u64 = 2_000_000_000;
 pub const OPEN_STACK_MAX: usize = 65536;
 pub const STACK_MAX: usize = 36864;
 
+/// A side of the road, `RIGHT` or `LEFT`; the engine refuses any other number.
+pub type Side = u64;
+
 /// The sides of the road. Forward traffic runs beside the right one.
 pub const RIGHT: u64 = 0;
 pub const LEFT: u64 = 1;
@@ -382,23 +385,54 @@ pub fn version() -> Version {
 /// A call, with what it was asked for where the words of a refusal need it.
 #[derive(Clone, Copy, Debug, PartialEq, Eq)]
 pub enum Call {
-    Plan { side: u64 },
-    Level { side: u64 },
+    Plan { side: Side },
+    Level { side: Side },
     Corners { hazard: u64 },
     Offset { hazard: u64 },
     Quantity,
     Quantities,
-    Lookup { side: u64 },
+    Lookup { side: Side },
     Layout,
     Open,
     Add,
     Withdraw,
-    OpenSchedule { side: u64 },
+    OpenSchedule { side: Side },
     Keep { state: u64 },
     Return { state: u64 },
 }
 
 impl Call {
+    /// The calls that read a whole job from bytes; `Open` reads a header.
+    fn reads_job(self) -> bool {
+        matches!(
+            self,
+            Call::Plan { .. } | Call::Level { .. } | Call::Corners { .. } | Call::Offset { .. }
+        )
+    }
+
+    fn reads_bytes(self) -> bool {
+        self.reads_job() || self == Call::Open
+    }
+
+    fn reads_schedule(self) -> bool {
+        matches!(
+            self,
+            Call::Quantity | Call::Quantities | Call::Lookup { .. }
+        )
+    }
+
+    /// The calls that test the memory of an open job first.
+    fn tests_memory(self) -> bool {
+        matches!(
+            self,
+            Call::Add
+                | Call::Withdraw
+                | Call::OpenSchedule { .. }
+                | Call::Keep { .. }
+                | Call::Return { .. }
+        )
+    }
+
     /// What the reply says, if the call was done; else the refusal.
     fn done<T>(self, number: u64, value: u64, answer: T) -> Result<T, Refusal> {
         match number {
@@ -433,8 +467,8 @@ impl Call {
 ///
 /// ```text
 /// refused 12 with 7, the name 7 stands already
-/// refused 12 with 7, the name 7 stands already; withdraw the hazard that stands
-/// under it, or take another name
+/// refused 12 with 7, the name 7 stands already; take another name, or withdraw
+/// the hazard that stands under this one
 /// ```
 #[derive(Clone, Copy, PartialEq, Eq)]
 pub struct Refusal {
@@ -463,11 +497,14 @@ impl fmt::Display for Refusal {
     }
 }
 
+/// The words are those of barrier_help.h, for each call, number and value.
 impl Refusal {
     /// Why the call was refused.
     pub fn reason(&self) -> String {
         let value = self.value;
         match self.number {
+            DONE => "done".into(),
+            _ if !self.is_given() => "a number that barrier.h does not have for this call".into(),
             JOB_ENDED => format!("the job ends before or inside the number at byte {value}"),
             NUMBER_MALFORMED => format!("no number in the right form begins at byte {value}"),
             // The value 0 is no header number: it comes of an open job's memory.
@@ -494,14 +531,17 @@ impl Refusal {
             NO_APPROACH => "no such hazard, or adjacent traffic does not reach it".into(),
             FULL => format!("{HAZARDS_MAX} hazards stand already"),
             LENGTHS => "no panel length, too many, or one outside its range".into(),
-            LIMIT => format!("a limit of no tries, or of more than {TRIES_MAX}"),
-            _ => "a number that barrier.h does not have for this call".into(),
+            _ => format!("a limit of no tries, or of more than {TRIES_MAX}"),
         }
     }
 
     /// What the user, or the program, can do about it.
     pub fn remedy(&self) -> String {
         match self.number {
+            DONE => "nothing has to be done".into(),
+            _ if !self.is_given() => "look whether call and reply belong together, and program \
+                                      and archive are of one version"
+                .into(),
             JOB_ENDED => "hand over all of the job's bytes, with as many hazards as its hazard \
                           count says"
                 .into(),
@@ -518,30 +558,67 @@ impl Refusal {
                             D together: measure n again, or plan with a smaller M or a barrier \
                             that deflects less"
                 .into(),
-            JOB_LEFT_OVER => "hand over the job's bytes alone, with a hazard count of all the \
-                              hazards that follow it"
+            JOB_LEFT_OVER => "the hazard count is below the hazards that follow, or the length \
+                              given is not the job's"
                 .into(),
             ARGUMENT => self.argument_remedy(),
-            OUTPUT_SHORT => format!("lend as many bytes; {SCHEDULE_MAX} always suffice"),
-            NO_SCHEDULE => "hand over a schedule as it was written, all of its bytes and none \
-                            behind them; this is not a side without barriers"
+            OUTPUT_SHORT => {
+                format!("lend as many bytes; BARRIER_SCHEDULE_MAX, {SCHEDULE_MAX}, always suffice")
+            }
+            NO_SCHEDULE => "hand over a schedule as it was written, with the length that was \
+                            replied; this is not a side without barriers"
                 .into(),
             TOO_MANY_RANGES => {
                 format!("ask in several calls, of at most {RANGES_MAX} ranges each")
             }
             NAME => match self.call {
                 Call::Withdraw => "it was never added, or is withdrawn already: look at the name",
-                _ => "withdraw the hazard that stands under it, or take another name",
+                _ => "take another name, or withdraw the hazard that stands under this one",
             }
             .into(),
-            STATE => self.state_remedy(),
-            NO_APPROACH => self.approach_remedy(),
-            FULL => "withdraw a hazard first; any name can take its room".into(),
-            LENGTHS => format!(
-                "give one to {LENGTHS_MAX} panel lengths, each 1 to {STOCK_PANEL_MAX} millimetres"
-            ),
-            LIMIT => format!("give a limit from 1 to {TRIES_MAX}; {TRIES_MAX} tries every layout"),
-            _ => format!("link the archive that this program was written for, version {VERSION}"),
+            STATE => match self.call {
+                Call::Keep { .. } => "keep under a number from 0 to 7",
+                _ => "return to a number from 0 to 7 that was kept since the job was opened",
+            }
+            .into(),
+            NO_APPROACH => "hazards count from 0 in the job's order; one whose near offset n is \
+                            not below the clear-zone width C has no such approach"
+                .into(),
+            FULL => "withdraw a hazard first".into(),
+            LENGTHS => {
+                format!("give one to four panel lengths, each 1 to {STOCK_PANEL_MAX} millimetres")
+            }
+            _ => format!("give a limit from 1 to {TRIES_MAX}; {TRIES_MAX} tries every layout"),
+        }
+    }
+
+    /// Whether the call can be refused so: the table of barrier.h, by call.
+    fn is_given(&self) -> bool {
+        let call = self.call;
+        match self.number {
+            JOB_ENDED | NUMBER_MALFORMED | JOB_LEFT_OVER => call.reads_bytes(),
+            HEADER_RANGE if self.value == 0 => call.tests_memory(),
+            HEADER_RANGE => self.value <= 15 && call.reads_bytes(),
+            HAZARD_RANGE | HAZARD_NEAR => call.reads_job() || call == Call::Add,
+            ARGUMENT => {
+                call.reads_schedule()
+                    || matches!(
+                        call,
+                        Call::Plan { .. }
+                            | Call::Level { .. }
+                            | Call::Corners { .. }
+                            | Call::OpenSchedule { .. }
+                    )
+            }
+            OUTPUT_SHORT => matches!(call, Call::Plan { .. } | Call::OpenSchedule { .. }),
+            NO_SCHEDULE => call.reads_schedule(),
+            TOO_MANY_RANGES => call == Call::Quantities,
+            NAME => matches!(call, Call::Add | Call::Withdraw),
+            STATE => matches!(call, Call::Keep { .. } | Call::Return { .. }),
+            NO_APPROACH => matches!(call, Call::Corners { .. } | Call::Offset { .. }),
+            FULL => call == Call::Add,
+            LENGTHS | LIMIT => call == Call::Layout,
+            _ => false,
         }
     }
 
@@ -557,7 +634,10 @@ impl Refusal {
     fn header_remedy(&self) -> String {
         let (_, range) = header_field(self.value);
         match (self.value, self.call) {
-            (0, _) => "open the job first, and let nothing else write to its memory".into(),
+            (0, _) => {
+                "open the job with barrier_open first, and let nothing else write to its memory"
+                    .into()
+            }
             (14, Call::Open) => "to open a job its hazard count (kind 1) has to be 0, hazards are \
                                  added afterwards; a panel length (kind 2) has to be 1 to 10000"
                 .into(),
@@ -570,9 +650,10 @@ impl Refusal {
 
     fn wrong_argument(&self) -> &'static str {
         match self.call {
-            // The pairs that `quantities` takes leave no p without its q.
             Call::Quantity => "the level is not 1 to 6, or p is above q",
-            Call::Quantities => "the level is not 1 to 6, or p is above q in a range",
+            Call::Quantities => {
+                "the level is not 1 to 6, p is above q in a range, or the last p has no q"
+            }
             Call::Corners { .. } => "a number of the sheet corner is above 1000000000000",
             _ => "the side is neither 0 (right) nor 1 (left)",
         }
@@ -586,39 +667,8 @@ impl Refusal {
             Call::Corners { .. } => format!(
                 "give a sheet corner whose station and offset are 0 to {STATION_MAX} millimetres"
             ),
-            Call::Plan { side }
-            | Call::Level { side }
-            | Call::Lookup { side }
-            | Call::OpenSchedule { side } => {
-                format!("side {side} was asked for: ask for {RIGHT} or {LEFT}")
-            }
-            _ => format!("ask for side {RIGHT} or {LEFT}"),
+            _ => "ask for BARRIER_RIGHT or BARRIER_LEFT".into(),
         }
-    }
-
-    fn state_remedy(&self) -> String {
-        match self.call {
-            Call::Keep { state } => {
-                format!("state {state} was asked for: keep under a number from 0 to 7")
-            }
-            Call::Return { state } => format!(
-                "state {state} was asked for: return to a number from 0 to 7 that was kept since \
-                 the job was opened"
-            ),
-            _ => "keep a state first, under a number from 0 to 7".into(),
-        }
-    }
-
-    fn approach_remedy(&self) -> String {
-        let asked = match self.call {
-            Call::Corners { hazard } | Call::Offset { hazard } => {
-                format!("hazard {hazard} was asked for: ")
-            }
-            _ => String::new(),
-        };
-        asked
-            + "hazards count from 0 in the job's order; one whose near offset n is not below the \
-               clear-zone width C has no such approach"
     }
 }
 
@@ -664,7 +714,7 @@ pub struct Planned {
 /// Writes the schedule of one side to the start of `out`; the bytes written,
 /// and the greatest overhang at each end of the road. `SCHEDULE_MAX` bytes are
 /// always enough.
-pub fn plan(job: &[u8], side: u64, out: &mut [u8]) -> Result<Planned, Refusal> {
+pub fn plan(job: &[u8], side: Side, out: &mut [u8]) -> Result<Planned, Refusal> {
     // SAFETY: both pointers are good for as many bytes as are named with them,
     // and `out` is lent to this call alone.
     let reply =
@@ -675,19 +725,21 @@ pub fn plan(job: &[u8], side: u64, out: &mut [u8]) -> Result<Planned, Refusal> {
 /// The schedule of one side in bytes of its own, and the greatest overhang at
 /// each end of the road, in millimetres.
 #[derive(Clone, Debug, PartialEq, Eq)]
-pub struct Side {
+pub struct PlannedSide {
     pub schedule: Vec<u8>,
     pub before: u64,
     pub after: u64,
 }
 
-impl Side {
+impl PlannedSide {
     /// What `write` plans into an output that is always long enough.
-    fn written(write: impl FnOnce(&mut [u8]) -> Result<Planned, Refusal>) -> Result<Side, Refusal> {
+    fn written(
+        write: impl FnOnce(&mut [u8]) -> Result<Planned, Refusal>,
+    ) -> Result<PlannedSide, Refusal> {
         let mut schedule = vec![0; SCHEDULE_MAX];
         let planned = write(&mut schedule)?;
         schedule.truncate(planned.written);
-        Ok(Side {
+        Ok(PlannedSide {
             schedule,
             before: planned.before,
             after: planned.after,
@@ -696,13 +748,13 @@ impl Side {
 }
 
 /// As `plan`, into bytes of its own.
-pub fn plan_side(job: &[u8], side: u64) -> Result<Side, Refusal> {
-    Side::written(|out| plan(job, side, out))
+pub fn plan_side(job: &[u8], side: Side) -> Result<PlannedSide, Refusal> {
+    PlannedSide::written(|out| plan(job, side, out))
 }
 
 /// The level that one side of a job requires at a station; 0 where none is, and
 /// outside the road.
-pub fn level(job: &[u8], side: u64, station: u64) -> Result<u64, Refusal> {
+pub fn level(job: &[u8], side: Side, station: u64) -> Result<u64, Refusal> {
     // SAFETY: the pointer is good for as many bytes as are named with it.
     let reply = unsafe { c::barrier_level(job.as_ptr(), job.len(), side, station) };
     Call::Level { side }.answer(reply)
@@ -762,7 +814,7 @@ pub fn quantity(schedule: &[u8], level: u64, p: u64, q: u64) -> Result<u64, Refu
 pub fn lookup(
     right: &[u8],
     left: &[u8],
-    side: u64,
+    side: Side,
     station: u64,
 ) -> Result<Option<Range<usize>>, Refusal> {
     // SAFETY: both pointers are good for as many bytes as are named with them.
@@ -899,7 +951,7 @@ impl OpenJob {
 
     /// Writes the schedule of one side to the start of `out`; the bytes written,
     /// and the greatest overhang at each end of the road.
-    pub fn schedule(&self, side: u64, out: &mut [u8]) -> Result<Planned, Refusal> {
+    pub fn schedule(&self, side: Side, out: &mut [u8]) -> Result<Planned, Refusal> {
         // SAFETY: the memory is only read, the other pointer is good for as
         // many bytes as are named with it, and `out` is lent to this call alone.
         let reply =
@@ -908,8 +960,8 @@ impl OpenJob {
     }
 
     /// As `schedule`, into bytes of its own.
-    pub fn plan_side(&self, side: u64) -> Result<Side, Refusal> {
-        Side::written(|out| self.schedule(side, out))
+    pub fn plan_side(&self, side: Side) -> Result<PlannedSide, Refusal> {
+        PlannedSide::written(|out| self.schedule(side, out))
     }
 
     /// The job of this header and the hazards that stand, in rising order of
@@ -919,8 +971,8 @@ impl OpenJob {
         let memory = &self.memory;
         Job {
             header: Header {
-                road_begin: memory.begin,
-                road_end: memory.end,
+                begin: memory.begin,
+                end: memory.end,
                 runout_forward: memory.forward,
                 runout_opposite: memory.opposite,
                 clear_zone: memory.zone,
@@ -1021,6 +1073,90 @@ pub fn millimetres_of_text(metres: &str, rounding: Rounding) -> Option<u64> {
 /// "155.773".
 pub fn metres(millimetres: u64) -> String {
     format!("{}.{:03}", millimetres / 1000, millimetres % 1000)
+}
+
+/// A station as roads are signed, kilometres + metres: 1250000 is "1+250.000".
+pub fn kilometres(millimetres: u64) -> String {
+    let metres = millimetres / 1000;
+    format!(
+        "{}+{:03}.{:03}",
+        metres / 1000,
+        metres % 1000,
+        millimetres % 1000
+    )
+}
+
+/// Such a station to millimetres: digits, a plus, three digits and, if wanted, a
+/// point and three digits more. `None` for other text, and above `STATION_MAX`.
+pub fn mm_of_kilometres(station: &str) -> Option<u64> {
+    let (kilometres, metres) = station.split_once('+')?;
+    let (metres, millimetres) = metres.split_once('.').unwrap_or((metres, "000"));
+    let digits = |text: &str| text.bytes().all(|digit| digit.is_ascii_digit());
+    let shaped = !kilometres.is_empty() && metres.len() == 3 && millimetres.len() == 3;
+    if !shaped || !digits(kilometres) || !digits(metres) || !digits(millimetres) {
+        return None;
+    }
+    let count: u64 = [kilometres, metres, millimetres].concat().parse().ok()?;
+    (count <= STATION_MAX).then_some(count)
+}
+
+/// The other side, for a road whose traffic drives on the left: of a hazard
+/// before it is handed over, of the side that is asked for, and of what is said
+/// of the answer. What is no side stays as it is.
+pub fn swap_side(side: Side) -> Side {
+    match side {
+        RIGHT => LEFT,
+        LEFT => RIGHT,
+        other => other,
+    }
+}
+
+/// Turning, for a one-way carriageway [begin, end) whose traffic travels towards
+/// falling stations: barrier.h, "Sides and traffic". Hand over each hazard
+/// turned, ask for the other side at the turned station, and turn back what is
+/// replied: each of these undoes itself. On a two-way road turn nothing.
+///
+/// What lies on the road stays on it, and what lies outside stays outside, where
+/// the engine refuses it: no number is tested here.
+pub fn turn_hazard(begin: u64, end: u64, hazard: Hazard) -> Hazard {
+    Hazard {
+        side: swap_side(hazard.side),
+        start: turned(begin, end, hazard.end),
+        end: turned(begin, end, hazard.start),
+        ..hazard
+    }
+}
+
+/// The other way along the road, as a point of it.
+fn turned(begin: u64, end: u64, point: u64) -> u64 {
+    begin.wrapping_add(end).wrapping_sub(point)
+}
+
+/// A run; the runs of a schedule then fall, so take them from the last on.
+pub fn turn_run(begin: u64, end: u64, run: Run) -> Run {
+    Run {
+        start: turned(begin, end, run.end),
+        end: turned(begin, end, run.start),
+        ..run
+    }
+}
+
+/// A station that is asked for, the millimetre from it to the next.
+pub fn turn_station(begin: u64, end: u64, station: u64) -> u64 {
+    turned(begin, end, station).wrapping_sub(1)
+}
+
+/// A corner, counted from the sheet corner (0, 0): a point, not a millimetre.
+pub fn turn_corner(begin: u64, end: u64, corner: Corner) -> Corner {
+    Corner {
+        station: begin.wrapping_add(end) as f64 - corner.station,
+        ..corner
+    }
+}
+
+/// The overhangs `before` and `after` of a side change places.
+pub fn turn_overhangs(before: u64, after: u64) -> (u64, u64) {
+    (after, before)
 }
 
 /// A number takes at most six bytes, of seven bits each.
@@ -1139,8 +1275,8 @@ impl Reader<'_> {
 /// it is of kind 2, without one of kind 1. Lengths and stations in millimetres.
 #[derive(Clone, Copy, Debug, PartialEq, Eq)]
 pub struct Header {
-    pub road_begin: u64,
-    pub road_end: u64,
+    pub begin: u64,
+    pub end: u64,
     pub runout_forward: u64,
     /// 0: one-way, or separated carriageways.
     pub runout_opposite: u64,
@@ -1182,8 +1318,8 @@ impl Header {
     /// Header numbers 2 to 13.
     fn lengths(&self) -> [u64; 12] {
         [
-            self.road_begin,
-            self.road_end,
+            self.begin,
+            self.end,
             self.runout_forward,
             self.runout_opposite,
             self.clear_zone,
@@ -1204,7 +1340,7 @@ impl Header {
         if kind != 1 && kind != 2 {
             return fault_at_byte(begin, "the kind is neither 1 nor 2");
         }
-        let [road_begin, road_end, runout_forward, runout_opposite, clear_zone, centreline, barrier_offset, deflection, flare_along, flare_across, straight, continuity] =
+        let [begin, end, runout_forward, runout_opposite, clear_zone, centreline, barrier_offset, deflection, flare_along, flare_across, straight, continuity] =
             reader.numbers()?;
         let panel = if kind == 2 {
             Some(reader.number()?)
@@ -1212,8 +1348,8 @@ impl Header {
             None
         };
         Ok(Header {
-            road_begin,
-            road_end,
+            begin,
+            end,
             runout_forward,
             runout_opposite,
             clear_zone,
@@ -1437,8 +1573,8 @@ mod tests {
     #[test]
     fn a_header_is_written_in_its_order() {
         let mut header = Header {
-            road_begin: 10,
-            road_end: 11,
+            begin: 10,
+            end: 11,
             runout_forward: 12,
             runout_opposite: 13,
             clear_zone: 14,
@@ -1669,24 +1805,26 @@ mod tests {
         let mut out = [0; 7];
         assert_eq!(
             format!("{:#}", refusal(plan(&PRINTED, RIGHT, &mut out))),
-            "refused 9 with 8, the schedule takes 8 bytes; lend as many bytes; 5624 always suffice"
+            "refused 9 with 8, the schedule takes 8 bytes; lend as many bytes; \
+             BARRIER_SCHEDULE_MAX, 5624, always suffice"
         );
         assert_eq!(
             format!("{:#}", refusal(level(&PRINTED, 2, 0))),
             "refused 8 with 0, the side is neither 0 (right) nor 1 (left); \
-             side 2 was asked for: ask for 0 or 1"
+             ask for BARRIER_RIGHT or BARRIER_LEFT"
         );
     }
 
-    /// The hazard that is asked for is in the words; the reply has it not.
+    /// The hazard that is asked for is in the call; the reply has it not.
     #[test]
-    fn refusals_of_an_approach_name_the_hazard() {
+    fn refusals_of_an_approach() {
         let words = "refused 14 with 0, no such hazard, or adjacent traffic does not reach it; \
-                     hazard 9 was asked for: ";
+                     hazards count from 0";
         let corners = refusal(corners(&PRINTED, 9, 0, 0));
         let offset = refusal(offset(&PRINTED, 9, 0));
         assert!(format!("{corners:#}").starts_with(words), "{corners:#}");
         assert!(format!("{offset:#}").starts_with(words), "{offset:#}");
+        assert_eq!(corners.call, Call::Corners { hazard: 9 });
         assert_eq!(
             refusal(super::corners(&PRINTED, 0, STATION_MAX + 1, 0)).to_string(),
             "refused 8 with 0, a number of the sheet corner is above 1000000000000"
@@ -1731,8 +1869,7 @@ mod tests {
         assert_eq!(
             format!("{:#}", refusal(job.return_to(3))),
             "refused 13 with 0, the state number is above 7, or nothing is kept under it; \
-             state 3 was asked for: return to a number from 0 to 7 that was kept since the job \
-             was opened"
+             return to a number from 0 to 7 that was kept since the job was opened"
         );
         for name in 1_000..1_255 {
             assert_eq!(job.add(name, headwall), Ok(()));
@@ -1781,20 +1918,115 @@ mod tests {
         );
     }
 
-    /// 6 is not given any more, and 18 not yet.
+    /// 6 is not given any more, and 18 not yet; tests/refusals.rs has all rows.
     #[test]
-    fn each_number_of_the_table_has_words() {
-        let unknown = "a number that barrier.h does not have for this call";
-        for number in 1..=18 {
+    fn what_is_not_given_is_said_to_be_that() {
+        let said = |call, number, value| {
             let refusal = Refusal {
-                call: Call::Add,
+                call,
                 number,
-                value: 1,
+                value,
             };
-            let known = number != 6 && number != 18;
-            assert_eq!(refusal.reason() != unknown, known, "{number}");
-            assert_eq!(refusal.remedy().contains(VERSION), !known, "{number}");
+            (refusal.reason(), refusal.remedy())
+        };
+        let (reason, remedy) = said(Call::Add, 6, 0);
+        assert_eq!(
+            reason,
+            "a number that barrier.h does not have for this call"
+        );
+        assert!(remedy.starts_with("look whether"));
+        assert_eq!(said(Call::Add, 18, 0).0, reason);
+        assert_eq!(said(Call::Plan { side: 0 }, HEADER_RANGE, 0).0, reason);
+        assert_eq!(said(Call::Plan { side: 0 }, HEADER_RANGE, 16).0, reason);
+        assert_ne!(said(Call::Plan { side: 0 }, HEADER_RANGE, 15).0, reason);
+        assert_eq!(said(Call::Layout, DONE, 0).0, "done");
+    }
+
+    #[test]
+    fn kilometres_there_and_back() {
+        for (station, mm) in [
+            ("0+000.000", 0),
+            ("1+250.000", 1_250_000),
+            ("999000+155.773", 999_000_155_773),
+            ("1000000+000.000", STATION_MAX),
+        ] {
+            assert_eq!(kilometres(mm), station);
+            assert_eq!(mm_of_kilometres(station), Some(mm));
         }
+        assert_eq!(mm_of_kilometres("1+250"), Some(1_250_000));
+        for wrong in [
+            "",
+            "+",
+            "1+",
+            "+250",
+            "1250",
+            "1+25",
+            "1+2500",
+            "1+250.",
+            "1+250.00",
+            "1+250.0000",
+            "1+250,000",
+            "-1+250",
+            "1++50",
+            "1+250+000",
+            "1.5+250",
+            " 1+250",
+            "1000000+000.001",
+            "99999999999999999999+000",
+        ] {
+            assert_eq!(mm_of_kilometres(wrong), None, "{wrong}");
+        }
+    }
+
+    /// The figures of barrier.h, "Sides and traffic", where traffic drives on the
+    /// right and on the left.
+    #[test]
+    fn sides_are_swapped() {
+        let mut job = printed();
+        job.header.runout_opposite = 101_000;
+        job.header.centreline = 3_500;
+        job.header.flare_across = 0;
+        let mut run_of = |side| {
+            job.hazards[0].side = side;
+            let planned = plan_side(&job.encode(), side).expect("a plan");
+            let runs = decode_schedule(&planned.schedule).expect("a schedule");
+            (runs[0].start, runs[0].end)
+        };
+        assert_eq!(run_of(RIGHT), (132_666, 238_056));
+        assert_eq!(run_of(LEFT), (171_944, 277_334));
+        assert_eq!(run_of(swap_side(LEFT)), (132_666, 238_056));
+        assert_eq!(run_of(swap_side(RIGHT)), (171_944, 277_334));
+        assert_eq!(swap_side(2), 2);
+    }
+
+    /// The figures of the sample job, towards falling stations, and back.
+    #[test]
+    fn a_road_is_turned_round() {
+        let mut job = printed();
+        let Header { begin, end, .. } = job.header;
+        let headwall = job.hazards[0];
+        let turned = turn_hazard(begin, end, headwall);
+        assert_eq!(
+            (turned.side, turned.start, turned.end),
+            (LEFT, 790_000, 800_000)
+        );
+        assert_eq!(turn_hazard(begin, end, turned), headwall);
+        job.hazards[0] = turned;
+        let bytes = job.encode();
+        let planned = plan_side(&bytes, swap_side(RIGHT)).expect("a plan");
+        let run = decode_schedule(&planned.schedule).expect("a schedule")[0];
+        assert_eq!((run.start, run.end), (745_773, 800_000));
+        let back = turn_run(begin, end, run);
+        assert_eq!((back.start, back.end, back.level), (200_000, 254_227, 3));
+        let upstream = corners(&bytes, 0, 0, 0).expect("corners").upstream;
+        let upstream = turn_corner(begin, end, upstream);
+        assert_eq!((upstream.station, upstream.offset), (254_227.0, 5_059.0));
+        let at = |station| level(&bytes, LEFT, turn_station(begin, end, station));
+        assert_eq!(at(254_226), Ok(NC_3));
+        assert_eq!(at(254_227), Ok(0));
+        assert_eq!(at(199_999), Ok(0));
+        assert_eq!(at(200_000), Ok(NC_3));
+        assert_eq!(turn_overhangs(1, 2), (2, 1));
     }
 
     #[test]

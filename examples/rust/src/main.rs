@@ -12,11 +12,13 @@ use std::io::{self, Write};
 use std::ops::Range;
 use std::process::ExitCode;
 
-use example::barrier::{self, Corner, Corners, Refusal, Side, LEFT, NC_3, RIGHT, SCHEDULE_MAX};
+use example::barrier::{
+    self, Corner, Corners, PlannedSide, Refusal, LEFT, NC_3, RIGHT, SCHEDULE_MAX,
+};
 use example::printed;
 use example::show::{self, in_words, Stop};
 
-const ROAD_END: u64 = printed::HEADER.road_end;
+const ROAD_END: u64 = printed::HEADER.end;
 
 /// The price of one millimetre of barrier in cents: 120.00 a metre.
 const CENTS_A_MILLIMETRE: u64 = 12;
@@ -180,7 +182,7 @@ fn print_overhang(out: &mut impl Write) -> Result<(), Stop> {
     job.header.flare_across = 0;
     job.hazards[0].start = 67_333;
     let answer = barrier::plan_side(&job.encode(), RIGHT);
-    let Side {
+    let PlannedSide {
         schedule,
         before,
         after,

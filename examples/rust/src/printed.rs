@@ -4,8 +4,8 @@ use crate::barrier::{Hazard, Header, Job, NC_3, RIGHT};
 
 /// One kilometre of road with forward traffic alone.
 pub const HEADER: Header = Header {
-    road_begin: 0,
-    road_end: 1_000_000,
+    begin: 0,
+    end: 1_000_000,
     runout_forward: 101_000,
     runout_opposite: 0,
     clear_zone: 9_000,

@@ -34,8 +34,9 @@ const SIDES: [(&str, u64); 2] = [("right", RIGHT), ("left", LEFT)];
 /// The contract's lots end where these stations are.
 const LOT_STATIONS: [u64; 5] = [0, 180_000, 400_000, 700_000, 1_000_000];
 
-/// The panel lengths that the yard stocks.
-const YARD: [u64; 2] = [4_000, 2_500];
+/// The panel lengths that the yard stocks; with the shortest first fewer panels
+/// are taken.
+const YARD: [u64; 2] = [2_500, 4_000];
 
 /// The names under which hazards stand are the numbers of their drawings.
 const HEADWALL: u16 = 7;
@@ -157,7 +158,7 @@ fn print_quantities(out: &mut impl Write, job: &OpenJob) -> Done {
     for (name, side) in SIDES {
         let schedule = job.plan_side(side)?.schedule;
         for level in NC_1..=NC_6 {
-            let road = quantity(&schedule, level, HEADER.road_begin, HEADER.road_end)?;
+            let road = quantity(&schedule, level, HEADER.begin, HEADER.end)?;
             if road == 0 {
                 continue;
             }
@@ -178,7 +179,7 @@ fn panels(out: &mut impl Write, job: &OpenJob) -> Done {
     let first = runs.first().ok_or("no run on the right")?;
     let run = first.end - first.start;
     writeln!(out, "Panels of {} and {} mm for {run} mm", YARD[0], YARD[1])?;
-    for limit in [95, TRIES_MAX] {
+    for limit in [15, TRIES_MAX] {
         let Layout {
             covering,
             tries,
@@ -187,8 +188,8 @@ fn panels(out: &mut impl Write, job: &OpenJob) -> Done {
         write!(out, "  at most {limit} tries: ")?;
         match covering {
             Some(laid) => {
-                let [long, short, ..] = laid.counts;
-                write!(out, "{long} and {short}, {} mm over", laid.overrun)?;
+                let [short, long, ..] = laid.counts;
+                write!(out, "{short} and {long}, {} mm over", laid.overrun)?;
             }
             None => write!(out, "no layout covers it")?,
         }
@@ -233,7 +234,7 @@ fn day(out: &mut impl Write) -> Done {
         return Err(format!("engine {linked} is linked, and {VERSION} is needed").into());
     }
     let mut job = OpenJob::new(&HEADER.encode())?;
-    let (begin, end) = (metres(HEADER.road_begin), metres(HEADER.road_end));
+    let (begin, end) = (metres(HEADER.begin), metres(HEADER.end));
     writeln!(out, "Opened: {begin} to {end} m")?;
     morning(out, &mut job)?;
     variant(out, &mut job)?;

@@ -8,7 +8,7 @@
 use std::io::Write;
 use std::process::ExitCode;
 
-use example::barrier::{self, Hazard, OpenJob, Refusal, Side, NC_2, NC_3, NC_4, RIGHT};
+use example::barrier::{self, Hazard, OpenJob, PlannedSide, Refusal, NC_2, NC_3, NC_4, RIGHT};
 use example::printed;
 use example::show::{self, in_numbers, Stop};
 
@@ -65,7 +65,7 @@ fn refused(
 
 /// The runs of the right side, as they are now, and its overhang.
 fn print_runs(out: &mut impl Write, job: &OpenJob) -> Result<(), Stop> {
-    let Side {
+    let PlannedSide {
         schedule,
         before,
         after,
