@@ -1,6 +1,6 @@
 # Two commands for a fresh machine with the Rattle toolchain, gcc and cargo: make run, make test. The second also needs g++ and pkg-config.
 # Beside them: make fuzz SECONDS=n, make bench, make bench-instructions (with valgrind), and Makefile.vendor's make install and make examples.
-.PHONY: run test proved engine hand fuzz bench bench-instructions
+.PHONY: run test promises proved engine hand fuzz bench bench-instructions
 
 SECONDS ?= 60
 CARGO = cargo --quiet
@@ -13,9 +13,13 @@ run:
 	@target/bin/barrier <crates/barrier/stdin
 
 # Everything. The toolchain's gate comes last: all proved from nothing, each must-fail edit refused, each program run.
-test: hand vendor-test
+test: promises hand vendor-test
 	rt fmt --check
 	rt ci
+
+# The index of promises, which the prover reads, has every theorem that docs/PROMISES.md names.
+promises:
+	python3 -B tests/promises.py
 
 # The program and the archive, proved.
 engine: proved target/staticlib/libbarrier_engine.a

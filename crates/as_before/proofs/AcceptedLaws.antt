@@ -5,27 +5,26 @@ use native.Mathlib.Omega.{arith}
 use mathlib.Core.Path.{_≡_, refl, sym, ap, _∙_}
 use mathlib.Core.Bool.{true}
 use mathlib.Core.List.{List, [], _∷_, _++_, List·Memᴰ·not-nil}
-use lib.ListN.{length, getD, drop}
+use lib.ListN.{length, getD}
 use borrow.Author.Tests.{le-leb}
 use Rattle.refusal.specs.Answer.{accepted}
 use Rattle.refusal.proofs.TestLaws.{and-intro}
 use Rattle.refusal.proofs.EachLaws.{cons-each}
 use Rattle.job.specs.declared.Header.{Header}
 use Rattle.job.specs.declared.Hazard.{Hazard}
-use Rattle.job.specs.Job.{Job, Range, _to_, sharedRanges, headerRanges, hazardRanges, nextInHeader, headerOf, hazardOf}
-use Rattle.job.specs.Writing.{headerNumbers, hazardsNumbers, numbersOf}
+use Rattle.job.specs.declared.Bounds.{Bounds}
+use Rattle.job.specs.Job.{Job, _to_, sharedRanges, headerRanges, hazardRanges, nextInHeader}
+use Rattle.job.specs.Writing.{headerNumbers, hazardsNumbers, numbersOf, printedJob}
 use Rattle.job.specs.Fits.{inRanges, headerInRange, hazardInRange, HeaderFits, HazardFits}
 use Rattle.job.proofs.RangeLaws.{within-low, within-high, ranges-cons, ranges-high}
 use Rattle.planning.specs.Envelope.{acceptJob}
-use Rattle.planning.specs.Rows.{Passed}
-use Rattle.planning.proofs.EnvelopeLaws.{AcceptedFits}
+use Rattle.planning.specs.Rows.{Passed, AcceptedFits}
 use Rattle.planning.proofs.AcceptedLaws.{fitting-accepted}
-use Rattle.report.specs.Printed.{printedJob}
-use Rattle.as_before.specs.AcceptedBefore.{writtenBefore, rowsBefore, nextBefore, HeaderBefore, JobBefore}
+use Rattle.as_before.specs.AcceptedBefore.{writtenBefore, rowsBefore, nextBefore, HeaderBefore, JobBefore, paperJob, limitJob}
 use Rattle.as_before.proofs.FiveByteLaws.{job-five}
 
 -- A range that has whatever another has.
-abbrev Contains : Range → Range → Type 0
+abbrev Contains : Bounds → Bounds → Type 0
 Contains r q = (q .low ≤ r .low) × (r .high ≤ q .high)
 
 -- Only A and B have wider ranges.
@@ -39,7 +38,7 @@ row-contains kind A (suc (suc (suc k))) = (omega arith, omega arith)
 header-contains : (got : List ℕ) → Contains (nextBefore got) (nextInHeader got)
 header-contains got = row-contains (getD got 0 0) (getD got 1 0) (length got)
 
-ranges-wider : (a b : List ℕ → Range) → ((got : List ℕ) → Contains (a got) (b got)) → (got xs : List ℕ) → inRanges a got xs ≡ true → inRanges b got xs ≡ true
+ranges-wider : (a b : List ℕ → Bounds) → ((got : List ℕ) → Contains (a got) (b got)) → (got xs : List ℕ) → inRanges a got xs ≡ true → inRanges b got xs ≡ true
 unfolding inRanges
 ranges-wider a b wider got [] e = refl
 ranges-wider a b wider got (x ∷ xs) e =
@@ -65,30 +64,21 @@ module _ (s : List ℕ) (j : Job) (b : JobBefore s j) where
       ap acceptJob (b .bytes ∙ sym (job-five j (b .header) (road-before (j .header) (b .header)) (b .hazards .each)))
       ∙ fitting-accepted j before-fits
 
--- Document 01's job on paper was one.
-abbrev pub printed : Job
-printed = record { header = headerOf printedJob; hazards = hazardOf (drop 14 printedJob) ∷ [] }
-
-pub printed-before : JobBefore (writtenBefore printedJob) printed
+-- Two that were accepted.
+pub printed-before : JobBefore (writtenBefore printedJob) paperJob
 unfolding printedJob numbersOf hazardsNumbers headerRanges sharedRanges inRanges hazardInRange hazardRanges
 printed-before = record {
   bytes = refl;
   header = record { numbers = refl; panel = refl };
-  hazards = record { count = refl; each = cons-each (λ (z : Hazard). HazardFits (printed .header) z) refl (λ z m. absurd (List·Memᴰ·not-nil m)) };
-  passed = cons-each (Passed (printed .header)) (record { clear = λ r. omega arith }) (λ z m. absurd (List·Memᴰ·not-nil m));
+  hazards = record { count = refl; each = cons-each (λ (z : Hazard). HazardFits (paperJob .header) z) refl (λ z m. absurd (List·Memᴰ·not-nil m)) };
+  passed = cons-each (Passed (paperJob .header)) (record { clear = λ r. omega arith }) (λ z m. absurd (List·Memᴰ·not-nil m));
 }
 
--- So was one at the limits: of kind 2, on the last millimetre of the longest chainage.
-abbrev pub limit : Job
-limit =
-    let numbers : List ℕ = 2 ∷ 1999999999 ∷ 2000000000 ∷ 1 ∷ 0 ∷ 1 ∷ 0 ∷ 0 ∷ 1 ∷ 1 ∷ 0 ∷ 0 ∷ 0 ∷ 10000 ∷ 1 ∷ [] in
-    record { header = headerOf numbers; hazards = hazardOf (1 ∷ 1999999999 ∷ 2000000000 ∷ 60000 ∷ 60000 ∷ 6 ∷ []) ∷ [] }
-
-pub limit-before : JobBefore (writtenBefore (numbersOf limit)) limit
+pub limit-before : JobBefore (writtenBefore (numbersOf limitJob)) limitJob
 unfolding headerRanges sharedRanges inRanges hazardInRange hazardRanges
 limit-before = record {
   bytes = refl;
   header = record { numbers = refl; panel = refl };
-  hazards = record { count = refl; each = cons-each (λ (z : Hazard). HazardFits (limit .header) z) refl (λ z m. absurd (List·Memᴰ·not-nil m)) };
-  passed = cons-each (Passed (limit .header)) (record { clear = λ r. omega arith }) (λ z m. absurd (List·Memᴰ·not-nil m));
+  hazards = record { count = refl; each = cons-each (λ (z : Hazard). HazardFits (limitJob .header) z) refl (λ z m. absurd (List·Memᴰ·not-nil m)) };
+  passed = cons-each (Passed (limitJob .header)) (record { clear = λ r. omega arith }) (λ z m. absurd (List·Memᴰ·not-nil m));
 }

@@ -18,8 +18,8 @@ use Rattle.job.specs.Job.{Job}
 use Rattle.job.specs.Writing.{writeJob}
 use Rattle.runs.specs.declared.Stretch.{Stretch}
 use Rattle.runs.specs.Level.{Has}
-use Rattle.runs.specs.RunList.{lastEnd}
-use Rattle.runs.proofs.RunLaws.{Rising, run-list-short, run-list-rising}
+use Rattle.runs.specs.RunList.{lastEnd, Rising}
+use Rattle.runs.proofs.RunLaws.{run-list-short, run-list-rising}
 use Rattle.planning.specs.Envelope.{acceptJob}
 use Rattle.planning.specs.Required.{jobRuns}
 use Rattle.planning.proofs.EnvelopeLaws.{accepted-fits}

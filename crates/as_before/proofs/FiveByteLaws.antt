@@ -12,13 +12,13 @@ use Rattle.number.specs.Number.{writeIn, writeNumber}
 use Rattle.number.proofs.WriteLaws.{write-five}
 use Rattle.job.specs.declared.Header.{Header}
 use Rattle.job.specs.declared.Hazard.{Hazard}
-use Rattle.job.specs.Job.{Job, Range, _to_, sharedRanges, headerRanges, nextInHazard}
+use Rattle.job.specs.declared.Bounds.{Bounds}
+use Rattle.job.specs.Job.{Job, _to_, sharedRanges, headerRanges, nextInHazard}
 use Rattle.job.specs.Writing.{headerNumbers, hazardNumbers, hazardsNumbers, numbersOf, writeNumbers, writeJob}
 use Rattle.job.specs.Fits.{inRanges, hazardInRange, HazardFits}
 use Rattle.job.proofs.RangeLaws.{within-high, ranges-cons, highs-most, hazard-most}
 use Rattle.runs.specs.declared.Stretch.{Stretch}
-use Rattle.runs.specs.RunList.{mostRuns}
-use Rattle.runs.proofs.RunLaws.{Rising}
+use Rattle.runs.specs.RunList.{mostRuns, Rising}
 use Rattle.schedule.specs.Schedule.{writeRecord, writeRecords, writeSchedule}
 use Rattle.as_before.specs.AcceptedBefore.{writtenBefore, rowsBefore, nextBefore, HeaderBefore, recordNumbers, allRecordNumbers, scheduleBefore}
 
@@ -43,7 +43,7 @@ numbers-five (x ∷ xs) a = ap₂ (λ (l m : List ℕ). l ++ m) (write-five x (o
 
 -- Jobs
 
-ranges-small : (rangeOf : List ℕ → Range) → ((got : List ℕ) → rangeOf got .high ≤ 2000000000) → (got xs : List ℕ) → inRanges rangeOf got xs ≡ true → Small xs
+ranges-small : (rangeOf : List ℕ → Bounds) → ((got : List ℕ) → rangeOf got .high ≤ 2000000000) → (got xs : List ℕ) → inRanges rangeOf got xs ≡ true → Small xs
 ranges-small rangeOf most got [] e = tt
 ranges-small rangeOf most got (x ∷ xs) e =
     let here = ranges-cons rangeOf got x xs e in
@@ -53,7 +53,7 @@ rows-most : (got : List ℕ) → nextBefore got .high ≤ 2000000000
 unfolding headerRanges sharedRanges allOf
 rows-most got = highs-most 2000000000 (rowsBefore (getD got 0 0) (getD got 1 0)) (rows (eqb (getD got 0 0) 2) (getD got 1 0)) (length got)
   where
-    rows : (t : Bool) (A : ℕ) → allOf (λ (r : Range). leb (r .high) 2000000000) (take 3 (rowsBefore 1 A) ++ drop 3 (sharedRanges A) ++ (if t then 1 to 10000 ∷ 0 to 256 ∷ [] else 0 to 256 ∷ [])) ≡ true
+    rows : (t : Bool) (A : ℕ) → allOf (λ (r : Bounds). leb (r .high) 2000000000) (take 3 (rowsBefore 1 A) ++ drop 3 (sharedRanges A) ++ (if t then 1 to 10000 ∷ 0 to 256 ∷ [] else 0 to 256 ∷ [])) ≡ true
     rows true A = refl
     rows false A = refl
 

@@ -9,8 +9,9 @@ use lib.Dec.{eqb}
 use Rattle.number.specs.Number.{writeIn}
 use Rattle.job.specs.declared.Header.{Header}
 use Rattle.job.specs.declared.Hazard.{Hazard}
-use Rattle.job.specs.Job.{Job, Range, _to_, headerRanges}
-use Rattle.job.specs.Writing.{headerNumbers, numbersOf}
+use Rattle.job.specs.declared.Bounds.{Bounds}
+use Rattle.job.specs.Job.{Job, _to_, headerRanges, headerOf, hazardOf}
+use Rattle.job.specs.Writing.{headerNumbers, numbersOf, printedJob}
 use Rattle.job.specs.Fits.{inRanges, HazardsFit}
 use Rattle.runs.specs.declared.Stretch.{Stretch}
 use Rattle.runs.specs.RunList.{isRunList}
@@ -24,10 +25,10 @@ writtenBefore (x ∷ xs) = writeIn 5 x ++ writtenBefore xs
 -- Jobs
 
 -- The header table as it was: A "0 to 1,999,999,999", B "A + 1 to 2,000,000,000"; no other row was altered.
-abbrev pub rowsBefore : (kind A : ℕ) → List Range
+abbrev pub rowsBefore : (kind A : ℕ) → List Bounds
 rowsBefore kind A = 1 to 2 ∷ 0 to 1999999999 ∷ (A + 1) to 2000000000 ∷ drop 3 (headerRanges kind A)
 
-abbrev pub nextBefore : (got : List ℕ) → Range
+abbrev pub nextBefore : (got : List ℕ) → Bounds
 nextBefore got = getD (rowsBefore (getD got 0 0) (getD got 1 0)) (length got) (0 to 0)
 
 -- A header whose numbers lie in these ranges. Of kind 1 the panel length is 1, which is not written.
@@ -41,6 +42,15 @@ pub record JobBefore (s : List ℕ) (j : Job) : Type 0 where
   pub header : HeaderBefore (j .header)
   pub hazards : HazardsFit (j .header) (j .header .count) (j .hazards)
   pub passed : (z : Hazard) → List·Memᴰ z (j .hazards) → Passed (j .header) z
+
+-- Document 01's job on paper, and one at the limits: of kind 2, on the last millimetre of the longest chainage. (Laws printed-before, limit-before.)
+abbrev pub paperJob : Job
+paperJob = record { header = headerOf printedJob; hazards = hazardOf (drop 14 printedJob) ∷ [] }
+
+abbrev pub limitJob : Job
+limitJob =
+    let numbers : List ℕ = 2 ∷ 1999999999 ∷ 2000000000 ∷ 1 ∷ 0 ∷ 1 ∷ 0 ∷ 0 ∷ 1 ∷ 1 ∷ 0 ∷ 0 ∷ 0 ∷ 10000 ∷ 1 ∷ [] in
+    record { header = headerOf numbers; hazards = hazardOf (1 ∷ 1999999999 ∷ 2000000000 ∷ 60000 ∷ 60000 ∷ 6 ∷ []) ∷ [] }
 
 -- Schedules
 

@@ -6,14 +6,11 @@ use native.Mathlib.Omega.{arith}
 use mathlib.Core.Path.{_≡_, ap, _∙_}
 use mathlib.Core.Bool.{true}
 use mathlib.Core.List.{List, _∷_, _++_, append-assoc, List·Memᴰ, []}
-use lib.Dec.{eqb}
-use Rattle.refusal.specs.Choice.{if_then_else_}
 use Rattle.refusal.specs.Answer.{accepted}
 use Rattle.job.specs.declared.Hazard.{Hazard}
 use Rattle.job.specs.Job.{Job}
 use Rattle.job.proofs.RangeLaws.{header-bounds, hazard-bounds}
 use Rattle.runs.specs.declared.Stretch.{Stretch}
-use Rattle.runs.specs.Level.{Has}
 use Rattle.runs.proofs.RunLaws.{ShownRun, shown-run}
 use Rattle.approach.specs.Panel.{raisedLength}
 use Rattle.approach.proofs.ApproachLaws.{divisor-some}
@@ -23,21 +20,8 @@ use Rattle.planning.specs.Required.{jobRuns}
 use Rattle.planning.proofs.EnvelopeLaws.{accepted-fits, domain-of}
 use Rattle.planning.proofs.FormulaLaws.{formula-level}
 use Rattle.planning.proofs.JobRunLaws.{job-runs}
-use Rattle.report.specs.Text.{rightWord, leftWord, runLine, runLines, totalLine, covered, runsReport, reported}
+use Rattle.report.specs.Text.{rightWord, leftWord, runLine, runLines, totalLine, covered, runsReport, reported, sideWord, PrintedRun}
 use Rattle.report.proofs.LineLaws.{lines-append}
-
--- The word that a side's lines begin with.
-abbrev pub sideWord : (side : ℕ) → List ℕ
-sideWord side = if eqb side 0 then rightWord else leftWord
-
--- A run of level v or higher that has t, and its line in the text printed for s.
-pub record PrintedRun (s word : List ℕ) (v t : ℕ) : Type 0 where
-  pub run : Stretch
-  pub has : Has run t
-  pub level : v ≤ run .level
-  pub before : List ℕ
-  pub after : List ℕ
-  pub text : reported s ≡ before ++ (runLine word (run .start) (run .end) (run .level) ++ after)
 
 -- The lines of runs among which one stands.
 lines-split : (word : List ℕ) (rs before : List Stretch) (r : Stretch) (after : List Stretch) → rs ≡ before ++ r ∷ after

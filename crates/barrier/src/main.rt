@@ -4,13 +4,22 @@ ghost use mathlib.Core.Path.{_≡_};
 ghost use Prim.Native.Nat.{_≤_};
 ghost use lib.ListN.{length, take};
 ghost use Rattle.io.specs.Counts.{Counts};
+ghost use Rattle.report.specs.Input.{passedOn};
 ghost use Rattle.report.specs.Text.{reported};
 
-// Room for the first 8,192 bytes of input; no accepted job is that long.
+// Room for as many bytes as are passed on.
 fn job_room() -> [u8; 8192]
-    ensures { λ r. ⌜ 8192 ≡ length r ⌝ }
+    ensures { λ r. ⌜ passedOn ≡ length r ⌝ }
 {
     [0; 8192]
+}
+
+// So many bytes of standard input, or as many as it has. How many were read is proved to lie in the memory; which bytes they are is tested.
+fn read_input(job: &mut [u8]) -> usize
+    requires { ⌜ passedOn ≡ length (now job) ⌝ }
+    ensures { λ r. ⌜ Counts r (now (job .exit)) ⌝ }
+{
+    io::read_full(libc::STDIN_FILENO, job)
 }
 
 // Room for every report.
@@ -32,10 +41,11 @@ fn fill(job: &[u8], text: &mut [u8]) -> usize
     }
 }
 
+// That it reads into the whole room, hands over what was read and writes what was filled is tested, not proved: `main` has no contract.
 fn main() {
     let mut job = job_room();
     let mut text = text_room();
-    let read = io::read_full(libc::STDIN_FILENO, &mut job);
+    let read = read_input(&mut job);
     let count = fill(&job[..read], &mut text);
     if !io::write_all(libc::STDOUT_FILENO, &text[..count]) {
         io::write_all(

@@ -37,7 +37,7 @@ module _ {M : Type 1} {𝓤 : URA M} {H : Heap 𝓤} {A : Atoms 𝓤} {K : Type 
       use1 W (‵ (fat fullShare (rawTy (memory .ty)) b o (memory .val m))) (W .laws .at-raw fullShare (memory .ty) b o (memory .val m)) $
       owned t (memory .row) (Is (memory .row)) (memory .makes 𝓤 H A W) m (memory .val m ∷ []) fits $ move t (1 ∷ 0 ∷ []) $ closes t z (memory .row) m (memory .val m ∷ []) b o $ s)
 
--- What three calls end with: the state now is stored and the reply is given, both out of the result of a call by value.
+-- What three calls end with: the present state is stored and the reply is given, both out of the result of a call by value.
 module _ {M : Type 1} {𝓤 : URA M} {H : Heap 𝓤} {A : Atoms 𝓤} {K : Type 0} {W : Given 𝓤 H A} {Γ : List (Item 𝓤)} {E : Env 𝓤 H} {C : Calls 𝓤 H} {Λ : Loops 𝓤 H} {q : Post 𝓤 H} where
   pub changes : K → (job done : ℕ) {rest : Code} {ρ : Ty} {b o lj ld l0 : ℕ} → spotOf 𝓤 H E job ≡ (ρ, lj, zero) → spotOf 𝓤 H E done ≡ (changed .ty, ld, zero) → spotOf 𝓤 H E 0 ≡ (reply .ty, l0, zero) → (m : OpenStates) (r : Changed) → Fits changed r
       → Step K W (cellOf fullShare b o (statesFrom (r .next) (keptStates m)) ∷ ‵ (fat fullShare ρ lj zero (vptr b o)) ∷ local changed ld r ∷ local reply l0 (r .reply) ∷ Γ) (runs C Λ E rest q)

@@ -5,10 +5,9 @@ use native.Mathlib.Omega.{arith}
 use lib.Dec.{ltb}
 use mir.Syntax.{int}
 use types.Run.{lit}
-use Rattle.kept_states.specs.Parts.{chosen}
+use Rattle.kept_states.specs.Parts.{chosen, lookedFor, eachChosen}
 use Rattle.kept_states.specs.declared.KeptState.{KeptState}
 use Rattle.kept_states.specs.declared.OpenStates.{OpenStates}
-use Rattle.kept_states.proofs.WholeLaws.{eachChosen, lookedFor}
 use Rattle.kept_states.proofs.states.choose.{Symbol.name as #choose, Symbol.routine as choose-routine, Met.met as choose-met}
 use Rattle.barrier_engine.proofs.Walks.{_≡_, refl, ℕ, zero, Bool, true, some, List, [], _∷_, URA, fullShare, Holds, Ty, w64, deref, field, place, opdTrue, copy, rvOpd, Code, seq, assign, call, Val, Vals, WT, hasTy, vptr, getV, setV, fat}
 use Rattle.barrier_engine.proofs.Walks.{fieldOf, Model, Routines, GhostRules, Running, tables, Heap, Env, Calls, Loops, spotOf, Atoms, FmC, Given, Item, ‵, Post, Seq, _$_, runs, Writes, look, init, store, load, true-lit, and-then, no-more}
@@ -64,7 +63,7 @@ module _ {M : Type 1} {𝓤 : URA M} {H : Heap 𝓤} {A : Atoms 𝓤} {K : Type 
       keep-one 2 tt (refl, omega arith) refl (m .kept2) refl (p .fits2) (store t 3 refl) (λ f2. keep-one 3 tt (refl, omega arith) refl (m .kept3) refl (p .fits3) (store t 3 refl) (λ f3.
       keep-one 4 tt (refl, omega arith) refl (m .kept4) refl (p .fits4) (store t 3 refl) (λ f4. keep-one 5 tt (refl, omega arith) refl (m .kept5) refl (p .fits5) (store t 3 refl) (λ f5.
       keep-one 6 tt (refl, omega arith) refl (m .kept6) refl (p .fits6) (store t 3 refl) (λ f6. keep-one 7 tt (refl, omega arith) refl (m .kept7) refl (p .fits7) (store t 3 refl) (λ f7.
-      r (record { now-fits = p .now-fits; fits0 = f0; fits1 = f1; fits2 = f2; fits3 = f3; fits4 = f4; fits5 = f5; fits6 = f6; fits7 = f7 })))))))))
+      r (record { present-fits = p .present-fits; fits0 = f0; fits1 = f1; fits2 = f2; fits3 = f3; fits4 = f4; fits5 = f5; fits6 = f6; fits7 = f7 })))))))))
 
 -- ---- returning: what is kept under a number is looked for
 abbrev findOf : (job state slot found k : ℕ) → Code → Code

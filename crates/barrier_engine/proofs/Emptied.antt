@@ -1,9 +1,8 @@
 -- An opening that was done empties each of the eight kept states.
 -- Assumes nothing.
-use Rattle.kept_states.specs.Parts.{emptied}
+use Rattle.kept_states.specs.Parts.{emptied, eachEmptied}
 use Rattle.kept_states.specs.declared.KeptState.{KeptState}
 use Rattle.kept_states.specs.declared.OpenStates.{OpenStates}
-use Rattle.kept_states.proofs.WholeLaws.{eachEmptied}
 use Rattle.kept_states.proofs.states.empty.{Symbol.name as #empty, Symbol.routine as empty-routine, Met.met as empty-met}
 use Rattle.barrier_engine.proofs.Walks.{_≡_, refl, ℕ, zero, Bool, some, List, [], _∷_, URA, fullShare, Holds, Ty, place, copy, Code, Vals, WT, hasTy, vptr, getV, setV, fat, fieldOf, Model, Routines, GhostRules, Running, tables, Heap, Env}
 use Rattle.barrier_engine.proofs.Walks.{Calls, Loops, spotOf, Atoms, FmC, Given, Item, ‵, Post, Seq, runs, Writes, look, init, store, load, and-then, no-more, Denots, Triple, cited}
@@ -42,11 +41,11 @@ module _ {M : Type 1} {𝓤 : URA M} {H : Heap 𝓤} {A : Atoms 𝓤} {K : Type 
       (and-then t (load t (here t at-done) (look t 4 refl)) (and-then t (load t (here t at-old) (look t 3 refl)) (no-more t))) into-new r
 
   pub each-emptied : {rest : Code} (m : OpenStates) → Parts m
-      → (Parts (eachEmptied m d (m .now)) → Seq K W (cellOf fullShare b o (eachEmptied m d (m .now)) ∷ ‵ (fat fullShare ρ lj zero (vptr b o)) ∷ local kept ln (emptied d (m .kept7)) ∷ local kept lo (m .kept7) ∷ local truth ld d ∷ Γ) (runs C Λ E rest q))
+      → (Parts (eachEmptied m d (m .present)) → Seq K W (cellOf fullShare b o (eachEmptied m d (m .present)) ∷ ‵ (fat fullShare ρ lj zero (vptr b o)) ∷ local kept ln (emptied d (m .kept7)) ∷ local kept lo (m .kept7) ∷ local truth ld d ∷ Γ) (runs C Λ E rest q))
       → Seq K W (cellOf fullShare b o m ∷ ‵ (fat fullShare ρ lj zero (vptr b o)) ∷ room kept ln ∷ room kept lo ∷ local truth ld d ∷ Γ) (runs C Λ E (empties job done old new rest) q)
   each-emptied m p r =
       one 1 refl (m .kept0) refl (p .fits0) (init t 3 refl) (init t 2 refl) (λ f0. one 2 refl (m .kept1) refl (p .fits1) (store t 3 refl) (store t 2 refl) (λ f1.
       one 3 refl (m .kept2) refl (p .fits2) (store t 3 refl) (store t 2 refl) (λ f2. one 4 refl (m .kept3) refl (p .fits3) (store t 3 refl) (store t 2 refl) (λ f3.
       one 5 refl (m .kept4) refl (p .fits4) (store t 3 refl) (store t 2 refl) (λ f4. one 6 refl (m .kept5) refl (p .fits5) (store t 3 refl) (store t 2 refl) (λ f5.
       one 7 refl (m .kept6) refl (p .fits6) (store t 3 refl) (store t 2 refl) (λ f6. one 8 refl (m .kept7) refl (p .fits7) (store t 3 refl) (store t 2 refl) (λ f7.
-      r (record { now-fits = p .now-fits; fits0 = f0; fits1 = f1; fits2 = f2; fits3 = f3; fits4 = f4; fits5 = f5; fits6 = f6; fits7 = f7 })))))))))
+      r (record { present-fits = p .present-fits; fits0 = f0; fits1 = f1; fits2 = f2; fits3 = f3; fits4 = f4; fits5 = f5; fits6 = f6; fits7 = f7 })))))))))

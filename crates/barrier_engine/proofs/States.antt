@@ -23,7 +23,7 @@ use Rattle.replies.proofs.open.Changed.Laws as Changed·t′
 abbrev pub header : Data
 header = struct Header·t.the-type Header·t′.the-laws Header·t′.the-plain Header·t′.the-copy
 
--- a stored job: the state now
+-- a stored job: the present state
 abbrev pub stored : Data
 stored = struct StoredJob·t.the-type StoredJob·t′.the-laws StoredJob·t′.the-plain StoredJob·t′.the-copy
 
@@ -54,7 +54,7 @@ pub changed-fits : (r : Changed) → Fits changed r → Fits stored (r .next) ×
 changed-fits r fits = let p = LL.owed Changed·t.the-type Changed·t′.the-laws r _ fits in (p .0, p .1 .0)
 
 pub record Parts (m : OpenStates) : Type 0 where
-  pub now-fits : Fits stored (m .now)
+  pub present-fits : Fits stored (m .present)
   pub fits0 : Fits kept (m .kept0)
   pub fits1 : Fits kept (m .kept1)
   pub fits2 : Fits kept (m .kept2)
@@ -68,7 +68,7 @@ pub parts : (m : OpenStates) → Fits memory m → Parts m
 parts m fits =
     let p = LL.owed OpenStates·t.the-type OpenStates·t′.the-laws m _ fits in
     record {
-      now-fits = p .0;
+      present-fits = p .0;
       fits0 = p .1 .0;
       fits1 = p .1 .1 .0;
       fits2 = p .1 .1 .1 .0;
@@ -81,8 +81,8 @@ parts m fits =
 
 pub whole : (m : OpenStates) → Parts m → Fits memory m
 whole m p = LL.owes OpenStates·t.the-type OpenStates·t′.the-laws m
-    (p .now-fits, (p .fits0, (p .fits1, (p .fits2, (p .fits3, (p .fits4, (p .fits5, (p .fits6, (p .fits7, tt)))))))))
+    (p .present-fits, (p .fits0, (p .fits1, (p .fits2, (p .fits3, (p .fits4, (p .fits5, (p .fits6, (p .fits7, tt)))))))))
 
--- another state now
+-- another present state
 pub with-now : (m : OpenStates) (x : StoredJob) → Parts m → Fits stored x → Parts (statesFrom x (keptStates m))
-with-now m x p f = record { now-fits = f; fits0 = p .fits0; fits1 = p .fits1; fits2 = p .fits2; fits3 = p .fits3; fits4 = p .fits4; fits5 = p .fits5; fits6 = p .fits6; fits7 = p .fits7 }
+with-now m x p f = record { present-fits = f; fits0 = p .fits0; fits1 = p .fits1; fits2 = p .fits2; fits3 = p .fits3; fits4 = p .fits4; fits5 = p .fits5; fits6 = p .fits6; fits7 = p .fits7 }

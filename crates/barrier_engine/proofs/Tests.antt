@@ -1,8 +1,7 @@
 -- The test of the eight kept states, which five calls begin with. It is one piece of code over four locals, which hold the reference to the memory, the header, whether what was tested is sound, and one kept state:
 -- walked once here, at any locals and wherever it stands.
 -- Assumes nothing.
-use Rattle.kept_states.specs.Parts.{alsoSound}
-use Rattle.kept_states.proofs.WholeLaws.{allSound}
+use Rattle.kept_states.specs.Parts.{alsoSound, allSound}
 use Rattle.job.specs.declared.Header.{Header}
 use Rattle.kept_states.specs.declared.KeptState.{KeptState}
 use Rattle.kept_states.specs.declared.OpenStates.{OpenStates}
@@ -62,11 +61,11 @@ module _ {M : Type 1} {𝓤 : URA M} {H : Heap 𝓤} {A : Atoms 𝓤} {K : Type 
   again {z = z} h h-fits k e x is fits = one h h-fits k e x is fits z (store t 4 refl) (load t (here t at-sound) (look t 3 refl)) (λ v. store t 3 refl)
 
   pub all-tested : {m : OpenStates} {rest : Code} → Parts m
-      → Step K W (cellOf s b o m ∷ ‵ (fat fullShare ρ lj zero (vptr b o)) ∷ local header lh (m .now .header) ∷ local truth ls (allSound m) ∷ local kept lk (m .kept7) ∷ Γ) (runs C Λ E rest q)
+      → Step K W (cellOf s b o m ∷ ‵ (fat fullShare ρ lj zero (vptr b o)) ∷ local header lh (m .present .header) ∷ local truth ls (allSound m) ∷ local kept lk (m .kept7) ∷ Γ) (runs C Λ E rest q)
       (cellOf s b o m ∷ ‵ (fat fullShare ρ lj zero (vptr b o)) ∷ room header lh ∷ room truth ls ∷ room kept lk ∷ Γ) (runs C Λ E (tests job head sound slot rest) q)
   all-tested {m} p = step (λ r.
-      let h : Header = m .now .header in
-      let hf : Fits header h = header-fits (m .now) (p .now-fits) in
+      let h : Header = m .present .header in
+      let hf : Fits header h = header-fits (m .present) (p .present-fits) in
       assigns t (of-opd t (load t (behind t at-job (look t 1 refl) (fld t refl (fld t refl (stop t)))) (look-in t 0 (sub t 0 refl (sub t 0 refl (all t)))))) (here t at-head) (init t 2 refl (header .typed 𝓤 H A W h hf)) $
       one h hf 1 refl (m .kept0) refl (p .fits0) true (init t 4 refl) (true-lit t) (λ v. init t 3 refl) $
       again h hf 2 refl (m .kept1) refl (p .fits1) $ again h hf 3 refl (m .kept2) refl (p .fits2) $ again h hf 4 refl (m .kept3) refl (p .fits3) $

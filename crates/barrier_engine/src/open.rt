@@ -26,8 +26,8 @@ ghost use Rattle.replies.specs.Interface.{replyOf, planReplyOf};
 pub extern "C" fn barrier_open(job: &mut OpenStates, bytes: &[u8]) -> Reply
     ensures { λ r. ⌜ (now (job .exit) ≡ memoryAfter (openStates (now (bytes .entry))) (now (job .entry))) × (r ≡ replyOf (replied (openStates (now (bytes .entry))))) ⌝ }
 {
-    let opening = opened((*job).now, bytes);
-    (*job).now = opening.next;
+    let opening = opened((*job).present, bytes);
+    (*job).present = opening.next;
     let done = opening.done;
     (*job).kept0 = empty(done, (*job).kept0);
     (*job).kept1 = empty(done, (*job).kept1);
@@ -44,7 +44,7 @@ pub extern "C" fn barrier_open(job: &mut OpenStates, bytes: &[u8]) -> Reply
 pub extern "C" fn barrier_add(job: &mut OpenStates, name: u16, hazard: GivenHazard) -> Reply
     ensures { λ r. ⌜ (now (job .exit) ≡ memoryAfter (addIn (now (job .entry)) name (hazardGiven hazard)) (now (job .entry))) × (r ≡ replyOf (replied (addIn (now (job .entry)) name (hazardGiven hazard)))) ⌝ }
 {
-    let header = (*job).now.header;
+    let header = (*job).present.header;
     let mut sound = also_sound(true, header, (*job).kept0);
     sound = also_sound(sound, header, (*job).kept1);
     sound = also_sound(sound, header, (*job).kept2);
@@ -53,8 +53,8 @@ pub extern "C" fn barrier_add(job: &mut OpenStates, name: u16, hazard: GivenHaza
     sound = also_sound(sound, header, (*job).kept5);
     sound = also_sound(sound, header, (*job).kept6);
     sound = also_sound(sound, header, (*job).kept7);
-    let done = added(sound, (*job).now, name, hazard);
-    (*job).now = done.next;
+    let done = added(sound, (*job).present, name, hazard);
+    (*job).present = done.next;
     done.reply
 }
 
@@ -62,7 +62,7 @@ pub extern "C" fn barrier_add(job: &mut OpenStates, name: u16, hazard: GivenHaza
 pub extern "C" fn barrier_withdraw(job: &mut OpenStates, name: u16) -> Reply
     ensures { λ r. ⌜ (now (job .exit) ≡ memoryAfter (withdrawIn (now (job .entry)) name) (now (job .entry))) × (r ≡ replyOf (replied (withdrawIn (now (job .entry)) name))) ⌝ }
 {
-    let header = (*job).now.header;
+    let header = (*job).present.header;
     let mut sound = also_sound(true, header, (*job).kept0);
     sound = also_sound(sound, header, (*job).kept1);
     sound = also_sound(sound, header, (*job).kept2);
@@ -71,8 +71,8 @@ pub extern "C" fn barrier_withdraw(job: &mut OpenStates, name: u16) -> Reply
     sound = also_sound(sound, header, (*job).kept5);
     sound = also_sound(sound, header, (*job).kept6);
     sound = also_sound(sound, header, (*job).kept7);
-    let done = withdrawn(sound, (*job).now, name);
-    (*job).now = done.next;
+    let done = withdrawn(sound, (*job).present, name);
+    (*job).present = done.next;
     done.reply
 }
 
@@ -80,7 +80,7 @@ pub extern "C" fn barrier_withdraw(job: &mut OpenStates, name: u16) -> Reply
 pub extern "C" fn barrier_keep(job: &mut OpenStates, state: u64) -> Reply
     ensures { λ r. ⌜ (now (job .exit) ≡ memoryAfter (keepIn (now (job .entry)) state) (now (job .entry))) × (r ≡ replyOf (replied (keepIn (now (job .entry)) state))) ⌝ }
 {
-    let header = (*job).now.header;
+    let header = (*job).present.header;
     let mut sound = also_sound(true, header, (*job).kept0);
     sound = also_sound(sound, header, (*job).kept1);
     sound = also_sound(sound, header, (*job).kept2);
@@ -89,8 +89,8 @@ pub extern "C" fn barrier_keep(job: &mut OpenStates, state: u64) -> Reply
     sound = also_sound(sound, header, (*job).kept5);
     sound = also_sound(sound, header, (*job).kept6);
     sound = also_sound(sound, header, (*job).kept7);
-    let keeping = kept(sound, (*job).now, state);
-    let new = kept_from((*job).now);
+    let keeping = kept(sound, (*job).present, state);
+    let new = kept_from((*job).present);
     let done = keeping.done;
     (*job).kept0 = choose(done, state, 0, new, (*job).kept0);
     (*job).kept1 = choose(done, state, 1, new, (*job).kept1);
@@ -107,7 +107,7 @@ pub extern "C" fn barrier_keep(job: &mut OpenStates, state: u64) -> Reply
 pub extern "C" fn barrier_return(job: &mut OpenStates, state: u64) -> Reply
     ensures { λ r. ⌜ (now (job .exit) ≡ memoryAfter (returnIn (now (job .entry)) state) (now (job .entry))) × (r ≡ replyOf (replied (returnIn (now (job .entry)) state))) ⌝ }
 {
-    let header = (*job).now.header;
+    let header = (*job).present.header;
     let mut sound = also_sound(true, header, (*job).kept0);
     sound = also_sound(sound, header, (*job).kept1);
     sound = also_sound(sound, header, (*job).kept2);
@@ -124,8 +124,8 @@ pub extern "C" fn barrier_return(job: &mut OpenStates, state: u64) -> Reply
     found = choose(true, state, 5, (*job).kept5, found);
     found = choose(true, state, 6, (*job).kept6, found);
     found = choose(true, state, 7, (*job).kept7, found);
-    let done = returned(sound, (*job).now, state, found);
-    (*job).now = done.next;
+    let done = returned(sound, (*job).present, state, found);
+    (*job).present = done.next;
     done.reply
 }
 
@@ -133,7 +133,7 @@ pub extern "C" fn barrier_return(job: &mut OpenStates, state: u64) -> Reply
 pub extern "C" fn barrier_open_schedule(job: &OpenStates, side: u64, out: &mut [u8]) -> PlanReply
     ensures { λ r. ⌜ (r ≡ planReplyOf (bytesWritten (scheduleIn (now (job .entry)) side (length (now (out .entry)))))) × (now (out .exit) ≡ outputAfter (scheduleIn (now (job .entry)) side (length (now (out .entry)))) (now (out .entry))) ⌝ }
 {
-    let header = (*job).now.header;
+    let header = (*job).present.header;
     let mut sound = also_sound(true, header, (*job).kept0);
     sound = also_sound(sound, header, (*job).kept1);
     sound = also_sound(sound, header, (*job).kept2);
@@ -142,5 +142,5 @@ pub extern "C" fn barrier_open_schedule(job: &OpenStates, side: u64, out: &mut [
     sound = also_sound(sound, header, (*job).kept5);
     sound = also_sound(sound, header, (*job).kept6);
     sound = also_sound(sound, header, (*job).kept7);
-    scheduled(sound, (*job).now, side, out)
+    scheduled(sound, (*job).present, side, out)
 }

@@ -9,8 +9,7 @@ use Rattle.job.specs.declared.Header.{Header}
 use Rattle.job.specs.declared.Hazard.{Hazard}
 use Rattle.job.specs.Job.{Job, withOffset}
 use Rattle.planning.specs.Envelope.{adjacentTraffic, acceptJob}
-use Rattle.planning.specs.Approached.{approachedHazard}
-use Rattle.planning.proofs.ApproachedLaws.{ApproachedFits}
+use Rattle.planning.specs.Approached.{approachedHazard, ApproachedFits}
 use Rattle.clear_offset.specs.Offset.{lengthAt, isAllowed, hazardOffset, smallestOffset}
 use Rattle.clear_offset.specs.Steps.{Clear, jobOffset}
 

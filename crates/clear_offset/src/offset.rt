@@ -8,7 +8,7 @@ use refusal::Outcome;
 use refusal::Refusal;
 ghost use mathlib.Core.Path.{_≡_};
 ghost use Rattle.job.specs.Job.{jobOf};
-ghost use Rattle.planning.proofs.EnvelopeLaws.{AcceptedFits};
+ghost use Rattle.planning.specs.Rows.{AcceptedFits};
 ghost use Rattle.clear_offset.specs.Offset.{offsetReply};
 ghost use Rattle.clear_offset.specs.Offset as spec;
 ghost use Rattle.clear_offset.specs.Steps.{jobOffset};

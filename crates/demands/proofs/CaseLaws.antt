@@ -1,12 +1,13 @@
--- K1 to K10 are as document 01 states them, by computing the definitions; and the printed schedule.
+-- K1 to K10 are as document 01 states them, by computing the definitions; and so is the printed job.
 -- Assumes nothing.
 use mathlib.Core.Path.{_≡_, refl}
-use mathlib.Core.List.{[], _∷_, map}
+use mathlib.Core.List.{map}
 use Rattle.refusal.specs.Choice.{someOf, keep}
+use Rattle.refusal.specs.Answer.{accepted}
 use Rattle.number.specs.Number.{writeIn, writeNumber, scan, readNumber, numberAt}
 use Rattle.approach.specs.Approach.{ceilDiv, formulaLength, approachLength}
 use Rattle.approach.specs.Panel.{raised, raisedLength}
-use Rattle.job.specs.Writing.{writeNumbers}
+use Rattle.job.specs.Writing.{writeNumbers, printedJob}
 use Rattle.job.specs.Job.{sharedRanges, headerRanges, hazardRanges, readFields, readHeader, readHazards, readJob, readRest}
 use Rattle.planning.specs.Envelope.{farther, reachOf, offsetOf, reaches, reached, lengthening, envelope, envelopes, cutToRoad, overhang, greater, overhangs, standsNear, testHazard, testHazards, acceptJob}
 use Rattle.runs.specs.Level.{filled, highest, requiredLevel}
@@ -14,14 +15,20 @@ use Rattle.runs.specs.Required.{insertStation, endPoints, put, runsBetween, req
 use Rattle.schedule.specs.Schedule.{writeRecord, writeRecords, writeSchedule}
 use Rattle.planning.specs.Required.{jobRuns}
 use Rattle.schedule.specs.Plan.{fitted, plan}
-use Rattle.demands.specs.Cases.{header, hazard, run, cases, planned, written}
+use Rattle.demands.proofs.RefusalLaws.{plan-written}
+use Rattle.demands.specs.Cases.{header, hazard, cases, planned, written, printedSide, Printed-plan}
 
 -- One theorem over the list.
 pub cases-hold : map planned cases ≡ map written cases
 unfolding header hazard cases writeNumbers planned written someOf keep writeIn writeNumber scan readNumber numberAt ceilDiv formulaLength approachLength raised raisedLength sharedRanges headerRanges hazardRanges readFields readHeader readHazards readRest readJob farther reachOf offsetOf reaches reached lengthening envelope envelopes cutToRoad overhang greater overhangs standsNear testHazard testHazards acceptJob filled highest requiredLevel insertStation endPoints put runsBetween requiredRuns writeRecord writeRecords writeSchedule jobRuns fitted plan
 cases-hold = refl
 
--- The printed schedule of K1.
-pub printed-schedule : writeSchedule (run 155773 210000 3 ∷ []) ≡ 0x01 ∷ 0xFD ∷ 0xC0 ∷ 0x09 ∷ 0xD3 ∷ 0xA7 ∷ 0x03 ∷ 0x03 ∷ []
-unfolding writeIn writeNumber writeRecord writeRecords writeSchedule
-printed-schedule = refl
+-- The printed job, into the least room.
+printed-eight : plan (writeNumbers printedJob) 0 8 ≡ accepted printedSide
+unfolding printedJob writeNumbers someOf keep writeIn writeNumber scan readNumber numberAt ceilDiv formulaLength approachLength raised raisedLength sharedRanges headerRanges hazardRanges readFields readHeader readHazards readRest readJob farther reachOf offsetOf reaches reached lengthening envelope envelopes cutToRoad overhang greater overhangs standsNear testHazard testHazards acceptJob filled highest requiredLevel insertStation endPoints put runsBetween requiredRuns writeRecord writeRecords writeSchedule jobRuns fitted plan
+printed-eight = refl
+
+pub printed-plan : Printed-plan
+printed-plan room h =
+    let f = plan-written (writeNumbers printedJob) 0 8 printedSide .0 printed-eight in
+    plan-written (writeNumbers printedJob) 0 room printedSide .1 (record { good-side = f .good-side; job = f .job; taken = f .taken; is = f .is; room-enough = h })

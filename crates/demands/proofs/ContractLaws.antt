@@ -10,56 +10,41 @@ use lib.ListN.{length, getD, length-map}
 use lib.Dec.{leb}
 use borrow.Author.Tests.{leb-true}
 use Rattle.refusal.specs.Answer.{Answer, accepted, refused}
-use Rattle.number.proofs.ByteLaws.{Bytes}
+use Rattle.number.specs.Form.{Bytes}
 use Rattle.runs.proofs.IndexLaws.{zeros}
 use Rattle.schedule.specs.Schedule.{IsSchedule, readSchedule}
-use Rattle.queries.specs.Quantity.{quantity}
-use Rattle.queries.specs.Ranges.{rangesOf, areRanges, mostRanges, Counted, quantities, Replied, placesOf, replied}
+use Rattle.queries.specs.Ranges.{rangesOf, areRanges, mostRanges, Counted, quantities, placesOf, replied, rangeAt, AllRanged}
 use Rattle.schedule.proofs.ScheduleLaws.{schedule-runs}
 use Rattle.demands.proofs.QueryLaws.{schedule-ten, query-eight, query-eleven, query-ten, query-given, not-within, quantity-counts}
-use Rattle.queries.proofs.RangeLaws.{rangeAt, places-count, places-in, places-behind}
-use Rattle.queries.proofs.QuantitiesLaws.{priced, counted, priced-at, AllRanged, all-ranged, quantities-accepted, quantities-argument, quantities-many, quantities-none}
+use Rattle.queries.proofs.RangeLaws.{places-count, places-in, places-behind}
+use Rattle.queries.proofs.QuantitiesLaws.{priced, counted, priced-at, all-ranged, quantities-accepted, quantities-argument, quantities-many, quantities-none}
 use Rattle.refusal.proofs.TestLaws.{impossible}
+use Rattle.demands.specs.Contract.{Given, Quantities-eight, Quantities-eleven, Quantities-ten, Quantities-given, Quantities-done, Quantities-refused}
 
 module _ (s : List ℕ) (v : ℕ) (l : List ℕ) (b : Bytes s) where
-  -- 8: a level that is not 1 to 6, a number without its partner, or "any p > q among them".
-  pub quantities-eight : (quantities s v l ≡ refused 8 0) ↔ (AllRanged v l → ⊥)
+  by-eight : (quantities s v l ≡ refused 8 0) ↔ (AllRanged v l → ⊥)
   unfolding quantities
-  quantities-eight =
+  by-eight =
       let e = query-eight s (λ rs. counted rs v (rangesOf l)) b (leb 1 v && leb v 6 && areRanges l) (leb (length (rangesOf l)) mostRanges) in
       (λ x a. e .0 x (all-ranged v l .1 a), quantities-argument s v l)
 
-  -- "More than 64 ranges is 11, after 8 and before 10."
-  pub quantities-eleven : (quantities s v l ≡ refused 11 0) ↔ (AllRanged v l × (mostRanges < length (rangesOf l)))
+  by-eleven : (quantities s v l ≡ refused 11 0) ↔ (AllRanged v l × (mostRanges < length (rangesOf l)))
   unfolding quantities
-  quantities-eleven =
+  by-eleven =
       let e = query-eleven s (λ rs. counted rs v (rangesOf l)) b (leb 1 v && leb v 6 && areRanges l) (leb (length (rangesOf l)) mostRanges) in
       (λ x. (all-ranged v l .0 (e .0 x .0), not-within (length (rangesOf l)) mostRanges (e .0 x .1)), λ h. quantities-many s v l (h .0) (h .1))
 
-  -- 10: the arguments are in their ranges, the ranges few, and the schedule isn't the writing of a run list.
-  pub quantities-ten : (quantities s v l ≡ refused 10 0) ↔ (AllRanged v l × (length (rangesOf l) ≤ mostRanges) × (IsSchedule s → ⊥))
+  by-ten : (quantities s v l ≡ refused 10 0) ↔ (AllRanged v l × (length (rangesOf l) ≤ mostRanges) × (IsSchedule s → ⊥))
   unfolding quantities
-  quantities-ten =
+  by-ten =
       let e = query-ten s (λ rs. counted rs v (rangesOf l)) b (leb 1 v && leb v 6 && areRanges l) (leb (length (rangesOf l)) mostRanges) in
       (λ x. (all-ranged v l .0 (e .0 x .0), leb-true (length (rangesOf l)) mostRanges (e .0 x .1), e .0 x .2), λ h. quantities-none s v l (h .0) (h .1) (schedule-ten s b .1 (h .2)))
 
-  -- What a reply without refusal holds.
-  pub record Given (r : Replied) : Type 0 where
-    pub ranged : AllRanged v l
-    pub few : length (rangesOf l) ≤ mostRanges
-    pub schedule : IsSchedule s
-    -- "That count equals the schedule's run count."
-    pub records : (w : IsSchedule s) → r .records ≡ length (w .runs)
-    -- "Each quantity is what the single call gives."
-    pub each : (i : ℕ) → i < length (rangesOf l) → quantity s v (rangeAt l i .p) (rangeAt l i .q) ≡ accepted (getD (r .places) i 0)
-    pub behind : (i : ℕ) → length (rangesOf l) ≤ i → getD (r .places) i 0 ≡ 0
-    pub places : length (r .places) ≡ mostRanges
-
-  pub quantities-given : replied (quantities s v l) .answer ≡ accepted tt → Given (replied (quantities s v l))
+  by-given : replied (quantities s v l) .answer ≡ accepted tt → Given s v l (replied (quantities s v l))
   unfolding replied quantities
-  quantities-given = go (quantities s v l) refl
+  by-given = go (quantities s v l) refl
     where
-      finish : AllRanged v l → length (rangesOf l) ≤ mostRanges → (w : IsSchedule s) → readSchedule s ≡ accepted (w .runs) → Given (replied (accepted (counted (w .runs) v (rangesOf l))))
+      finish : AllRanged v l → length (rangesOf l) ≤ mostRanges → (w : IsSchedule s) → readSchedule s ≡ accepted (w .runs) → Given s v l (replied (accepted (counted (w .runs) v (rangesOf l))))
       finish a few w read =
           let got = map (priced (w .runs) v) (rangesOf l) in
           let as-many = length-map (rangesOf l) (priced (w .runs) v) in
@@ -74,27 +59,35 @@ module _ (s : List ℕ) (v : ℕ) (l : List ℕ) (b : Bytes s) where
             places = places-count got (omega (arith, as-many));
           }
 
-      go : (a : Answer Counted) → quantities s v l ≡ a → replied a .answer ≡ accepted tt → Given (replied a)
+      go : (a : Answer Counted) → quantities s v l ≡ a → replied a .answer ≡ accepted tt → Given s v l (replied a)
       go (accepted c) e h =
           let few = leb (length (rangesOf l)) mostRanges in
           let g = query-given s (λ rs. counted rs v (rangesOf l)) b (leb 1 v && leb v 6 && areRanges l) few c e in
-          subst (λ (x : Counted). Given (replied (accepted x))) (g .4) (finish (all-ranged v l .0 (g .0)) (leb-true (length (rangesOf l)) mostRanges (g .1)) (g .2) (g .3))
+          subst (λ (x : Counted). Given s v l (replied (accepted x))) (g .4) (finish (all-ranged v l .0 (g .0)) (leb-true (length (rangesOf l)) mostRanges (g .1)) (g .2) (g .3))
       go (refused k n) e h = impossible cc
 
-  -- And no call is refused but those.
-  pub quantities-done : (replied (quantities s v l) .answer ≡ accepted tt) ↔ (AllRanged v l × (length (rangesOf l) ≤ mostRanges) × IsSchedule s)
+  by-done : (replied (quantities s v l) .answer ≡ accepted tt) ↔ (AllRanged v l × (length (rangesOf l) ≤ mostRanges) × IsSchedule s)
   unfolding replied
-  quantities-done = (
-    λ e. let g = quantities-given e in (g .ranged, g .few, g .schedule),
+  by-done = (
+    λ e. let g = by-given e in (g .ranged, g .few, g .schedule),
     λ h. ap (λ (x : Answer Counted). replied x .answer) (quantities-accepted s v l (h .0) (h .1) (h .2 .runs) (schedule-runs s (h .2))),
   )
 
--- "A refusal gives no quantities and a count of 0."
-pub record Empty (r : Replied) : Type 0 where
-  pub records : r .records ≡ 0
-  pub each : (i : ℕ) → getD (r .places) i 0 ≡ 0
-  pub places : length (r .places) ≡ mostRanges
+pub quantities-eight : Quantities-eight
+quantities-eight = by-eight
 
-pub quantities-refused : (s : List ℕ) (v : ℕ) (l : List ℕ) (number value : ℕ) → quantities s v l ≡ refused number value → Empty (replied (quantities s v l))
+pub quantities-eleven : Quantities-eleven
+quantities-eleven = by-eleven
+
+pub quantities-ten : Quantities-ten
+quantities-ten = by-ten
+
+pub quantities-given : Quantities-given
+quantities-given = by-given
+
+pub quantities-done : Quantities-done
+quantities-done = by-done
+
+pub quantities-refused : Quantities-refused
 unfolding replied
 quantities-refused s v l number value e = rw e (record { records = refl; each = zeros mostRanges; places = refl })

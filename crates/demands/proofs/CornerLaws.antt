@@ -25,11 +25,11 @@ use Rattle.job.specs.Job.{Job, sharedRanges, headerRanges, hazardRanges, readFi
 use Rattle.job.specs.Writing.{writeNumbers}
 use Rattle.job.proofs.RangeLaws.{HeaderBounds, header-bounds, hazard-bounds}
 use Rattle.planning.proofs.EnvelopeLaws.{accepted-fits}
-use Rattle.planning.proofs.ApproachedLaws.{ApproachedFits, reach-test, approached-fits}
+use Rattle.planning.proofs.ApproachedLaws.{reach-test, approached-fits}
 use Rattle.planning.proofs.ReachLaws.{lengthening-top}
 use Rattle.planning.specs.Envelope.{Traffic, forward, opposite, adjacentTraffic, farther, reachOf, offsetOf, reaches, reached, lengthening, envelope, standsNear, testHazard, testHazards, acceptJob}
 use Rattle.corners.specs.Corners.{upstreamBy, pointAt, lengthBefore, flareEntered, upstreamOffset, Points, approachPoints, sheetTop, cornersOf}
-use Rattle.planning.specs.Approached.{hazardAt, approachedHazard}
+use Rattle.planning.specs.Approached.{hazardAt, approachedHazard, ApproachedFits}
 use Rattle.corners.specs.Reply.{cornerOf, noPoints, replied}
 use Rattle.corners.specs.Steps.{jobCorners, StationFits}
 use Rattle.corners.proofs.PointLaws.{raised-past-straight, upstream-size, away-top}

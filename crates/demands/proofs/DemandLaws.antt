@@ -23,7 +23,8 @@ use Rattle.runs.specs.Count.{countFrom}
 use Rattle.runs.proofs.CountLaws.{count-add}
 use Rattle.schedule.specs.Schedule.{writeSchedule, readSchedule}
 use Rattle.schedule.proofs.PlanLaws.{output-length}
-use Rattle.demands.proofs.LookupLaws.{Finds, none-shown, lookup-written}
+use Rattle.demands.specs.Queries.{Finds}
+use Rattle.demands.proofs.LookupLaws.{none-shown, lookup-written}
 use Rattle.planning.specs.Required.{jobLevel, jobRuns}
 use Rattle.queries.specs.Lookup.{Found, found, nowhere, asked}
 use Rattle.schedule.specs.Plan.{PlannedSide, fitted, plan, outputAfter}
@@ -36,9 +37,10 @@ use Rattle.refusal.proofs.AnswerLaws.{bound, tested}
 use Rattle.schedule.specs.Planned.{Accepted, scheduleAlone, Planned, scheduleLevel}
 use Rattle.schedule.proofs.PlannedLaws.{planned-writing, planned-only, job-read, job-shown}
 use Rattle.planning.proofs.JobRunLaws.{job-runs, job-run-list}
-use Rattle.planning.proofs.EnvelopeLaws.{AcceptedFits, accepted-fits, cut-has, FromCut, from-cut, to-cut, side-lies, side-proper, side-levelled}
+use Rattle.planning.specs.Rows.{AcceptedFits}
+use Rattle.planning.proofs.EnvelopeLaws.{accepted-fits, cut-has, FromCut, from-cut, to-cut, side-lies, side-proper, side-levelled}
 use Rattle.planning.proofs.RoadLaws.{level-off-road}
-use Rattle.demands.specs.Demands.{CoversHazards, NoShortGapOnRoad, LeastCovering, Demand2, Demand1, ShowsLevel, Demand2-lookup, Demand3-writing, Demand3-planned, Demand3-equal, Demand3-off-road, Alike, Demand3-growth, RisingStations, lastOf, lotsTotal, Demand3-quantities}
+use Rattle.demands.specs.Demands.{CoversHazards, NoShortGapOnRoad, LeastCovering, Demand2, Demand1, ShowsLevel, Demand2-lookup, Demand3-writing, Demand3-planned, Demand3-equal, Demand3-off-road, Alike, Demand3-growth, RisingStations, lastOf, lotsTotal, Demand3-quantities, PlannedJob, Plan-accepted}
 use Rattle.refusal.proofs.TestLaws.{impossible}
 
 pub demand3-planned : Demand3-planned
@@ -221,14 +223,7 @@ demand2-lookup s j side right left a h p t =
         (w, l, subst (λ (x : ℕ). 1 ≤ x) l (member→run (jobLevel j side) rs (job-runs j side fits) (w .run) (w .member) .above))
     go nowhere n = sym (job-runs j side fits .shows t) ∙ none-shown rs t n
 
--- Whatever plan writes, into whatever output, is the planned schedule of an accepted job.
-pub record PlannedJob (s : List ℕ) (side : ℕ) (w : List ℕ) : Type 0 where
-  pub job : Job
-  pub is-accepted : Accepted s job
-  pub side-ok : side ≤ 1
-  pub planned : Planned s side w
-
-pub plan-accepted : (s : List ℕ) (side room : ℕ) (p : PlannedSide) → plan s side room ≡ accepted p → PlannedJob s side (p .schedule)
+pub plan-accepted : Plan-accepted
 unfolding plan fitted
 plan-accepted s side room p e =
     let b1 = bound (unless-refuse (leb side 1) Row.Argument) _ p e in

@@ -12,8 +12,8 @@ use Rattle.number.specs.Number.{writeNumber}
 use Rattle.number.proofs.ReadLaws.{read-number, after-number}
 use Rattle.job.specs.Job.{Job}
 use Rattle.runs.specs.declared.Stretch.{Stretch}
-use Rattle.runs.specs.RunList.{lastEnd}
-use Rattle.runs.proofs.RunLaws.{Next, run-list-rising}
+use Rattle.runs.specs.RunList.{lastEnd, Next}
+use Rattle.runs.proofs.RunLaws.{run-list-rising}
 use Rattle.runs.proofs.StoredLaws.{lastLevel, next-after}
 use Rattle.planning.specs.Envelope.{acceptJob}
 use Rattle.planning.specs.Required.{jobLevel, jobRuns}

@@ -1,7 +1,7 @@
 -- Lookup in every schedule that is the writing of a run list: the part found is the record of the run that has the station, and nothing
 -- is found exactly where no run has it.
 -- Assumes nothing.
-use Prim.Native.Nat.{ℕ, _+_, _≤_}
+use Prim.Native.Nat.{ℕ, _+_}
 use native.Mathlib.Omega.{arith}
 use mathlib.Core.Path.{_≡_, refl, sym, subst, ap, _∙_}
 use mathlib.Core.Logic.{_⊎_, inl, inr}
@@ -12,17 +12,17 @@ use lib.Seq.{take-append-seam}
 use lib.Dec.{ltb, leb}
 use borrow.Author.Tests.{ltb-true, ltb-false, lt-ltb, leb-true, leb-false, le-leb}
 use Rattle.refusal.specs.Choice.{if_then_else_}
-use Rattle.refusal.specs.Answer.{accepted}
 use Rattle.refusal.proofs.TestLaws.{and-intro, not-both, impossible}
 use Rattle.number.specs.Number.{writeNumber}
 use Rattle.number.proofs.ReadLaws.{after-number}
 use Rattle.runs.specs.declared.Stretch.{Stretch}
 use Rattle.runs.specs.Level.{Has, has}
-use Rattle.runs.specs.RunList.{shownLevel}
-use Rattle.runs.proofs.RunLaws.{Rising, shown-in, shown-before, shown-after, run-list-rising}
-use Rattle.schedule.specs.Schedule.{writeRecord, writeRecords, writeSchedule, IsSchedule}
+use Rattle.runs.specs.RunList.{shownLevel, Rising}
+use Rattle.runs.proofs.RunLaws.{shown-in, shown-before, shown-after, run-list-rising}
+use Rattle.schedule.specs.Schedule.{writeRecord, writeRecords, writeSchedule}
 use Rattle.queries.specs.Lookup.{Part, Found, found, nowhere, findRecord, placeIn, asked, lookup, FoundRun}
 use Rattle.schedule.proofs.ScheduleLaws.{after-bytes, schedule-runs}
+use Rattle.demands.specs.Queries.{Finds, Lookup-written}
 
 part-of-split : (s : List ℕ) (i : ℕ) (w rest : List ℕ) → drop i s ≡ w ++ rest → take (length w) (drop i s) ≡ w
 part-of-split s i w rest e = rw e (take-append-seam w rest)
@@ -96,18 +96,7 @@ none-shown (x ∷ rs) t n = go (leb (x .start) t) refl (ltb t (x .end)) refl (no
     go true p false q rec = rec
     go false p b q rec = rec
 
--- What lookup finds at t in the writing of runs.
-abbrev pub Finds : (s : List ℕ) (rs : List Stretch) (t : ℕ) → Found → Type 0
-Finds s rs t (found p) = FoundRun s 0 (length (writeNumber (length rs))) rs t p
-Finds s rs t nowhere = (r : Stretch) → List·Memᴰ r rs → Has r t → ⊥
-
--- Lookup's reply: it is no refusal.
-pub record LookedIn (right left : List ℕ) (side : ℕ) (rs : List Stretch) (t : ℕ) : Type 0 where
-  pub answer : Found
-  pub replies : lookup right left side t ≡ accepted answer
-  pub finds : Finds (asked side right left) rs t answer
-
-pub lookup-written : (right left : List ℕ) (side t : ℕ) → side ≤ 1 → (w : IsSchedule (asked side right left)) → LookedIn right left side (w .runs) t
+pub lookup-written : Lookup-written
 unfolding lookup placeIn writeSchedule
 lookup-written right left side t h w = record { answer = answer; replies = rw (le-leb side 1 h, schedule-runs (asked side right left) w); finds = go answer refl }
   where

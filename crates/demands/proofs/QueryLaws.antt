@@ -1,6 +1,6 @@
 -- The calls quantity and lookup as the paper says them: when each gives which refusal, what a quantity counts, and that quantities of neighbours add up.
 -- Assumes nothing.
-use Prim.Native.Nat.{ℕ, _+_, _≤_, _<_}
+use Prim.Native.Nat.{ℕ, _≤_, _<_}
 use native.Mathlib.Omega.{arith}
 use native.Mathlib.Decide.{decLe}
 use mathlib.Core.Path.{_≡_, refl, sym, ap, _∙_}
@@ -15,16 +15,17 @@ use Rattle.refusal.specs.Refusal.{unless-refuse}
 use Rattle.refusal.specs.declared.Refusal.the-variants as Row
 use Rattle.refusal.proofs.AnswerLaws.{bound, passed}
 use Rattle.number.specs.Number.{writeNumber}
-use Rattle.number.proofs.ByteLaws.{Bytes}
+use Rattle.number.specs.Form.{Bytes}
 use Rattle.runs.specs.declared.Stretch.{Stretch}
 use Rattle.runs.specs.RunList.{shownLevel}
 use Rattle.schedule.specs.Schedule.{IsSchedule, readSchedule}
 use Rattle.queries.specs.Quantity.{millimetres, quantity}
 use Rattle.queries.specs.Lookup.{asked, lookup, Found, findRecord, placeIn}
 use Rattle.schedule.proofs.ScheduleLaws.{schedule-runs, refused-ten, schedule-read}
-use Rattle.queries.proofs.QuantityLaws.{Ranged, ranged}
+use Rattle.queries.proofs.QuantityLaws.{ranged}
 use Rattle.demands.proofs.DemandLaws.{millimetres-add}
 use Rattle.refusal.proofs.TestLaws.{impossible}
+use Rattle.demands.specs.Queries.{Counts, Quantity-counts, Quantity-add, Quantity-eight, Quantity-ten, Lookup-eight, Lookup-ten}
 
 -- Schedules
 
@@ -99,14 +100,7 @@ not-within n most h = go (decLe n most)
 
 -- Quantity
 
--- What a quantity is where it is given.
-pub record Counts (s : List ℕ) (v p q n : ℕ) : Type 0 where
-  pub ranged : Ranged v p q
-  pub runs : List Stretch
-  pub read : readSchedule s ≡ accepted runs
-  pub count : millimetres (shownLevel runs) v p q ≡ n
-
-pub quantity-counts : (s : List ℕ) (v p q n : ℕ) → (quantity s v p q ≡ accepted n) ↔ Counts s v p q n
+pub quantity-counts : Quantity-counts
 unfolding quantity
 quantity-counts s v p q n = (to, from)
   where
@@ -120,26 +114,21 @@ quantity-counts s v p q n = (to, from)
     from : Counts s v p q n → quantity s v p q ≡ accepted n
     from c = rw (ranged v p q .1 (c .ranged), c .read) (ap accepted (c .count))
 
--- "For p ≤ r ≤ q, [p, r) and [r, q) add up to [p, q)", in every schedule that is the writing of a run list; none of the three calls is refused.
-pub quantity-add : (s : List ℕ) (w : IsSchedule s) (v p r q : ℕ) → 1 ≤ v → v ≤ 6 → p ≤ r → r ≤ q
-    → let in-lot = millimetres (shownLevel (w .runs)) v in
-    (quantity s v p r ≡ accepted (in-lot p r)) × (quantity s v r q ≡ accepted (in-lot r q)) × (quantity s v p q ≡ accepted (in-lot p r + in-lot r q))
+pub quantity-add : Quantity-add
 quantity-add s w v p r q low top a b =
     let read = schedule-runs s w in
     let counted : (x y : ℕ) → x ≤ y → quantity s v x y ≡ accepted (millimetres (shownLevel (w .runs)) v x y) =
     λ x y h. quantity-counts s v x y (millimetres (shownLevel (w .runs)) v x y) .1 (record { ranged = (low, top, h); runs = w .runs; read = read; count = refl }) in
     (counted p r a, counted r q b, counted p q (omega arith) ∙ ap accepted (sym (millimetres-add (shownLevel (w .runs)) v p r q a b)))
 
--- 8: "level not 1 to 6, or p > q".
-pub quantity-eight : (s : List ℕ) (v p q : ℕ) → Bytes s → (quantity s v p q ≡ refused 8 0) ↔ (Ranged v p q → ⊥)
+pub quantity-eight : Quantity-eight
 unfolding quantity
 quantity-eight s v p q b =
     let e = query-eight s (λ rs. millimetres (shownLevel rs) v p q) b (leb 1 v && leb v 6 && leb p q) true in
     let r = ranged v p q in
     (λ x h. e .0 x (r .1 h), λ n. e .1 (λ t. n (r .0 t)))
 
--- 10: the arguments are in their ranges, and the schedule isn't the writing of a run list.
-pub quantity-ten : (s : List ℕ) (v p q : ℕ) → Bytes s → (quantity s v p q ≡ refused 10 0) ↔ (Ranged v p q × (IsSchedule s → ⊥))
+pub quantity-ten : Quantity-ten
 unfolding quantity
 quantity-ten s v p q b =
     let e = query-ten s (λ rs. millimetres (shownLevel rs) v p q) b (leb 1 v && leb v 6 && leb p q) true in
@@ -152,16 +141,20 @@ module _ (right left : List ℕ) (side t : ℕ) (b : Bytes (asked side right lef
   find : List Stretch → Found
   find rs = findRecord 0 (length (writeNumber (length rs))) rs t
 
-  -- 8: "side above 1".
-  pub lookup-eight : (lookup right left side t ≡ refused 8 0) ↔ (1 < side)
+  by-eight : (lookup right left side t ≡ refused 8 0) ↔ (1 < side)
   unfolding lookup placeIn find
-  lookup-eight =
+  by-eight =
       let e = query-eight (asked side right left) find b (leb side 1) true in
       (λ x. not-within side 1 (e .0 x), λ h. e .1 (λ l. omega (arith, leb-true side 1 l)))
 
-  -- 10: the asked side's schedule isn't the writing of a run list; the other side's is not looked at.
-  pub lookup-ten : (lookup right left side t ≡ refused 10 0) ↔ ((side ≤ 1) × (IsSchedule (asked side right left) → ⊥))
+  by-ten : (lookup right left side t ≡ refused 10 0) ↔ ((side ≤ 1) × (IsSchedule (asked side right left) → ⊥))
   unfolding lookup placeIn find
-  lookup-ten =
+  by-ten =
       let e = query-ten (asked side right left) find b (leb side 1) true in
       (λ x. (leb-true side 1 (e .0 x .0), e .0 x .2), λ h. e .1 (le-leb side 1 (h .0), refl, h .1))
+
+pub lookup-eight : Lookup-eight
+lookup-eight = by-eight
+
+pub lookup-ten : Lookup-ten
+lookup-ten = by-ten

@@ -11,32 +11,34 @@ use lib.ListN.{length}
 use lib.Dec.{leb}
 use borrow.Author.Tests.{le-leb}
 use Rattle.refusal.specs.Answer.{Answer, accepted, refused, _>>=_}
-use Rattle.refusal.specs.Refusal.{unless-refuse, numberOf}
+use Rattle.refusal.specs.Refusal.{unless-refuse, numberOf, valueOf, refusal}
 use Rattle.refusal.specs.declared.Refusal.the-variants as Row
 use Rattle.number.specs.declared.Read.{Read}
 use Rattle.number.specs.declared.Read.the-variants.{Number, Ended, Malformed}
 use Rattle.number.specs.Number.{readNumber, readingOf, numberAt}
 use Rattle.job.specs.declared.Header.{Header}
 use Rattle.job.specs.declared.Hazard.{Hazard}
-use Rattle.job.specs.Job.{Job, Range, within, nextInHeader, nextInHazard, readFields, moreNumbers, readHeader, headerOf, hazardOf, readHazards, readJob, readRest, outsideHeader, outsideHazard}
+use Rattle.job.specs.declared.Bounds.{Bounds}
+use Rattle.job.specs.Job.{Job, within, nextInHeader, nextInHazard, readFields, moreNumbers, readHeader, headerOf, hazardOf, readHazards, readJob, readRest, outsideHeader, outsideHazard}
 use Rattle.planning.specs.Envelope.{sideOverhangs, standsNear, testHazard, testHazards, acceptJob}
 use Rattle.planning.proofs.OverhangLaws.{greatest-before, greatest-after}
-use Rattle.planning.specs.Required.{jobRuns}
-use Rattle.schedule.specs.Schedule.{writeSchedule}
 use Rattle.schedule.specs.Plan.{PlannedSide, fitted, plan}
 use Rattle.schedule.proofs.PlanLaws.{fitted-fits, fitted-short}
 use Rattle.schedule.proofs.PlanLaws.{plan-bad-side}
 use Rattle.demands.specs.Road.{Overhanging, Plan-overhangs, Plan-six}
 use Rattle.refusal.specs.declared.Refusal.{Refusal}
-use Rattle.refusal.proofs.RowLaws.{some-number, no-six}
+use Rattle.refusal.proofs.RowLaws.{some-number, no-six, same-row}
 use Rattle.refusal.proofs.TestLaws.{impossible}
+use Rattle.demands.specs.PlanTable.{sideSchedule, sidePlanned, PlanRow, bad-side, of-job, no-room, Plan-exactly, Fits, Plan-written, PlanAnswer, refused-by, schedule-written, Plan-answers}
+use Rattle.number.specs.Form.{Bytes}
+use Rattle.planning.proofs.RowLaws.{refused-exactly}
 
 -- The job's refusals
 
--- An answer that refuses with 1 to 5 and 7 only: "number 6 no longer occurs".
+-- An answer that refuses with 1 to 5 and 7 only, "number 6 no longer occurs", and by a row of the table.
 abbrev pub OneToSeven : {A : Type 0} → Answer A → Type 0
 OneToSeven (accepted a) = Unit {0}
-OneToSeven (refused k v) = (1 ≤ k) × (k ≤ 7) × (k ≢ 6)
+OneToSeven (refused k v) = (1 ≤ k) × (k ≤ 7) × (k ≢ 6) × ((r : Refusal) × (numberOf r ≡ k) × (valueOf r ≡ v))
 
 both : {A B : Type 0} (m : Answer A) (f : A → Answer B) → OneToSeven m → ((a : A) → OneToSeven (f a)) → OneToSeven (m >>= f)
 both (accepted a) f p q = q a
@@ -44,7 +46,7 @@ both (refused k v) f p q = p
 
 test : (t : Bool) (r : Refusal) → numberOf r ≤ 7 → OneToSeven (unless-refuse t r)
 test true r h = tt
-test false r h = (some-number r, h, no-six r)
+test false r h = (some-number r, h, no-six r, (r, refl, refl))
 
 number-refusals : (s : List ℕ) (at : ℕ) → OneToSeven (numberAt s at)
 unfolding numberAt
@@ -52,10 +54,10 @@ number-refusals s at = go (readNumber s at)
   where
     go : (r : Read) → OneToSeven (readingOf at r)
     go (Number value next) = tt
-    go Ended = (omega arith, omega arith, omega arith)
-    go Malformed = (omega arith, omega arith, omega arith)
+    go Ended = (omega arith, omega arith, omega arith, (Row.Ended at, refl, refl))
+    go Malformed = (omega arith, omega arith, omega arith, (Row.Malformed at, refl, refl))
 
-fields-refusals : (rangeOf : List ℕ → Range) (outside : List ℕ → Refusal) (k : ℕ) (got s : List ℕ) (at : ℕ) → ((l : List ℕ) → numberOf (outside l) ≤ 7) → OneToSeven (readFields rangeOf outside k got s at)
+fields-refusals : (rangeOf : List ℕ → Bounds) (outside : List ℕ → Refusal) (k : ℕ) (got s : List ℕ) (at : ℕ) → ((l : List ℕ) → numberOf (outside l) ≤ 7) → OneToSeven (readFields rangeOf outside k got s at)
 unfolding readFields
 fields-refusals rangeOf outside zero got s at h = tt
 fields-refusals rangeOf outside (suc k) got s at h =
@@ -90,19 +92,12 @@ accept-refusals s = both (readJob s) _ (read-refusals s) (λ j. both (testHazard
 
 -- Plan
 
--- The schedule of a side of a job, and with its overhangs.
-abbrev pub sideSchedule : Job → (side : ℕ) → List ℕ
-sideSchedule j side = writeSchedule (jobRuns j side)
-
-abbrev pub sidePlanned : Job → (side : ℕ) → PlannedSide
-sidePlanned j side = record { schedule = sideSchedule j side; overhangs = sideOverhangs j side }
-
 module _ (s : List ℕ) (side room : ℕ) where
   -- What plan answers, and why.
   pub data PlanVerdict : Type 0 where
-    bad-side : 1 < side → plan s side room ≡ refused 8 0 → PlanVerdict
+    wrong-side : 1 < side → plan s side room ≡ refused 8 0 → PlanVerdict
     bad-job : side ≤ 1 → (k v : ℕ) → acceptJob s ≡ refused k v → 1 ≤ k → k ≤ 7 → k ≢ 6 → plan s side room ≡ refused k v → PlanVerdict
-    no-room : side ≤ 1 → (j : Job) → acceptJob s ≡ accepted j → room < length (sideSchedule j side) → plan s side room ≡ refused 9 (length (sideSchedule j side)) → PlanVerdict
+    short-room : side ≤ 1 → (j : Job) → acceptJob s ≡ accepted j → room < length (sideSchedule j side) → plan s side room ≡ refused 9 (length (sideSchedule j side)) → PlanVerdict
     written : side ≤ 1 → (j : Job) → acceptJob s ≡ accepted j → length (sideSchedule j side) ≤ room → plan s side room ≡ accepted (sidePlanned j side) → PlanVerdict
 
   by-job : side ≤ 1 → plan s side room ≡ (acceptJob s >>= λ j. fitted (sideSchedule j side) (sideOverhangs j side) room)
@@ -114,7 +109,7 @@ module _ (s : List ℕ) (side room : ℕ) where
     where
       fitting : side ≤ 1 → (j : Job) → acceptJob s ≡ accepted j → plan s side room ≡ fitted (sideSchedule j side) (sideOverhangs j side) room → Dec (length (sideSchedule j side) ≤ room) → PlanVerdict
       fitting h j e p (yes l) = written h j e l (p ∙ fitted-fits (sideSchedule j side) (sideOverhangs j side) room l)
-      fitting h j e p (no l) = no-room h j e (omega arith) (p ∙ fitted-short (sideSchedule j side) (sideOverhangs j side) room (omega arith))
+      fitting h j e p (no l) = short-room h j e (omega arith) (p ∙ fitted-short (sideSchedule j side) (sideOverhangs j side) room (omega arith))
 
       job : side ≤ 1 → (a : Answer Job) → acceptJob s ≡ a → OneToSeven a → plan s side room ≡ (a >>= λ j. fitted (sideSchedule j side) (sideOverhangs j side) room) → PlanVerdict
       job h (accepted j) e o p = fitting h j e p (decLe (length (sideSchedule j side)) room)
@@ -122,27 +117,7 @@ module _ (s : List ℕ) (side room : ℕ) where
 
       sided : Dec (side ≤ 1) → PlanVerdict
       sided (yes h) = job h (acceptJob s) refl (accept-refusals s) (by-job h)
-      sided (no h) = bad-side (omega arith) (plan-bad-side s side room (omega arith))
-
-  -- 8: "side above 1", and no other.
-  pub plan-eight : (plan s side room ≡ refused 8 0) ↔ (1 < side)
-  plan-eight = (λ e. go e plan-verdict, plan-bad-side s side room)
-    where
-      go : plan s side room ≡ refused 8 0 → PlanVerdict → 1 < side
-      go e (bad-side h p) = h
-      go e (bad-job h k v a l u n p) = absurd (let z : k ≡ 8 = cc in omega arith)
-      go e (no-room h j a l p) = absurd (let z : _≡_ {A = ℕ} 9 8 = cc in omega arith)
-      go e (written h j a l p) = impossible cc
-
-  -- 1 to 7: what the job's bytes and hazards are refused for, on a good side.
-  pub plan-job : (k v : ℕ) → k ≤ 7 → (plan s side room ≡ refused k v) ↔ ((side ≤ 1) × (acceptJob s ≡ refused k v))
-  plan-job k v few = (λ e. go e plan-verdict, λ w. by-job (w .0) ∙ rw (w .1))
-    where
-      go : plan s side room ≡ refused k v → PlanVerdict → (side ≤ 1) × (acceptJob s ≡ refused k v)
-      go e (bad-side h p) = absurd (let z : 8 ≡ k = cc in omega arith)
-      go e (bad-job h i w a l u n p) = let number : i ≡ k = cc in let value : w ≡ v = cc in (h, a ∙ ap₂ refused number value)
-      go e (no-room h j a l p) = absurd (let z : 9 ≡ k = cc in omega arith)
-      go e (written h j a l p) = impossible cc
+      sided (no h) = wrong-side (omega arith) (plan-bad-side s side room (omega arith))
 
   -- On a good side plan's refusals but 9 are the job's.
   pub plan-refuses : side ≤ 1 → (k v : ℕ) → (acceptJob s ≡ refused k v) ↔ ((plan s side room ≡ refused k v) × (k ≢ 9))
@@ -152,9 +127,9 @@ module _ (s : List ℕ) (side room : ℕ) where
       nine e o q = let few : k ≤ 7 = (rw e at o) .1 in omega arith
 
       go : plan s side room ≡ refused k v → k ≢ 9 → PlanVerdict → acceptJob s ≡ refused k v
-      go e n (bad-side b p) = absurd (omega arith)
+      go e n (wrong-side b p) = absurd (omega arith)
       go e n (bad-job b i w a l u x p) = let number : i ≡ k = cc in let value : w ≡ v = cc in a ∙ ap₂ refused number value
-      go e n (no-room b j a l p) = absurd (n (let number : 9 ≡ k = cc in sym number))
+      go e n (short-room b j a l p) = absurd (n (let number : 9 ≡ k = cc in sym number))
       go e n (written b j a l p) = impossible cc
 
   -- So are those of a call that answers for each accepted job.
@@ -166,47 +141,60 @@ module _ (s : List ℕ) (side room : ℕ) where
       alike (refused i w) =
           (λ e. let number : i ≡ k = cc in let value : w ≡ v = cc in ap₂ refused number value, λ e. let number : i ≡ k = cc in let value : w ≡ v = cc in ap₂ refused number value)
 
-  -- An accepted job on a good side, whose schedule has n bytes, more than there is room for.
-  pub record NeedsRoom (n : ℕ) : Type 0 where
-    pub good-side : side ≤ 1
-    pub job : Job
-    pub taken : acceptJob s ≡ accepted job
-    pub needed : length (sideSchedule job side) ≡ n
-    pub short : room < n
-
-  -- 9: "output shorter than that", the bytes needed, and no other.
-  pub plan-nine : (n : ℕ) → (plan s side room ≡ refused 9 n) ↔ NeedsRoom n
-  plan-nine n = (λ e. go e plan-verdict, λ w. by-job (w .good-side) ∙ rw (w .taken) (fitted-short (sideSchedule (w .job) side) (sideOverhangs (w .job) side) room (omega (arith, w .needed, w .short)) ∙ rw (w .needed)))
+  -- The table's rows.
+  exactly : (r : Refusal) → Bytes s → (plan s side room ≡ refusal r) ↔ PlanRow r s side room
+  exactly r b = (λ e. to e plan-verdict, from)
     where
-      go : plan s side room ≡ refused 9 n → PlanVerdict → NeedsRoom n
-      go e (bad-side h p) = absurd (let z : _≡_ {A = ℕ} 8 9 = cc in omega arith)
-      go e (bad-job h k v a l u n p) = absurd (let z : k ≡ 9 = cc in omega arith)
-      go e (no-room h j a l p) = let same : length (sideSchedule j side) ≡ n = cc in record { good-side = h; job = j; taken = a; needed = same; short = omega arith }
-      go e (written h j a l p) = impossible cc
+      to : plan s side room ≡ refusal r → PlanVerdict → PlanRow r s side room
+      to e (wrong-side h p) = bad-side (same-row r Row.Argument (let z : numberOf r ≡ 8 = cc in z) (let z : valueOf r ≡ 0 = cc in z)) h
+      to e (bad-job h k v a l u n p) = of-job h (refused-exactly s r b .0 (let number : k ≡ numberOf r = cc in let value : v ≡ valueOf r = cc in a ∙ ap₂ refused number value))
+      to e (short-room h j a l p) =
+          let needed = length (sideSchedule j side) in
+          no-room needed (same-row r (Row.Room needed) (let z : numberOf r ≡ 9 = cc in z) (let z : valueOf r ≡ needed = cc in z)) (record { good-side = h; job = j; taken = a; needed = refl; short = l })
+      to e (written h j a l p) = impossible cc
 
-  -- An accepted job on a good side, whose schedule and overhangs are p, and for whose schedule there is room.
-  pub record Fits (p : PlannedSide) : Type 0 where
-    pub good-side : side ≤ 1
-    pub job : Job
-    pub taken : acceptJob s ≡ accepted job
-    pub is : sidePlanned job side ≡ p
-    pub room-enough : length (p .schedule) ≤ room
+      from : PlanRow r s side room → plan s side room ≡ refusal r
+      from (bad-side e h) = plan-bad-side s side room h ∙ ap refusal (sym e)
+      from (of-job h w) = by-job h ∙ rw (refused-exactly s r b .1 w)
+      from (no-room n e w) =
+          by-job (w .good-side)
+          ∙ rw (w .taken) (fitted-short (sideSchedule (w .job) side) (sideOverhangs (w .job) side) room (omega (arith, w .needed, w .short)) ∙ (ap (λ (m : ℕ). refusal (Row.Room m)) (w .needed) ∙ ap refusal (sym e)))
 
-  -- The schedule is written exactly then.
-  pub plan-written : (p : PlannedSide) → (plan s side room ≡ accepted p) ↔ Fits p
-  plan-written p = (
+  by-written : (p : PlannedSide) → (plan s side room ≡ accepted p) ↔ Fits s side room p
+  by-written p = (
     λ e. go e plan-verdict,
     λ f. by-job (f .good-side)
         ∙ rw (f .taken) (fitted-fits (sideSchedule (f .job) side) (sideOverhangs (f .job) side) room (subst (λ (q : PlannedSide). length (q .schedule) ≤ room) (sym (f .is)) (f .room-enough)) ∙ ap accepted (f .is)),
   )
     where
-      go : plan s side room ≡ accepted p → PlanVerdict → Fits p
-      go e (bad-side h q) = impossible cc
+      go : plan s side room ≡ accepted p → PlanVerdict → Fits s side room p
+      go e (wrong-side h q) = impossible cc
       go e (bad-job h k v a l u n q) = impossible cc
-      go e (no-room h j a l q) = impossible cc
+      go e (short-room h j a l q) = impossible cc
       go e (written h j a l q) =
           let same : sidePlanned j side ≡ p = cc in
           record { good-side = h; job = j; taken = a; is = same; room-enough = subst (λ (x : PlannedSide). length (x .schedule) ≤ room) same l }
+
+  answers : Bytes s → PlanAnswer s side room
+  answers b = go plan-verdict
+    where
+      row : (r : Refusal) → plan s side room ≡ refusal r → PlanAnswer s side room
+      row r e = refused-by r e (exactly r b .0 e)
+
+      go : PlanVerdict → PlanAnswer s side room
+      go (wrong-side h p) = row Row.Argument p
+      go (bad-job h k v a l u n p) = let few = rw a at (accept-refusals s) in let w = few .3 in row (w .0) (p ∙ ap₂ refused (sym (w .1)) (sym (w .2)))
+      go (short-room h j a l p) = row (Row.Room (length (sideSchedule j side))) p
+      go (written h j a l p) = schedule-written (sidePlanned j side) p (by-written (sidePlanned j side) .0 p)
+
+pub plan-exactly : Plan-exactly
+plan-exactly = exactly
+
+pub plan-written : Plan-written
+plan-written = by-written
+
+pub plan-answers : Plan-answers
+plan-answers = answers
 
 -- Document 02, request 8
 
@@ -214,9 +202,9 @@ pub plan-six : Plan-six
 plan-six s side room k v e = go (plan-verdict s side room)
   where
     go : PlanVerdict s side room → k ≢ 6
-    go (bad-side h p) six = let z : 8 ≡ k = cc in omega arith
+    go (wrong-side h p) six = let z : 8 ≡ k = cc in omega arith
     go (bad-job h i w a l u n p) six = let z : i ≡ k = cc in n (omega arith)
-    go (no-room h j a l p) six = let z : 9 ≡ k = cc in omega arith
+    go (short-room h j a l p) six = let z : 9 ≡ k = cc in omega arith
     go (written h j a l p) six = impossible cc
 
 pub plan-overhangs : Plan-overhangs

@@ -24,7 +24,8 @@ use Rattle.planning.specs.Envelope.{reached, cutEnvelope, sideEnvelopes}
 use Rattle.planning.specs.Overhang.{SideHazard}
 use Rattle.planning.specs.Required.{jobLevel}
 use Rattle.planning.specs.Approached.{hazardAt}
-use Rattle.planning.proofs.EnvelopeLaws.{AcceptedFits, accepted-fits, FromCut, from-cut, to-cut, side-lies}
+use Rattle.planning.specs.Rows.{AcceptedFits}
+use Rattle.planning.proofs.EnvelopeLaws.{accepted-fits, FromCut, from-cut, to-cut, side-lies}
 use Rattle.planning.proofs.AcceptedLaws.{fitting-accepted}
 use Rattle.schedule.specs.Plan.{plan}
 use Rattle.schedule.specs.Planned.{Accepted, Planned}

@@ -1,9 +1,10 @@
 -- Document 01's cases K1 to K10 in one list: each job with its runs on the right and its overhangs there, or its refusal.
 -- Assumes nothing.
-use Prim.Native.Nat.{ℕ, _+_, _-_}
+use Prim.Native.Nat.{ℕ, _+_, _-_, _≤_}
+use mathlib.Core.Path.{_≡_}
 use mathlib.Core.List.{List, [], _∷_, _++_}
 use Rattle.refusal.specs.Answer.{Answer, accepted, refused, _>>=_}
-use Rattle.job.specs.Writing.{writeNumbers}
+use Rattle.job.specs.Writing.{writeNumbers, printedJob}
 use Rattle.runs.specs.declared.Stretch.{Stretch}
 use Rattle.planning.specs.declared.Overhangs.{Overhangs}
 use Rattle.planning.specs.Envelope.{noOverhang}
@@ -69,3 +70,11 @@ planned c = plan (writeNumbers (c .job)) 0 64
 
 unfoldable pub written : Case → Answer PlannedSide
 written c = c .expected >>= λ rs. accepted (record { schedule = writeSchedule rs; overhangs = c .overhangs })
+
+-- Of the job on paper "the right schedule is hex 01 FD C0 09 D3 A7 03 03", and nothing hangs over.
+abbrev pub printedSide : PlannedSide
+printedSide = record { schedule = 0x01 ∷ 0xFD ∷ 0xC0 ∷ 0x09 ∷ 0xD3 ∷ 0xA7 ∷ 0x03 ∷ 0x03 ∷ []; overhangs = noOverhang }
+
+-- That is what plan writes of it, "into any output long enough".
+abbrev pub Printed-plan : Type 0
+Printed-plan = (room : ℕ) → 8 ≤ room → plan (writeNumbers printedJob) 0 room ≡ accepted printedSide

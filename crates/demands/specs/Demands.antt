@@ -21,7 +21,7 @@ use Rattle.schedule.specs.Planned.{Accepted, scheduleAlone, Planned, scheduleLe
 use Rattle.queries.specs.Ranges.{mostRanges, quantities, replied}
 use Rattle.planning.specs.Required.{jobLevel, jobRuns}
 use Rattle.queries.specs.Lookup.{FoundRun, Found, found, nowhere, asked, lookup}
-use Rattle.schedule.specs.Plan.{outputAfter, plan}
+use Rattle.schedule.specs.Plan.{PlannedSide, outputAfter, plan}
 use Rattle.queries.specs.Quantity.{millimetres, quantity}
 
 -- Demand 1, of the definitions: after every call the output holds the complete schedule from its first byte, the bytes behind it untouched, or exactly what it held before; its length never changes.
@@ -93,6 +93,16 @@ Demand3-writing = (s : List ℕ) (j : Job) (side : ℕ) (w : List ℕ) → Accep
 -- There is a planned schedule, for each side of each accepted job.
 abbrev pub Demand3-planned : Type 0
 Demand3-planned = (s : List ℕ) (j : Job) (side : ℕ) → Accepted s j → side ≤ 1 → Planned s side (writeSchedule (jobRuns j side))
+
+-- Whatever plan writes, into whatever output, is the planned schedule of an accepted job.
+pub record PlannedJob (s : List ℕ) (side : ℕ) (w : List ℕ) : Type 0 where
+  pub job : Job
+  pub is-accepted : Accepted s job
+  pub side-ok : side ≤ 1
+  pub planned : Planned s side w
+
+abbrev pub Plan-accepted : Type 0
+Plan-accepted = (s : List ℕ) (side room : ℕ) (p : PlannedSide) → plan s side room ≡ accepted p → PlannedJob s side (p .schedule)
 
 -- Demand 3, equal schedules: two accepted jobs, or one taken twice, and a side of each.
 abbrev pub Demand3-equal : Type 0

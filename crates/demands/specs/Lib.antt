@@ -1,6 +1,9 @@
 pub mod Demands
+pub mod PlanTable
+pub mod Queries
 pub mod Cases
 -- Document 02.
+pub mod Contract
 pub mod Panels
 pub mod Level
 pub mod Road

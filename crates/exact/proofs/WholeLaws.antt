@@ -102,19 +102,19 @@ neg-at (fin u m e) s n h = (ap not (h .0), h .1)
 
 -- A sum and a difference of casts, each of an integer up to 2 ^ prec, is rounded once, from the exact number: it is the cast of that.
 module _ (f : Format) (a b : ℤ) (l : natAbs a ≤ 2 ^ prec f) (m : natAbs b ≤ 2 ^ prec f) where
-  abbrev x : Whole (ofInt f a) a
-  x = cast-exact f a l
+  abbrev whole-a : Whole (ofInt f a) a
+  whole-a = cast-exact f a l
 
-  abbrev y : Whole (ofInt f b) b
-  y = cast-exact f b m
+  abbrev whole-b : Whole (ofInt f b) b
+  whole-b = cast-exact f b m
 
   pub add-cast : add f (ofInt f a) (ofInt f b) ≡ ofInt f (a +ℤ b)
-  add-cast = add-at f (ofInt f a) (ofInt f b) _ _ _ _ (x .value) (y .value) ∙ sum-integer f a (belowZero b) (natAbs b) ∙ ap (λ (z : ℤ). ofInt f (a +ℤ z)) (signed-whole b .0)
+  add-cast = add-at f (ofInt f a) (ofInt f b) _ _ _ _ (whole-a .value) (whole-b .value) ∙ sum-integer f a (belowZero b) (natAbs b) ∙ ap (λ (z : ℤ). ofInt f (a +ℤ z)) (signed-whole b .0)
 
   pub sub-cast : sub f (ofInt f a) (ofInt f b) ≡ ofInt f (a -ℤ b)
   unfolding sub
   sub-cast =
-      add-at f (ofInt f a) (neg (ofInt f b)) _ _ _ _ (x .value) (neg-at (ofInt f b) _ _ (y .value)) ∙ sum-integer f a (not (belowZero b)) (natAbs b)
+      add-at f (ofInt f a) (neg (ofInt f b)) _ _ _ _ (whole-a .value) (neg-at (ofInt f b) _ _ (whole-b .value)) ∙ sum-integer f a (not (belowZero b)) (natAbs b)
       ∙ ap (λ (z : ℤ). ofInt f (a +ℤ z)) (signed-whole b .1)
 
 -- Sizes

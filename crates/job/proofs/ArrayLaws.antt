@@ -14,13 +14,14 @@ use Rattle.refusal.specs.declared.Refusal.{Refusal}
 use Rattle.job.specs.declared.field.Reading.{Reading}
 use Rattle.job.specs.declared.field.Field.{Field}
 use Rattle.job.specs.declared.field.Field.the-variants as Field
-use Rattle.job.specs.Job.{Range, readFields}
+use Rattle.job.specs.declared.Bounds.{Bounds}
+use Rattle.job.specs.Job.{readFields}
 use Rattle.job.specs.Reply.{fieldAt, fieldAnswer}
 use Rattle.job.proofs.FieldLaws.{take-stored, field-within, fields-more, fields-refused}
 use Rattle.job.proofs.RangeLaws.{within-high}
 
 -- A group of `size` numbers from index `first` on, of which the second is at most `top`.
-module _ (rangeOf : List ℕ → Range) (outside : List ℕ → Refusal) (size top : ℕ) (s : List ℕ) (first : ℕ) where
+module _ (rangeOf : List ℕ → Bounds) (outside : List ℕ → Refusal) (size top : ℕ) (s : List ℕ) (first : ℕ) where
   -- k of them stand in the array, and the others are left from index `at` on.
   pub record NumbersLeft (numbers : List ℕ) (at k : ℕ) : Type 0 where
     pub most : k ≤ size
@@ -28,13 +29,13 @@ module _ (rangeOf : List ℕ → Range) (outside : List ℕ → Refusal) (size t
     pub second : getD numbers 1 0 ≤ top
     pub same : readFields rangeOf outside size [] s first ≡ readFields rangeOf outside (size - k) (take k numbers) s at
 
-module _ {rangeOf : List ℕ → Range} {outside : List ℕ → Refusal} {size top : ℕ} {s : List ℕ} {first : ℕ} where
+module _ {rangeOf : List ℕ → Bounds} {outside : List ℕ → Refusal} {size top : ℕ} {s : List ℕ} {first : ℕ} where
   pub all-left : (numbers : List ℕ) → length numbers ≡ size → getD numbers 1 0 ≤ top → NumbersLeft rangeOf outside size top s first numbers first 0
   all-left numbers room second = record { most = omega arith; room = room; second = second; same = rw sub-zero }
 
   module _ {numbers : List ℕ} {at k : ℕ} (left : NumbersLeft rangeOf outside size top s first numbers at k) where
     -- The next number, which is `f`, was read for its range.
-    module _ (more : k < size) {range : Range} {value : Refusal} (f : Field) (its : range ≡ rangeOf (take k numbers)) (own : outside (take k numbers) ≡ value)
+    module _ (more : k < size) {range : Bounds} {value : Refusal} (f : Field) (its : range ≡ rangeOf (take k numbers)) (own : outside (take k numbers) ≡ value)
         (read : fieldAnswer f ≡ fieldAt range value s at) where
       read-next : fieldAnswer f ≡ fieldAt (rangeOf (take k numbers)) value s at
       read-next = rw (sym its) read

@@ -20,7 +20,8 @@ use Rattle.number.proofs.ReadLaws.{read-bounds}
 use Rattle.job.specs.declared.field.Reading.{Reading as Numbered}
 use Rattle.job.specs.declared.field.Field.{Field}
 use Rattle.job.specs.declared.field.Field.the-variants as Field
-use Rattle.job.specs.Job.{Range, within, readFields}
+use Rattle.job.specs.declared.Bounds.{Bounds}
+use Rattle.job.specs.Job.{within, readFields}
 use Rattle.job.specs.Reply.{fieldAt, fieldAnswer}
 use Rattle.refusal.proofs.TestLaws.{impossible}
 
@@ -40,7 +41,7 @@ bind-tested (accepted a) test rest = sym (bind-assoc (test a) (λ _. accepted a)
 bind-tested (refused k v) test rest = refl
 
 -- A number that was read is in its range.
-within-tested : (range : Range) (outside : Refusal) (m : Answer Reading) (x : Reading)
+within-tested : (range : Bounds) (outside : Refusal) (m : Answer Reading) (x : Reading)
     → m >>= (λ y. unless-refuse (within range (y .value)) outside >>= λ _. accepted y) ≡ accepted x → within range (x .value) ≡ true
 within-tested range outside (accepted y) x e =
     let b = bound (unless-refuse (within range (y .value)) outside) (λ _. accepted y) x e in
@@ -48,13 +49,13 @@ within-tested range outside (accepted y) x e =
     subst (λ (z : Reading). within range (z .value) ≡ true) same (tested _ outside (b .first) (b .taken))
 within-tested range outside (refused a b) x e = impossible cc
 
-pub field-within : (range : Range) (outside : Refusal) (s : List ℕ) (at : ℕ) (f : Field) (n : Numbered)
+pub field-within : (range : Bounds) (outside : Refusal) (s : List ℕ) (at : ℕ) (f : Field) (n : Numbered)
     → fieldAnswer f ≡ fieldAt range outside s at → f ≡ Field.Number n → within range (n .value) ≡ true
 unfolding fieldAt
 field-within range outside s at f n read e = within-tested range outside (numberAt s at) (record { value = n .value; next = n .next }) (sym read ∙ rw e)
 
 -- It takes six bytes at most.
-taken-tested : (range : Range) (outside : Refusal) (m : Answer Reading) (x : Reading)
+taken-tested : (range : Bounds) (outside : Refusal) (m : Answer Reading) (x : Reading)
     → m >>= (λ y. unless-refuse (within range (y .value)) outside >>= λ _. accepted y) ≡ accepted x → m ≡ accepted x
 taken-tested range outside (accepted y) x e =
     let b = bound (unless-refuse (within range (y .value)) outside) (λ _. accepted y) x e in
@@ -66,7 +67,7 @@ abbrev nextOf : Answer Reading → ℕ
 nextOf (accepted x) = x .next
 nextOf (refused a b) = 0
 
-pub field-near : (range : Range) (outside : Refusal) (s : List ℕ) (at : ℕ) (f : Field) (n : Numbered)
+pub field-near : (range : Bounds) (outside : Refusal) (s : List ℕ) (at : ℕ) (f : Field) (n : Numbered)
     → fieldAnswer f ≡ fieldAt range outside s at → f ≡ Field.Number n → n .next ≤ at + 6
 unfolding fieldAt numberAt
 field-near range outside s at f n read e =
@@ -78,13 +79,13 @@ field-near range outside s at f n read e =
     go Read.Malformed p q = impossible cc
 
 -- k numbers more behind the next one, which stands there in its range.
-pub fields-next : (rangeOf : List ℕ → Range) (outside : List ℕ → Refusal) (k : ℕ) (got s : List ℕ) (at v n : ℕ) → readNumber s at ≡ Read.Number v n → rangeOf got .low ≤ v → v ≤ rangeOf got .high
+pub fields-next : (rangeOf : List ℕ → Bounds) (outside : List ℕ → Refusal) (k : ℕ) (got s : List ℕ) (at v n : ℕ) → readNumber s at ≡ Read.Number v n → rangeOf got .low ≤ v → v ≤ rangeOf got .high
     → readFields rangeOf outside (suc k) got s at ≡ readFields rangeOf outside k (got ++ v ∷ []) s n
 unfolding readFields numberAt
 fields-next rangeOf outside k got s at v n e low high = rw (e, le-leb (rangeOf got .low) v low, le-leb v (rangeOf got .high) high)
 
 -- k numbers more behind the next one, which is `f`.
-module _ (rangeOf : List ℕ → Range) (outsideAt : List ℕ → Refusal) (outside : Refusal) (k : ℕ) (got s : List ℕ) (at : ℕ) (f : Field)
+module _ (rangeOf : List ℕ → Bounds) (outsideAt : List ℕ → Refusal) (outside : Refusal) (k : ℕ) (got s : List ℕ) (at : ℕ) (f : Field)
     (its : outsideAt got ≡ outside) (read : fieldAnswer f ≡ fieldAt (rangeOf got) outside s at) where
   fields-step : readFields rangeOf outsideAt (suc k) got s at ≡ fieldAnswer f >>= λ x. readFields rangeOf outsideAt k (got ++ x .value ∷ []) s (x .next)
   unfolding readFields fieldAt

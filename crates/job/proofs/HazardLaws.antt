@@ -17,7 +17,8 @@ use Rattle.number.specs.declared.Read.the-variants.{Number}
 use Rattle.job.specs.declared.field.Reading.{Reading}
 use Rattle.job.specs.declared.field.Field.{Field}
 use Rattle.job.specs.declared.field.Field.the-variants as Field
-use Rattle.job.specs.Job.{Range, _to_, hazardRanges, hazardOf, nextInHazard, readFields, outsideHazard}
+use Rattle.job.specs.declared.Bounds.{Bounds}
+use Rattle.job.specs.Job.{_to_, hazardRanges, hazardOf, nextInHazard, readFields, outsideHazard}
 use Rattle.job.specs.Fits.{HazardFits}
 use Rattle.job.specs.Reply.{fieldAt, fieldAnswer, hazardAt}
 use Rattle.job.proofs.FieldLaws.{fields-next}
@@ -26,8 +27,8 @@ use Rattle.job.proofs.RangeLaws.{HazardBounds, hazard-bounds}
 use Rattle.job.proofs.JobLaws.{fields-in, hazard-fits}
 
 -- A table as its low ends and its high ends.
-pub range-at : (rs : List Range) (k : ℕ) → getD (map (λ (r : Range). r .low) rs) k 0 to getD (map (λ (r : Range). r .high) rs) k 0 ≡ getD rs k (0 to 0)
-range-at rs k = ap₂ _to_ (List·getD-map (λ (r : Range). r .low) rs k (0 to 0)) (List·getD-map (λ (r : Range). r .high) rs k (0 to 0))
+pub range-at : (rs : List Bounds) (k : ℕ) → getD (map (λ (r : Bounds). r .low) rs) k 0 to getD (map (λ (r : Bounds). r .high) rs) k 0 ≡ getD rs k (0 to 0)
+range-at rs k = ap₂ _to_ (List·getD-map (λ (r : Bounds). r .low) rs k (0 to 0)) (List·getD-map (λ (r : Bounds). r .high) rs k (0 to 0))
 
 -- The next range goes by the array's second and fourth number as soon as they count.
 next-in-hazard : (h : Header) (numbers : List ℕ) (k : ℕ) → k ≤ length numbers
@@ -50,7 +51,7 @@ HazardLeft h index s first = NumbersLeft (nextInHazard h) (outsideHazard index) 
 
 module _ (h : Header) {index : ℕ} {s : List ℕ} {first : ℕ} {numbers : List ℕ} {at k : ℕ} (left : HazardLeft h index s first numbers at k) where
   -- The next number, which is `f`, was read for its range.
-  module _ (more : k < 6) {range : Range} (f : Field) (its : range ≡ getD (hazardRanges (h .begin) (h .end) (getD numbers 1 0) (getD numbers 3 0)) k (0 to 0))
+  module _ (more : k < 6) {range : Bounds} (f : Field) (its : range ≡ getD (hazardRanges (h .begin) (h .end) (getD numbers 1 0) (getD numbers 3 0)) k (0 to 0))
       (read : fieldAnswer f ≡ fieldAt range (HazardRange index) s at) where
     its-next : range ≡ nextInHazard h (take k numbers)
     its-next = its ∙ sym (next-in-hazard h numbers k (omega (arith, left .room)))

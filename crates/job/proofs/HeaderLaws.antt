@@ -4,8 +4,8 @@ use Prim.Native.Nat.{ℕ, zero, suc, _+_, _≤_, _<_}
 use native.Mathlib.Omega.{arith}
 use mathlib.Core.Path.{_≡_, refl, sym, subst, ap, _∙_}
 use mathlib.Core.Bool.{Bool, true, false}
-use mathlib.Core.List.{List, [], _∷_, _++_, map}
-use lib.ListN.{length, getD, set, take, List·getD-map, List·getD-append}
+use mathlib.Core.List.{List, [], _∷_, _++_}
+use lib.ListN.{length, getD, set, take, List·getD-append}
 use lib.Seq.{length-take-le, getD-take, getD-set-other}
 use lib.Dec.{eqb}
 use borrow.Author.Tests.{eq-eqb, ne-eqb}
@@ -17,8 +17,8 @@ use Rattle.refusal.specs.declared.Refusal.the-variants.{HeaderRange}
 use Rattle.job.specs.declared.field.Reading.{Reading}
 use Rattle.job.specs.declared.field.Field.{Field}
 use Rattle.job.specs.declared.field.Field.the-variants as Field
-use Rattle.job.specs.declared.field.Bounds.{Bounds}
-use Rattle.job.specs.Job.{Range, _to_, sharedRanges, lastRanges, headerRanges, headerSize, nextInHeader, readFields, readHeader, headerWith, headerOf, outsideHeader}
+use Rattle.job.specs.declared.Bounds.{Bounds}
+use Rattle.job.specs.Job.{_to_, sharedRanges, lastRanges, headerRanges, headerSize, nextInHeader, readFields, readHeader, headerWith, headerOf, outsideHeader}
 use Rattle.job.specs.Reply.{fieldAt, fieldAnswer, headerAt, headerFrom}
 use Rattle.job.proofs.FieldLaws.{fields-more, fields-refused}
 use Rattle.job.proofs.ArrayLaws.{NumbersLeft, one-less, next-refused, all-read}
@@ -48,13 +48,6 @@ range-shared kind k l = List·getD-append (sharedRanges 0) (lastRanges kind) (0 
 pub range-plain : (kind A k : ℕ) → k < 13 → (k ≡ 2 → ⊥) → getD (headerRanges 2 0) k (0 to 0) ≡ getD (headerRanges kind A) k (0 to 0)
 range-plain kind A k l other = range-shared 2 k l ∙ sym (range-shared kind k l) ∙ sym (range-elsewhere kind A k other)
 
--- These as the code's table.
-abbrev boundsOf : Range → Bounds
-boundsOf r = record { 0 = r .low; 1 = r .high }
-
-pub table-range : (k : ℕ) → let b = getD (map boundsOf (headerRanges 2 0)) k (record { 0 = 0; 1 = 0 }) in (b .0) to (b .1) ≡ getD (headerRanges 2 0) k (0 to 0)
-table-range k = ap (λ (b : Bounds). (b .0) to (b .1)) (List·getD-map boundsOf (headerRanges 2 0) k (0 to 0))
-
 -- The next range goes by the array's first and second number as soon as they count.
 next-in-header : (numbers : List ℕ) (k : ℕ) → k ≤ length numbers → nextInHeader (take k numbers) ≡ getD (headerRanges (getD numbers 0 0) (getD numbers 1 0)) k (0 to 0)
 unfolding headerRanges sharedRanges
@@ -72,7 +65,7 @@ HeaderLeft s = NumbersLeft nextInHeader outsideHeader 14 999999999999 s 0
 
 module _ {s numbers : List ℕ} {at k : ℕ} (left : HeaderLeft s numbers at k) where
   -- The next number, which is `f`, was read for its range.
-  module _ (more : k < 14) {range : Range} (f : Field) (its : range ≡ getD (headerRanges (getD numbers 0 0) (getD numbers 1 0)) k (0 to 0))
+  module _ (more : k < 14) {range : Bounds} (f : Field) (its : range ≡ getD (headerRanges (getD numbers 0 0) (getD numbers 1 0)) k (0 to 0))
       (read : fieldAnswer f ≡ fieldAt range (HeaderRange (k + 1)) s at) where
     its-next : range ≡ nextInHeader (take k numbers)
     its-next = its ∙ sym (next-in-header numbers k (omega (arith, left .room)))

@@ -22,20 +22,21 @@ use Rattle.job.specs.declared.Header.{Header}
 use Rattle.job.specs.declared.Hazard.{Hazard}
 use Rattle.refusal.specs.declared.Outcome.the-variants.{Done, Refused}
 use Rattle.job.specs.declared.read.JobRead.{JobRead}
-use Rattle.job.specs.Job.{Job, jobOf, Range, within, headerSize, nextInHeader, nextInHazard, Fields, readFields, moreNumbers, readHeader, headerOf, hazardOf, Hazards, readHazards, readJob, readRest, outsideHeader, outsideHazard}
+use Rattle.job.specs.declared.Bounds.{Bounds}
+use Rattle.job.specs.Job.{Job, jobOf, within, headerSize, nextInHeader, nextInHazard, Fields, readFields, moreNumbers, readHeader, headerOf, hazardOf, Hazards, readHazards, readJob, readRest, outsideHeader, outsideHazard}
 use Rattle.job.specs.Writing.{headerNumbers, hazardNumbers}
 use Rattle.job.specs.Fits.{inRanges, headerInRange, hazardInRange, HeaderFits, HazardFits, HazardsFit, JobFits}
 use Rattle.job.specs.Reply.{HeaderReading, headerReading, headerAt, jobAnswer}
 use Rattle.job.proofs.RangeLaws.{ranges-parts}
 
 -- The numbers read behind `got`: k of them, each in its range.
-pub record FieldsIn (rangeOf : List ℕ → Range) (k : ℕ) (got numbers : List ℕ) : Type 0 where
+pub record FieldsIn (rangeOf : List ℕ → Bounds) (k : ℕ) (got numbers : List ℕ) : Type 0 where
   pub own : List ℕ
   pub whole : numbers ≡ got ++ own
   pub size : length own ≡ k
   pub fit : inRanges rangeOf got own ≡ true
 
-pub fields-in : (rangeOf : List ℕ → Range) (outside : List ℕ → Refusal) (k : ℕ) (got s : List ℕ) (at : ℕ) (f : Fields) → readFields rangeOf outside k got s at ≡ accepted f → FieldsIn rangeOf k got (f .numbers)
+pub fields-in : (rangeOf : List ℕ → Bounds) (outside : List ℕ → Refusal) (k : ℕ) (got s : List ℕ) (at : ℕ) (f : Fields) → readFields rangeOf outside k got s at ≡ accepted f → FieldsIn rangeOf k got (f .numbers)
 unfolding readFields inRanges
 fields-in rangeOf outside zero got s at f e =
     let w : record { numbers = got; next = at } ≡ f = cc in

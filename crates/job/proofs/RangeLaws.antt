@@ -14,14 +14,15 @@ use Rattle.refusal.proofs.TestLaws.{and-left, and-right}
 use Rattle.number.specs.Number.{greatest}
 use Rattle.job.specs.declared.Header.{Header}
 use Rattle.job.specs.declared.Hazard.{Hazard}
-use Rattle.job.specs.Job.{Range, within, _to_, sharedRanges, headerRanges, hazardRanges, nextInHeader, nextInHazard, sharedNumbers}
+use Rattle.job.specs.declared.Bounds.{Bounds}
+use Rattle.job.specs.Job.{within, _to_, sharedRanges, headerRanges, hazardRanges, nextInHeader, nextInHazard, sharedNumbers}
 use Rattle.job.specs.Writing.{lastNumbers, headerNumbers, hazardNumbers}
 use Rattle.job.specs.Fits.{inRanges, headerInRange, hazardInRange, HeaderFits, HazardFits}
 
-pub within-low : (r : Range) (x : ℕ) → within r x ≡ true → r .low ≤ x
+pub within-low : (r : Bounds) (x : ℕ) → within r x ≡ true → r .low ≤ x
 within-low r x h = leb-true _ _ (and-left _ (leb x (r .high)) h)
 
-pub within-high : (r : Range) (x : ℕ) → within r x ≡ true → x ≤ r .high
+pub within-high : (r : Bounds) (x : ℕ) → within r x ≡ true → x ≤ r .high
 within-high r x h = leb-true _ _ (and-right (leb (r .low) x) _ h)
 
 -- The code's tests of a range as the table's.
@@ -45,7 +46,7 @@ to-last a b some = go (decLt a b)
 
 -- Numbers
 
-module _ (rangeOf : List ℕ → Range) where
+module _ (rangeOf : List ℕ → Bounds) where
   pub ranges-cons : (got : List ℕ) (x : ℕ) (xs : List ℕ) → inRanges rangeOf got (x ∷ xs) ≡ true → (within (rangeOf got) x ≡ true) × (inRanges rangeOf (got ++ x ∷ []) xs ≡ true)
   unfolding inRanges
   ranges-cons got x xs e = (and-left (within (rangeOf got) x) (inRanges rangeOf (got ++ x ∷ []) xs) e, and-right (within (rangeOf got) x) (inRanges rangeOf (got ++ x ∷ []) xs) e)
@@ -190,17 +191,17 @@ hazard-bounds h z fits =
     high = ranges-high (nextInHazard h) (hazardNumbers z) fits
 
 -- No range of a list reaches beyond m.
-pub highs-most : (m : ℕ) (rs : List Range) → allOf (λ (r : Range). leb (r .high) m) rs ≡ true → (k : ℕ) → getD rs k (0 to 0) .high ≤ m
+pub highs-most : (m : ℕ) (rs : List Bounds) → allOf (λ (r : Bounds). leb (r .high) m) rs ≡ true → (k : ℕ) → getD rs k (0 to 0) .high ≤ m
 unfolding allOf
 highs-most m [] e k = omega arith
-highs-most m (r ∷ rs) e zero = leb-true _ _ (and-left (leb (r .high) m) (allOf (λ (q : Range). leb (q .high) m) rs) e)
-highs-most m (r ∷ rs) e (suc k) = highs-most m rs (and-right (leb (r .high) m) (allOf (λ (q : Range). leb (q .high) m) rs) e) k
+highs-most m (r ∷ rs) e zero = leb-true _ _ (and-left (leb (r .high) m) (allOf (λ (q : Bounds). leb (q .high) m) rs) e)
+highs-most m (r ∷ rs) e (suc k) = highs-most m rs (and-right (leb (r .high) m) (allOf (λ (q : Bounds). leb (q .high) m) rs) e) k
 
 pub header-most : (got : List ℕ) → nextInHeader got .high ≤ greatest
 unfolding headerRanges sharedRanges allOf
 header-most got = go (getD got 0 0) (getD got 1 0) (length got)
   where
-    others : (t : Bool) → allOf (λ (r : Range). leb (r .high) greatest) (drop 3 (sharedRanges 0) ++ (if t then 1 to 10000 ∷ 0 to 256 ∷ [] else 0 to 256 ∷ [])) ≡ true
+    others : (t : Bool) → allOf (λ (r : Bounds). leb (r .high) greatest) (drop 3 (sharedRanges 0) ++ (if t then 1 to 10000 ∷ 0 to 256 ∷ [] else 0 to 256 ∷ [])) ≡ true
     others true = refl
     others false = refl
 

@@ -21,12 +21,13 @@ use Rattle.refusal.proofs.RowLaws.{same-row}
 use Rattle.number.specs.declared.Read.{Read}
 use Rattle.number.specs.declared.Read.the-variants.{Number, Ended, Malformed}
 use Rattle.number.specs.Number.{writeNumber, readNumber, readingOf, numberAt}
-use Rattle.number.proofs.ByteLaws.{Bytes}
+use Rattle.number.specs.Form.{Bytes}
 use Rattle.number.proofs.ReadLaws.{read-stands}
 use Rattle.number.proofs.FormLaws.{read-ended, read-malformed}
 use Rattle.job.specs.declared.Header.{Header}
 use Rattle.job.specs.declared.Hazard.{Hazard}
-use Rattle.job.specs.Job.{Job, Range, within, nextInHeader, nextInHazard, Fields, readFields, moreNumbers, readHeader, headerOf, hazardOf, Hazards, readHazards, readRest, readJob, outsideHeader, outsideHazard}
+use Rattle.job.specs.declared.Bounds.{Bounds}
+use Rattle.job.specs.Job.{Job, within, nextInHeader, nextInHazard, Fields, readFields, moreNumbers, readHeader, headerOf, hazardOf, Hazards, readHazards, readRest, readJob, outsideHeader, outsideHazard}
 use Rattle.job.specs.Writing.{headerNumbers, hazardNumbers, hazardsNumbers, numbersOf, writeNumbers, writeJob}
 use Rattle.job.specs.Fits.{inRanges, HazardFits}
 use Rattle.job.specs.Rows.{Group, ofHeader, ofHazard, HasGroup, sizeOf, nextIn, numbersBefore, BeforeFits, Stands, behind, Next, OutOfRange, ReadRow, ended, malformed, header-range, hazard-range, left-over}
@@ -35,7 +36,7 @@ use Rattle.job.proofs.JobLaws.{FieldsIn, fields-in, HeaderIn, header-in
 use Rattle.job.proofs.StandLaws.{numbers-append, outsideOf, row-refused}
 
 -- A number more behind others that are in their ranges.
-ranges-more : (rangeOf : List ℕ → Range) (xs : List ℕ) (x : ℕ) → inRanges rangeOf [] xs ≡ true → within (rangeOf xs) x ≡ true → inRanges rangeOf [] (xs ++ x ∷ []) ≡ true
+ranges-more : (rangeOf : List ℕ → Bounds) (xs : List ℕ) (x : ℕ) → inRanges rangeOf [] xs ≡ true → within (rangeOf xs) x ≡ true → inRanges rangeOf [] (xs ++ x ∷ []) ≡ true
 unfolding inRanges
 ranges-more rangeOf xs x fit w = ranges-parts rangeOf [] xs (x ∷ []) ∙ and-intro fit (and-intro w refl)
 

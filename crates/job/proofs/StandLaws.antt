@@ -23,7 +23,8 @@ use Rattle.number.proofs.ReadLaws.{read-number, after-number}
 use Rattle.number.proofs.FormLaws.{read-ended, ill-formed}
 use Rattle.job.specs.declared.Header.{Header}
 use Rattle.job.specs.declared.Hazard.{Hazard}
-use Rattle.job.specs.Job.{Range, headerWith, headerOf, nextInHeader, nextInHazard, readFields, moreNumbers, readHeader, readHazards, readRest, readJob, outsideHeader, outsideHazard, sharedNumbers}
+use Rattle.job.specs.declared.Bounds.{Bounds}
+use Rattle.job.specs.Job.{headerWith, headerOf, nextInHeader, nextInHazard, readFields, moreNumbers, readHeader, readHazards, readRest, readJob, outsideHeader, outsideHazard, sharedNumbers}
 use Rattle.job.specs.Writing.{headerNumbers, hazardNumbers, hazardsNumbers, numbersOf, writeNumbers}
 use Rattle.job.specs.Fits.{inRanges, hazardInRange, HeaderFits, HazardFits}
 use Rattle.job.specs.Rows.{Group, ofHeader, ofHazard, nextIn, numbersBefore, BeforeFits, Stands, behind, Next, Unread, OutOfRange, BytesAfter, ReadRow, ended, malformed, header-range, hazard-range, left-over}
@@ -39,10 +40,10 @@ after-part : (s : List ℕ) (at : ℕ) (w rest : List ℕ) → drop at s ≡ w +
 after-part s at w rest e = sym (drop-drop (length w) at s) ∙ rw e (drop-append-seam w rest)
 
 -- Numbers of one group, whose ranges do not reach beyond the greatest value.
-abbrev Within : (List ℕ → Range) → Type 0
+abbrev Within : (List ℕ → Bounds) → Type 0
 Within rangeOf = (got : List ℕ) → rangeOf got .high ≤ greatest
 
-fields-behind : (rangeOf : List ℕ → Range) → Within rangeOf → (outside : List ℕ → Refusal) (m k : ℕ) (xs got s : List ℕ) (at : ℕ) (rest : List ℕ)
+fields-behind : (rangeOf : List ℕ → Bounds) → Within rangeOf → (outside : List ℕ → Refusal) (m k : ℕ) (xs got s : List ℕ) (at : ℕ) (rest : List ℕ)
     → m ≡ length xs + k → inRanges rangeOf got xs ≡ true → drop at s ≡ writeNumbers xs ++ rest
     → readFields rangeOf outside m got s at ≡ readFields rangeOf outside k (got ++ xs) s (at + length (writeNumbers xs))
 unfolding readFields writeNumbers inRanges
@@ -56,7 +57,7 @@ fields-behind rangeOf most outside (suc m) k (x ∷ xs) got s at rest size fit e
     rw (read-number s at x (writeNumbers xs ++ rest) (omega (arith, within-high (rangeOf got) x (fits .0), most got)) here, fits .0)
     (later ∙ rw (append-assoc got (x ∷ []) xs, length-append (writeNumber x) (writeNumbers xs), (let z : at + (length (writeNumber x) + length (writeNumbers xs)) ≡ at + length (writeNumber x) + length (writeNumbers xs) = omega arith in z)))
 
-fields-written : (rangeOf : List ℕ → Range) → Within rangeOf → (outside : List ℕ → Refusal) (xs s : List ℕ) (at : ℕ) (rest : List ℕ)
+fields-written : (rangeOf : List ℕ → Bounds) → Within rangeOf → (outside : List ℕ → Refusal) (xs s : List ℕ) (at : ℕ) (rest : List ℕ)
     → inRanges rangeOf [] xs ≡ true → drop at s ≡ writeNumbers xs ++ rest
     → readFields rangeOf outside (length xs) [] s at ≡ accepted (record { numbers = xs; next = at + length (writeNumbers xs) })
 unfolding readFields

@@ -12,7 +12,7 @@ use Rattle.refusal.specs.Choice.{if_then_else_}
 use Rattle.refusal.specs.Answer.{accepted}
 use Rattle.number.specs.Number.{writeNumber}
 use Rattle.number.proofs.WriteLaws.{length-below}
-pub use Rattle.number.proofs.ByteLaws.{Bytes}
+use Rattle.number.specs.Form.{Bytes}
 use Rattle.job.specs.declared.Header.{Header}
 use Rattle.job.specs.declared.Hazard.{Hazard}
 use Rattle.job.specs.Job.{Job, readHazards, readJob, readRest}

@@ -8,11 +8,12 @@ use lib.ListN.{length}
 use lib.Dec.{eqb}
 use Rattle.job.specs.declared.Header.{Header}
 use Rattle.job.specs.declared.Hazard.{Hazard}
-use Rattle.job.specs.Job.{Job, Range, within, nextInHeader, nextInHazard}
+use Rattle.job.specs.declared.Bounds.{Bounds}
+use Rattle.job.specs.Job.{Job, within, nextInHeader, nextInHazard}
 use Rattle.job.specs.Writing.{headerNumbers, hazardNumbers}
 
 -- Numbers after `got`, each in its range.
-unfoldable pub inRanges : (rangeOf : List ℕ → Range) (got numbers : List ℕ) → Bool
+unfoldable pub inRanges : (rangeOf : List ℕ → Bounds) (got numbers : List ℕ) → Bool
 inRanges rangeOf got [] = true
 inRanges rangeOf got (x ∷ xs) = within (rangeOf got) x && inRanges rangeOf (got ++ x ∷ []) xs
 

@@ -11,6 +11,7 @@ use Rattle.refusal.specs.Refusal.{unless-refuse}
 use Rattle.refusal.specs.declared.Refusal.the-variants as Row
 use Rattle.number.specs.Number.{numberAt}
 use Rattle.job.specs.declared.Header.{Header}
+use Rattle.job.specs.declared.Bounds.{Bounds}
 use Rattle.job.specs.declared.Hazard.{Hazard}
 use Rattle.job.specs.declared.NamedHazard.{NamedHazard}
 use Rattle.job.specs.declared.StoredJob.{StoredJob}
@@ -33,20 +34,16 @@ jobOf j = record { header = j .header; hazards = map unnamed (take (j .header .c
 
 -- The tables
 
--- A range, both ends included.
-pub record Range : Type 0 where
-  pub low : ℕ
-  pub high : ℕ
-
+-- Bounds: a range, both ends included.
 infix 70 _to_
-abbrev pub _to_ : ℕ → ℕ → Range
+abbrev pub _to_ : ℕ → ℕ → Bounds
 l to h = record { low = l; high = h }
 
-abbrev pub within : Range → ℕ → Bool
+abbrev pub within : Bounds → ℕ → Bool
 within r x = leb (r .low) x && leb x (r .high)
 
 -- The header table's ranges, in order, where the road begins at A: the thirteen numbers that every kind has.
-unfoldable pub sharedRanges : (A : ℕ) → List Range
+unfoldable pub sharedRanges : (A : ℕ) → List Bounds
 sharedRanges A =
     -- 1: kind; 2 by document 02, request 4
     1 to 2
@@ -77,10 +74,10 @@ sharedRanges A =
 
 -- And those after G, by kind. Of kind 1, 14: h, hazard count. Document 02, request 4: "A kind 2 job has one more header number after G: panel
 -- length, 1 to 10,000. .. Number 15 is then the hazard count."
-abbrev pub lastRanges : (kind : ℕ) → List Range
+abbrev pub lastRanges : (kind : ℕ) → List Bounds
 lastRanges kind = if eqb kind 2 then 1 to 10000 ∷ 0 to 256 ∷ [] else 0 to 256 ∷ []
 
-unfoldable pub headerRanges : (kind A : ℕ) → List Range
+unfoldable pub headerRanges : (kind A : ℕ) → List Bounds
 headerRanges kind A = sharedRanges A ++ lastRanges kind
 
 -- "Header, 14 numbers"; of a kind 2 job 15 (law header-size). The last is the hazard count.
@@ -88,14 +85,14 @@ abbrev pub headerSize : (kind : ℕ) → ℕ
 headerSize kind = if eqb kind 2 then 15 else 14
 
 -- "Side (0 right, 1 left); s, from A to B − 1; e, from s + 1 to B; near offset n from the travelled-way edge on its side, 0 to 60,000; far offset f, n to 60,000; level 1 to 6."
-unfoldable pub hazardRanges : (A B s n : ℕ) → List Range
+unfoldable pub hazardRanges : (A B s n : ℕ) → List Bounds
 hazardRanges A B s n = 0 to 1 ∷ A to (B - 1) ∷ (s + 1) to B ∷ 0 to 60000 ∷ n to 60000 ∷ 1 to 6 ∷ []
 
 -- The range of the next number, after the numbers `got`.
-abbrev pub nextInHeader : (got : List ℕ) → Range
+abbrev pub nextInHeader : (got : List ℕ) → Bounds
 nextInHeader got = getD (headerRanges (getD got 0 0) (getD got 1 0)) (length got) (0 to 0)
 
-abbrev pub nextInHazard : Header → (got : List ℕ) → Range
+abbrev pub nextInHazard : Header → (got : List ℕ) → Bounds
 nextInHazard h got = getD (hazardRanges (h .begin) (h .end) (getD got 1 0) (getD got 3 0)) (length got) (0 to 0)
 
 -- Reading
@@ -106,7 +103,7 @@ pub record Fields : Type 0 where
   pub next : ℕ
 
 -- "Numbers as they stand, each for 1, 2 and its range": k more after `got`. Out of range is the refusal `outside`, which the numbers before it give.
-unfoldable pub readFields : (rangeOf : List ℕ → Range) (outside : List ℕ → Refusal) (k : ℕ) (got s : List ℕ) (at : ℕ) → Answer Fields
+unfoldable pub readFields : (rangeOf : List ℕ → Bounds) (outside : List ℕ → Refusal) (k : ℕ) (got s : List ℕ) (at : ℕ) → Answer Fields
 readFields rangeOf outside zero got s at = accepted (record { numbers = got; next = at })
 readFields rangeOf outside (suc k) got s at =
     numberAt s at >>= λ x.

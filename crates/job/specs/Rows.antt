@@ -11,7 +11,8 @@ use Rattle.number.specs.Number.{writeNumber, greatest}
 use Rattle.number.specs.Form.{EndsInside, IllFormed}
 use Rattle.job.specs.declared.Header.{Header}
 use Rattle.job.specs.declared.Hazard.{Hazard}
-use Rattle.job.specs.Job.{Job, Range, within, headerSize, nextInHeader, nextInHazard}
+use Rattle.job.specs.declared.Bounds.{Bounds}
+use Rattle.job.specs.Job.{Job, within, headerSize, nextInHeader, nextInHazard}
 use Rattle.job.specs.Writing.{numbersOf, writeNumbers}
 use Rattle.job.specs.Fits.{inRanges, HeaderFits, HazardFits}
 
@@ -33,7 +34,7 @@ sizeOf ofHeader got = headerSize (getD got 0 0)
 sizeOf (ofHazard h before) got = 6
 
 -- The range of its next number, after the numbers `got`.
-abbrev pub nextIn : Group → (got : List ℕ) → Range
+abbrev pub nextIn : Group → (got : List ℕ) → Bounds
 nextIn ofHeader = nextInHeader
 nextIn (ofHazard h before) = nextInHazard h
 

@@ -35,3 +35,9 @@ writeNumbers (x ∷ xs) = writeNumber x ++ writeNumbers xs
 
 unfoldable pub writeJob : Job → List ℕ
 writeJob j = writeNumbers (numbersOf j)
+
+-- The numbers of document 01's job on paper.
+unfoldable pub printedJob : List ℕ
+printedJob =
+    1 ∷ 0 ∷ 1000000 ∷ 101000 ∷ 0 ∷ 9000 ∷ 0 ∷ 3000 ∷ 1000 ∷ 15 ∷ 1 ∷ 13340 ∷ 0 ∷ 1
+    ∷ 0 ∷ 200000 ∷ 210000 ∷ 5000 ∷ 9000 ∷ 3 ∷ []

@@ -8,9 +8,6 @@ ghost use Rattle.number.specs.Number.{readNumber};
 ghost use Rattle.job.specs.Job.{_to_};
 ghost use Rattle.job.specs.Reply.{fieldAt, fieldAnswer};
 
-// The ends of a range, both included: low, then high.
-pub struct Bounds(pub u64, pub u64);
-
 // A number that was read, and the index behind it.
 pub struct Reading {
     pub value: u64,

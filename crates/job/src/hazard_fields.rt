@@ -1,7 +1,7 @@
 // A hazard's six numbers.
+use super::Bounds;
 use super::Hazard;
 use super::Header;
-use super::field::Bounds;
 use super::field::Field;
 use super::field::read_field;
 use refusal::Refusal;
@@ -21,11 +21,14 @@ pub enum HazardRead {
 pub fn hazard_range(k: usize, header: Header, start: u64, near: u64) -> Bounds
     requires { ⌜ k < 6 ⌝ }
     requires { ⌜ start < header .end ⌝ }
-    ensures { λ r. ⌜ (r .0) to (r .1) ≡ getD (hazardRanges (header .begin) (header .end) start near) k (0 to 0) ⌝ }
+    ensures { λ r. ⌜ r ≡ getD (hazardRanges (header .begin) (header .end) start near) k (0 to 0) ⌝ }
 {
     let lows = [0, header.begin, start + 1, 0, near, 1];
     let highs = [1, header.end - 1, header.end, 60000, 60000, 6];
-    Bounds(lows[k], highs[k])
+    Bounds {
+        low: lows[k],
+        high: highs[k],
+    }
 }
 
 // The hazard with this index, whose first number begins at byte index first.
@@ -38,7 +41,7 @@ pub fn read_hazard(s: &[u8], first: usize, header: Header, index: usize) -> Haza
     let mut k: usize = 0;
     while k < 6 {
         let range = hazard_range(k, header, numbers[1], numbers[3]);
-        match read_field(s, at, range.0, range.1, Refusal::HazardRange(index)) {
+        match read_field(s, at, range.low, range.high, Refusal::HazardRange(index)) {
             Field::Number(reading) => {
                 numbers[k] = reading.value;
                 at = reading.next;

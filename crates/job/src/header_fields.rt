@@ -1,6 +1,6 @@
 // The header's numbers: fourteen, of a kind 2 job fifteen.
+use super::Bounds;
 use super::Header;
-use super::field::Bounds;
 use super::field::Field;
 use super::field::read_field;
 use super::road_top;
@@ -19,21 +19,51 @@ pub enum HeaderRead {
 
 // The header table's ranges of kind 2, where the road begins at 0. Kind 1 has no panel length, and its hazard count is number 14.
 const RANGES: [Bounds; 15] = [
-    Bounds(1, 2), // 1: kind
-    Bounds(0, 999999999999), // 2: A
-    Bounds(1, 2000000000), // 3: B, here above A = 0
-    Bounds(1, 200000), // 4: LF
-    Bounds(0, 200000), // 5: LO
-    Bounds(1, 30000), // 6: C
-    Bounds(0, 20000), // 7: W
-    Bounds(0, 20000), // 8: M
-    Bounds(1, 5000), // 9: D
-    Bounds(1, 100), // 10: a
-    Bounds(0, 10), // 11: b
-    Bounds(0, 100000), // 12: T
-    Bounds(0, 200000), // 13: G
-    Bounds(1, 10000), // 14: panel length
-    Bounds(0, 256), // 15: h
+    Bounds { low: 1, high: 2 }, // 1: kind
+    Bounds {
+        low: 0,
+        high: 999999999999,
+    }, // 2: A
+    Bounds {
+        low: 1,
+        high: 2000000000,
+    }, // 3: B, here above A = 0
+    Bounds {
+        low: 1,
+        high: 200000,
+    }, // 4: LF
+    Bounds {
+        low: 0,
+        high: 200000,
+    }, // 5: LO
+    Bounds {
+        low: 1,
+        high: 30000,
+    }, // 6: C
+    Bounds {
+        low: 0,
+        high: 20000,
+    }, // 7: W
+    Bounds {
+        low: 0,
+        high: 20000,
+    }, // 8: M
+    Bounds { low: 1, high: 5000 }, // 9: D
+    Bounds { low: 1, high: 100 }, // 10: a
+    Bounds { low: 0, high: 10 }, // 11: b
+    Bounds {
+        low: 0,
+        high: 100000,
+    }, // 12: T
+    Bounds {
+        low: 0,
+        high: 200000,
+    }, // 13: G
+    Bounds {
+        low: 1,
+        high: 10000,
+    }, // 14: panel length
+    Bounds { low: 0, high: 256 }, // 15: h
 ];
 
 // How many numbers a header has.
@@ -46,12 +76,15 @@ pub fn header_size(kind: u64) -> usize
 // The range of the header number behind k others, where the road begins at begin; the road's end lies behind that. `range` is the table's.
 fn header_range(k: usize, range: Bounds, kind: u64, begin: u64) -> Bounds
     requires { ⌜ k < 14 ⌝ }
-    requires { ⌜ (range .0) to (range .1) ≡ getD (headerRanges 2 0) k (0 to 0) ⌝ }
+    requires { ⌜ range ≡ getD (headerRanges 2 0) k (0 to 0) ⌝ }
     requires { ⌜ begin ≤ 999999999999 ⌝ }
-    ensures { λ r. ⌜ (r .0) to (r .1) ≡ getD (headerRanges kind begin) k (0 to 0) ⌝ }
+    ensures { λ r. ⌜ r ≡ getD (headerRanges kind begin) k (0 to 0) ⌝ }
 {
     if k == 2 {
-        return Bounds(begin + 1, road_top(begin));
+        return Bounds {
+            low: begin + 1,
+            high: road_top(begin),
+        };
     }
     if k == 13 {
         if kind == 2 {
@@ -92,7 +125,7 @@ fn read_count(s: &[u8], numbers: [u64; 14], at: usize) -> HeaderRead
     ensures { λ r. ⌜ headerAnswer r ≡ headerFrom numbers (now (s .entry)) at ⌝ }
 {
     let range = RANGES[14];
-    match read_field(s, at, range.0, range.1, Refusal::HeaderRange(15)) {
+    match read_field(s, at, range.low, range.high, Refusal::HeaderRange(15)) {
         Field::Number(reading) => HeaderRead::Header {
             header: header_with(numbers, numbers[13], reading.value),
             next: reading.next,
@@ -111,7 +144,7 @@ pub fn read_header(s: &[u8]) -> HeaderRead
     let mut k: usize = 0;
     while k < 14 {
         let range = header_range(k, ranges[k], numbers[0], numbers[1]);
-        match read_field(s, at, range.0, range.1, Refusal::HeaderRange(k + 1)) {
+        match read_field(s, at, range.low, range.high, Refusal::HeaderRange(k + 1)) {
             Field::Number(reading) => {
                 numbers[k] = reading.value;
                 at = reading.next;

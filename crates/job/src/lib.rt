@@ -9,6 +9,12 @@ ghost use mathlib.Core.Path.{_≡_};
 ghost use Prim.Native.Nat.{_+_, _≤_, min};
 ghost use Rattle.job.specs.Job as specs;
 
+// The bounds of a range, both included.
+pub struct Bounds {
+    pub low: u64,
+    pub high: u64,
+}
+
 // The header, in the paper's order.
 #[repr(C)]
 pub struct Header {

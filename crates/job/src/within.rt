@@ -55,7 +55,7 @@ fn read_numbers_within(s: &[u8], first: usize, header: Header, index: usize) -> 
     let mut k: usize = 0;
     while k < 6 {
         let range = hazard_range(k, header, numbers[1], numbers[3]);
-        match read_field_within(s, at, range.0, range.1, Refusal::HazardRange(index)) {
+        match read_field_within(s, at, range.low, range.high, Refusal::HazardRange(index)) {
             Field::Number(reading) => {
                 numbers[k] = reading.value;
                 at = reading.next;

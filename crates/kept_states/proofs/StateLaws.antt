@@ -1,4 +1,4 @@
--- The memory as a state now and eight kept ones: put together and taken apart, and what its test says of each.
+-- The memory as a present state and eight kept ones: put together and taken apart, and what its test says of each.
 -- Assumes nothing.
 use Prim.Native.Nat.{ℕ, zero, suc, _≤_, _<_}
 use native.Mathlib.Omega.{arith}
@@ -51,13 +51,13 @@ replaced ks n k new within = go (ℕ-discrete n k)
     go (yes q) = rw (eq-eqb n k q) (ap (λ (x : ℕ). getD (set ks x new) k nothingKept) q ∙ getD-set-same ks k new nothingKept (within q))
     go (no q) = rw (ne-eqb n k q) (getD-set-other ks n k new nothingKept (λ r. q (sym r)))
 
-pub kept-set : (m : OpenStates) (n number : ℕ) (new : KeptState) → n ≤ 7 → keptUnder (statesFrom (m .now) (set (keptStates m) n new)) number ≡ (if eqb n number then new else keptUnder m number)
-kept-set m n number new most = kept-under (m .now) (set (keptStates m) n new) (length-set (keptStates m) n new) number ∙ replaced (keptStates m) n number new (λ q. omega arith)
+pub kept-set : (m : OpenStates) (n number : ℕ) (new : KeptState) → n ≤ 7 → keptUnder (statesFrom (m .present) (set (keptStates m) n new)) number ≡ (if eqb n number then new else keptUnder m number)
+kept-set m n number new most = kept-under (m .present) (set (keptStates m) n new) (length-set (keptStates m) n new) number ∙ replaced (keptStates m) n number new (λ q. omega arith)
 
 -- Memory is what it has now, and under each number.
-pub states-same : (m n : OpenStates) → m .now ≡ n .now → ((number : ℕ) → keptUnder m number ≡ keptUnder n number) → m ≡ n
+pub states-same : (m n : OpenStates) → m .present ≡ n .present → ((number : ℕ) → keptUnder m number ≡ keptUnder n number) → m ≡ n
 states-same m n now kept =
-    λ i. record { now = now i; kept0 = kept 0 i; kept1 = kept 1 i; kept2 = kept 2 i; kept3 = kept 3 i; kept4 = kept 4 i; kept5 = kept 5 i; kept6 = kept 6 i; kept7 = kept 7 i }
+    λ i. record { present = now i; kept0 = kept 0 i; kept1 = kept 1 i; kept2 = kept 2 i; kept3 = kept 3 i; kept4 = kept 4 i; kept5 = kept 5 i; kept6 = kept 6 i; kept7 = kept 7 i }
 
 pub none-under : (number : ℕ) → getD (replicate mostKept nothingKept) number nothingKept ≡ nothingKept
 none-under number = go mostKept number
@@ -134,17 +134,17 @@ module _ (p : KeptState → Bool) where
   all-each none (k ∷ ks) e (suc i) = all-each none ks (and-right (p k) (allOf p ks) e) i
 
 module _ (m : OpenStates) where
-  pub states-sound : isOpenJob (m .now) ≡ true → ((number : ℕ) → keptSound (m .now .header) (keptUnder m number) ≡ true) → areOpenStates m ≡ true
+  pub states-sound : isOpenJob (m .present) ≡ true → ((number : ℕ) → keptSound (m .present .header) (keptUnder m number) ≡ true) → areOpenStates m ≡ true
   unfolding areOpenStates
-  states-sound o e = and-intro {a = isOpenJob (m .now)} o (each-all (keptSound (m .now .header)) (keptStates m) e)
+  states-sound o e = and-intro {a = isOpenJob (m .present)} o (each-all (keptSound (m .present .header)) (keptStates m) e)
 
-  pub now-open : areOpenStates m ≡ true → isOpenJob (m .now) ≡ true
+  pub now-open : areOpenStates m ≡ true → isOpenJob (m .present) ≡ true
   unfolding areOpenStates
-  now-open e = and-left (isOpenJob (m .now)) (allOf (keptSound (m .now .header)) (keptStates m)) e
+  now-open e = and-left (isOpenJob (m .present)) (allOf (keptSound (m .present .header)) (keptStates m)) e
 
-  pub each-sound : areOpenStates m ≡ true → (number : ℕ) → keptSound (m .now .header) (keptUnder m number) ≡ true
+  pub each-sound : areOpenStates m ≡ true → (number : ℕ) → keptSound (m .present .header) (keptUnder m number) ≡ true
   unfolding areOpenStates
-  each-sound e = all-each (keptSound (m .now .header)) (nothing-sound (m .now .header)) (keptStates m) (and-right (isOpenJob (m .now)) (allOf (keptSound (m .now .header)) (keptStates m)) e)
+  each-sound e = all-each (keptSound (m .present .header)) (nothing-sound (m .present .header)) (keptStates m) (and-right (isOpenJob (m .present)) (allOf (keptSound (m .present .header)) (keptStates m)) e)
 
   -- A state number that passes the test.
   pub number-most : (number : ℕ) (u : Unit {0}) → testState m number ≡ accepted u → leb number greatestStateNumber ≡ true

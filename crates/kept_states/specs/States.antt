@@ -37,7 +37,7 @@ nothingKept = record { used = 0; count = 0; hazards = replicate mostStanding unu
 abbrev pub keptFrom : StoredJob → KeptState
 keptFrom a = record { used = 1; count = a .header .count; hazards = a .hazards }
 
--- The open job that is kept. Its header is that of the state now: opening alone sets a header, and "opening empties all eight".
+-- The open job that is kept. Its header is that of the present state: opening alone sets a header, and "opening empties all eight".
 abbrev pub stateOf : Header → KeptState → StoredJob
 stateOf h k = record { header = counted h (k .count); hazards = k .hazards }
 
@@ -60,16 +60,16 @@ keptStates m = m .kept0 ∷ m .kept1 ∷ m .kept2 ∷ m .kept3 ∷ m .kept4 ∷ 
 abbrev pub keptUnder : OpenStates → (number : ℕ) → KeptState
 keptUnder m number = getD (keptStates m) number nothingKept
 
--- The memory of a state now and of what is kept.
+-- The memory of a present state and of what is kept.
 abbrev pub statesFrom : StoredJob → List KeptState → OpenStates
 statesFrom a ks =
     let kept : ℕ → KeptState = λ number. getD ks number nothingKept in
-    record { now = a; kept0 = kept 0; kept1 = kept 1; kept2 = kept 2; kept3 = kept 3; kept4 = kept 4; kept5 = kept 5; kept6 = kept 6; kept7 = kept 7 }
+    record { present = a; kept0 = kept 0; kept1 = kept 1; kept2 = kept 2; kept3 = kept 3; kept4 = kept 4; kept5 = kept 5; kept6 = kept 6; kept7 = kept 7 }
 
 -- "Memory whose header, names or hazards break these rules" is any other: all of it keeps the rules, what is kept too, and is 0 where
 -- nothing stands or is kept.
 unfoldable pub areOpenStates : OpenStates → Bool
-areOpenStates m = isOpenJob (m .now) && allOf (keptSound (m .now .header)) (keptStates m)
+areOpenStates m = isOpenJob (m .present) && allOf (keptSound (m .present .header)) (keptStates m)
 
 -- The calls
 
@@ -77,15 +77,15 @@ areOpenStates m = isOpenJob (m .now) && allOf (keptSound (m .now .header)) (kept
 unfoldable pub openStates : (s : List ℕ) → Answer OpenStates
 openStates s = openJob s >>= λ a. accepted (statesFrom a (replicate mostKept nothingKept))
 
--- Add, withdraw and schedule are calls on the state now; what is kept stays. (Their own test of the state now is met here.)
+-- Add, withdraw and schedule are calls on the present state; what is kept stays. (Their own test of the present state is met here.)
 unfoldable pub addIn : OpenStates → (name : ℕ) → Hazard → Answer OpenStates
-addIn m name z = underRules (areOpenStates m) (addTo (m .now) name z >>= λ a. accepted (statesFrom a (keptStates m)))
+addIn m name z = underRules (areOpenStates m) (addTo (m .present) name z >>= λ a. accepted (statesFrom a (keptStates m)))
 
 unfoldable pub withdrawIn : OpenStates → (name : ℕ) → Answer OpenStates
-withdrawIn m name = underRules (areOpenStates m) (withdrawFrom (m .now) name >>= λ a. accepted (statesFrom a (keptStates m)))
+withdrawIn m name = underRules (areOpenStates m) (withdrawFrom (m .present) name >>= λ a. accepted (statesFrom a (keptStates m)))
 
 unfoldable pub scheduleIn : OpenStates → (side room : ℕ) → Answer PlannedSide
-scheduleIn m side room = underRules (areOpenStates m) (scheduleOf (m .now) side room)
+scheduleIn m side room = underRules (areOpenStates m) (scheduleOf (m .present) side room)
 
 -- "A state number above 7 .. is 13, tested next after the open job's memory."
 abbrev pub testState : OpenStates → (number : ℕ) → Answer (Unit {0})
@@ -93,7 +93,7 @@ testState m number = underRules (areOpenStates m) (unless-refuse (leb number gre
 
 -- "Keeping under a used number replaces it."
 unfoldable pub keepIn : OpenStates → (number : ℕ) → Answer OpenStates
-keepIn m number = testState m number >>= λ _. accepted (statesFrom (m .now) (set (keptStates m) number (keptFrom (m .now))))
+keepIn m number = testState m number >>= λ _. accepted (statesFrom (m .present) (set (keptStates m) number (keptFrom (m .present))))
 
 -- "After a return, the open job is as when that state was last kept ..; other kept states are untouched." "A state number above 7, or in
 -- a return one under which nothing is kept, is 13."
@@ -101,4 +101,4 @@ unfoldable pub returnIn : OpenStates → (number : ℕ) → Answer OpenStates
 returnIn m number =
     testState m number >>= λ _.
     unless-refuse (isUsed (keptUnder m number)) Row.State >>= λ _.
-    accepted (statesFrom (stateOf (m .now .header) (keptUnder m number)) (keptStates m))
+    accepted (statesFrom (stateOf (m .present .header) (keptUnder m number)) (keptStates m))

@@ -1,4 +1,4 @@
-// The calls on the parts of the memory, by value: the state now, whether all that is kept is sound (keeps the rules), and the one kept
+// The calls on the parts of the memory, by value: the present state, whether all that is kept is sound (keeps the rules), and the one kept
 // state that a return goes to. So no call has all nine states on its stack.
 use super::KeptState;
 use super::states::is_used;
@@ -19,46 +19,46 @@ ghost use Rattle.open_memory.specs.Memory.{hazardGiven};
 ghost use Rattle.open_job.specs.Open.{Changes};
 ghost use Rattle.kept_states.specs.Parts.{addPart, withdrawPart, schedulePart, testNumber, returnPart};
 
-// A hazard is added to the state now.
-pub fn add(sound: bool, now: StoredJob, name: u16, hazard: GivenHazard) -> Change
-    ensures { λ r. ⌜ Changes now (addPart sound now name (hazardGiven hazard)) r ⌝ }
+// A hazard is added to the present state.
+pub fn add(sound: bool, present: StoredJob, name: u16, hazard: GivenHazard) -> Change
+    ensures { λ r. ⌜ Changes present (addPart sound present name (hazardGiven hazard)) r ⌝ }
 {
     if sound {
-        open_job::calls::add(now, name, hazard)
+        open_job::calls::add(present, name, hazard)
     } else {
-        unchanged(now, Refusal::HeaderRange(0))
+        unchanged(present, Refusal::HeaderRange(0))
     }
 }
 
-// A hazard of the state now is withdrawn.
-pub fn withdraw(sound: bool, now: StoredJob, name: u16) -> Change
-    ensures { λ r. ⌜ Changes now (withdrawPart sound now name) r ⌝ }
+// A hazard of the present state is withdrawn.
+pub fn withdraw(sound: bool, present: StoredJob, name: u16) -> Change
+    ensures { λ r. ⌜ Changes present (withdrawPart sound present name) r ⌝ }
 {
     if sound {
-        open_job::calls::withdraw(now, name)
+        open_job::calls::withdraw(present, name)
     } else {
-        unchanged(now, Refusal::HeaderRange(0))
+        unchanged(present, Refusal::HeaderRange(0))
     }
 }
 
-// The schedule of a side of the state now.
-pub fn schedule(sound: bool, job: StoredJob, side: u64, out: &mut [u8]) -> Plan
-    ensures { λ r. ⌜ planReply r ≡ bytesWritten (schedulePart sound job side (length (now (out .entry)))) ⌝ }
-    ensures { λ _. ⌜ now (out .exit) ≡ outputAfter (schedulePart sound job side (length (now (out .entry)))) (now (out .entry)) ⌝ }
+// The schedule of a side of the present state.
+pub fn schedule(sound: bool, present: StoredJob, side: u64, out: &mut [u8]) -> Plan
+    ensures { λ r. ⌜ planReply r ≡ bytesWritten (schedulePart sound present side (length (now (out .entry)))) ⌝ }
+    ensures { λ _. ⌜ now (out .exit) ≡ outputAfter (schedulePart sound present side (length (now (out .entry)))) (now (out .entry)) ⌝ }
 {
     if sound {
-        open_job::calls::schedule(job, side, out)
+        open_job::calls::schedule(present, side, out)
     } else {
         Plan::Refused(Refusal::HeaderRange(0))
     }
 }
 
 // The tests of keep and return: the memory, 3 with 0; then the number, 13.
-pub fn test_number(sound: bool, now: StoredJob, number: u64) -> Outcome
-    ensures { λ r. ⌜ outcome r tt ≡ testNumber sound now number ⌝ }
+pub fn test_number(sound: bool, present: StoredJob, number: u64) -> Outcome
+    ensures { λ r. ⌜ outcome r tt ≡ testNumber sound present number ⌝ }
 {
     if sound {
-        if is_open_job(now) {
+        if is_open_job(present) {
             if number <= 7 {
                 Outcome::Done
             } else {
@@ -72,23 +72,23 @@ pub fn test_number(sound: bool, now: StoredJob, number: u64) -> Outcome
     }
 }
 
-// The state now after a return to what was found under the number.
-pub fn return_to(sound: bool, now: StoredJob, number: u64, kept: KeptState) -> Change
-    ensures { λ r. ⌜ Changes now (returnPart sound now number kept) r ⌝ }
+// The present state after a return to what was found under the number.
+pub fn return_to(sound: bool, present: StoredJob, number: u64, kept: KeptState) -> Change
+    ensures { λ r. ⌜ Changes present (returnPart sound present number kept) r ⌝ }
 {
-    let outcome = test_number(sound, now, number);
+    let outcome = test_number(sound, present, number);
     match outcome {
         Outcome::Done => {
             if is_used(kept) {
-                let header = now.header;
+                let header = present.header;
                 Change {
                     outcome: Outcome::Done,
                     next: state_of(header, kept),
                 }
             } else {
-                unchanged(now, Refusal::State)
+                unchanged(present, Refusal::State)
             }
         }
-        Outcome::Refused(refusal) => unchanged(now, refusal),
+        Outcome::Refused(refusal) => unchanged(present, refusal),
     }
 }

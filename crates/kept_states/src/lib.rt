@@ -1,4 +1,4 @@
-// Named states of an open job: the state now, and up to eight states that are kept under the numbers 0 to 7.
+// Named states of an open job: the present state, and up to eight states that are kept under the numbers 0 to 7.
 use job::NamedHazard;
 use job::StoredJob;
 
@@ -7,7 +7,7 @@ pub mod states; // one kept state: its rules, made and taken back
 mod unused; // are all places of a kept state 0
 
 // What is kept under a number. Nothing: all is 0. A state: used is 1, and its names and hazards stand as in an open job, whose header is
-// that of the state now.
+// that of the present state.
 #[repr(C)]
 pub struct KeptState {
     pub used: u64,
@@ -18,7 +18,7 @@ pub struct KeptState {
 // The memory of an open job. Eight fields lie as an array of eight does; each is read and stored by itself.
 #[repr(C)]
 pub struct OpenStates {
-    pub now: StoredJob,
+    pub present: StoredJob,
     pub kept0: KeptState,
     pub kept1: KeptState,
     pub kept2: KeptState,

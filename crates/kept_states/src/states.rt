@@ -22,11 +22,11 @@ const UNUSED: NamedHazard = NamedHazard {
 };
 
 // The open job, kept.
-pub fn kept_from(now: StoredJob) -> KeptState
-    ensures { λ r. ⌜ r ≡ keptFrom now ⌝ }
+pub fn kept_from(present: StoredJob) -> KeptState
+    ensures { λ r. ⌜ r ≡ keptFrom present ⌝ }
 {
-    let header = now.header;
-    let hazards = now.hazards;
+    let header = present.header;
+    let hazards = present.hazards;
     KeptState {
         used: 1,
         count: header.count,

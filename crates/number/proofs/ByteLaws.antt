@@ -3,14 +3,12 @@
 use Prim.Native.Nat.{ℕ, zero, suc, _/_, _<_}
 use native.Mathlib.Omega.{arith}
 use native.Mathlib.Decide.{decLt}
-use mathlib.Core.List.{List, [], _∷_, List·Memᴰ, List·Memᴰ·tail, List·Memᴰ·not-nil}
+use mathlib.Core.List.{List, [], _∷_, List·Memᴰ·tail, List·Memᴰ·not-nil}
 use lib.ListN.{drop, getD}
 use Rattle.refusal.proofs.EachLaws.{cons-each}
 use Rattle.number.specs.Number.{writeIn, writeNumber}
 use Rattle.number.proofs.WriteLaws.{write-last, write-more}
-
-abbrev pub Bytes : List ℕ → Type 0
-Bytes s = (x : ℕ) → List·Memᴰ x s → x < 256
+use Rattle.number.specs.Form.{Bytes}
 
 no-bytes : Bytes []
 no-bytes x m = absurd (List·Memᴰ·not-nil m)

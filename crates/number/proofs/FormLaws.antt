@@ -15,11 +15,11 @@ use Rattle.refusal.proofs.EachLaws.{cons-each}
 use Rattle.number.specs.declared.Read.{Read}
 use Rattle.number.specs.declared.Read.the-variants.{Number, Ended, Malformed}
 use Rattle.number.specs.Number.{writeNumber, mostGroups, greatest, groupCount, Scan, cut, overlong, whole, prefixed, scan, judged, readNumber}
-use Rattle.number.specs.Form.{TopBits, EndsInside, IllFormed, sixth, long}
+use Rattle.number.specs.Form.{TopBits, EndsInside, IllFormed, sixth, long, Bytes}
 use Rattle.number.proofs.ScanLaws.{scan-last, scan-more, scan-most}
 use Rattle.number.proofs.WriteLaws.{group-count}
 use Rattle.number.proofs.ReadLaws.{read-bounds}
-use Rattle.number.proofs.ByteLaws.{Bytes, drop-bytes}
+use Rattle.number.proofs.ByteLaws.{drop-bytes}
 
 -- Scans
 

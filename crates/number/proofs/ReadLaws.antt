@@ -15,7 +15,8 @@ use Rattle.refusal.proofs.TestLaws.{and-left, and-right, impossible}
 use Rattle.number.specs.declared.Read.{Read}
 use Rattle.number.specs.declared.Read.the-variants.{Number, Ended, Malformed}
 use Rattle.number.specs.Number.{writeIn, writeNumber, mostGroups, greatest, Scan, cut, overlong, whole, scan, judged, readNumber, Reading, readingOf, numberAt}
-use Rattle.number.proofs.ByteLaws.{Bytes, drop-bytes}
+use Rattle.number.specs.Form.{Bytes, Stands}
+use Rattle.number.proofs.ByteLaws.{drop-bytes}
 use Rattle.number.proofs.ScanLaws.{scan-groups, scan-write, scan-read}
 
 -- The writing of n, whatever stands behind it, reads as n.
@@ -66,24 +67,19 @@ answered at (Number v n) r e = let same : record { value = v; next = n } ≡ r =
 answered at Ended r e = impossible cc
 answered at Malformed r e = impossible cc
 
-pub record Bounds (s : List ℕ) (at value next : ℕ) : Type 0 where
+pub record ReadBounds (s : List ℕ) (at value next : ℕ) : Type 0 where
   pub fits : value ≤ greatest
   pub rises : at < next
   pub there : next ≤ length s
   pub near : next ≤ at + 6
 
-pub read-bounds : (s : List ℕ) (at v n : ℕ) → readNumber s at ≡ Number v n → Bounds s at v n
+pub read-bounds : (s : List ℕ) (at v n : ℕ) → readNumber s at ≡ Number v n → ReadBounds s at v n
 read-bounds s at v n e =
     let f = found s at v n e in
     let g = scan-groups 6 (drop at s) v (length (writeNumber v)) (f .ends) in
     record { fits = f .fits; rises = omega arith; there = omega (arith, length-drop at s); near = omega arith }
 
 -- A number that was read stands there as its writing.
-pub record Stands (s : List ℕ) (at : ℕ) (r : Reading) : Type 0 where
-  pub fits : r .value ≤ greatest
-  pub next : r .next ≡ at + length (writeNumber (r .value))
-  pub split : drop at s ≡ writeNumber (r .value) ++ drop (r .next) s
-
 pub read-stands : (s : List ℕ) (at v n : ℕ) → Bytes s → readNumber s at ≡ Number v n → Stands s at (record { value = v; next = n })
 unfolding writeNumber
 read-stands s at v n b e =

@@ -11,7 +11,8 @@ use borrow.Author.Tests.{lt-ltb, le-ltb}
 use Rattle.refusal.proofs.TestLaws.{impossible}
 use Rattle.number.specs.Number.{writeIn, Scan, cut, overlong, whole, prefixed, scan}
 use Rattle.number.proofs.WriteLaws.{write-last, write-more}
-use Rattle.number.proofs.ByteLaws.{Bytes, tail-bytes}
+use Rattle.number.specs.Form.{Bytes}
+use Rattle.number.proofs.ByteLaws.{tail-bytes}
 
 pub scan-last : (k x : ℕ) (xs : List ℕ) → x < 128 → scan (suc k) (x ∷ xs) ≡ whole x 1
 unfolding scan

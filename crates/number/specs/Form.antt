@@ -1,10 +1,20 @@
--- What is wrong with bytes where a number is to begin: rows 1 and 2 of document 01's table of refusals.
+-- Bytes, a number that stands among them, and what is wrong where none can be read: rows 1 and 2 of document 01's table of refusals.
 -- Assumes nothing.
-use Prim.Native.Nat.{ℕ, _≤_, _<_}
+use Prim.Native.Nat.{ℕ, _+_, _≤_, _<_}
 use mathlib.Core.Path.{_≡_}
 use mathlib.Core.List.{List, _++_, List·Memᴰ}
-use lib.ListN.{length}
-use Rattle.number.specs.Number.{mostGroups, groupCount, whole, scan}
+use lib.ListN.{length, drop}
+use Rattle.number.specs.Number.{writeNumber, mostGroups, greatest, groupCount, whole, scan, Reading}
+
+-- A list of bytes.
+abbrev pub Bytes : List ℕ → Type 0
+Bytes s = (x : ℕ) → List·Memᴰ x s → x < 256
+
+-- A number stands at an index as its writing, and it fits.
+pub record Stands (s : List ℕ) (at : ℕ) (r : Reading) : Type 0 where
+  pub fits : r .value ≤ greatest
+  pub next : r .next ≡ at + length (writeNumber (r .value))
+  pub split : drop at s ≡ writeNumber (r .value) ++ drop (r .next) s
 
 -- Bytes that all have the top bit: none of them ends a number.
 abbrev pub TopBits : List ℕ → Type 0

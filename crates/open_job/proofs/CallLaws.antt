@@ -31,7 +31,7 @@ use Rattle.planning.specs.Required.{jobRuns}
 use Rattle.planning.specs.Reply.{Cuts, cutsOf, testedEnvelopes}
 use Rattle.planning.specs.declared.accept.SideEnvelopes.{SideEnvelopes}
 use Rattle.planning.proofs.AcceptLaws.{Replies}
-use Rattle.planning.proofs.EnvelopeLaws.{AcceptedFits}
+use Rattle.planning.specs.Rows.{AcceptedFits}
 use Rattle.planning.proofs.SideLaws.{envelopes-done, outcome-done, stored-envelopes}
 use Rattle.planning.proofs.AcceptedLaws.{hazards-pass, fitting-accepted}
 use Rattle.schedule.specs.Schedule.{writeSchedule}

@@ -1,4 +1,4 @@
--- The calls on one state of an open job, the state now: what each answers, and what it makes of the memory.
+-- The calls on one state of an open job, the present one: what each answers, and what it makes of the memory.
 -- Assumes nothing.
 use Prim.Native.Nat.{ℕ}
 use mathlib.Core.Path.{_≡_}

@@ -10,7 +10,8 @@ use lib.Dec.{leb, eqb}
 use borrow.Author.Tests.{le-leb, eq-eqb, ne-eqb}
 use Rattle.refusal.proofs.TestLaws.{and-left, and-right, and-intro}
 use Rattle.job.specs.declared.Header.{Header}
-use Rattle.job.specs.Job.{Range, within, _to_, sharedRanges, headerRanges, nextInHeader, sharedNumbers, counted}
+use Rattle.job.specs.declared.Bounds.{Bounds}
+use Rattle.job.specs.Job.{within, sharedRanges, headerRanges, nextInHeader, sharedNumbers, counted}
 use Rattle.job.specs.Writing.{lastNumbers}
 use Rattle.job.specs.Fits.{inRanges, headerInRange, HeaderFits}
 use Rattle.job.proofs.RangeLaws.{from-zero, ranges-parts, ranges-high}
@@ -31,7 +32,7 @@ and-all b [] = sym (and-true b)
 and-all b (c ∷ cs) = and-all (b && c) cs ∙ and-assoc b c (allTrue cs)
 
 -- Two of each number.
-module _ (rangeOf : List ℕ → Range) where
+module _ (rangeOf : List ℕ → Bounds) where
   abbrev rangeTests : (got xs : List ℕ) → List Bool
   rangeTests got [] = []
   rangeTests got (x ∷ xs) = leb (rangeOf got .low) x ∷ leb x (rangeOf got .high) ∷ rangeTests (got ++ x ∷ []) xs

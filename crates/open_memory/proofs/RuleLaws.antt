@@ -24,8 +24,8 @@ use Rattle.job.specs.Reply.{unused}
 use Rattle.job.specs.Fits.{HeaderFits, HazardFits}
 use Rattle.job.proofs.RangeLaws.{header-bounds}
 use Rattle.planning.specs.Envelope.{reached, reaches, farther, standsNear, testHazard}
-use Rattle.planning.specs.Rows.{Passed}
-use Rattle.planning.proofs.EnvelopeLaws.{AcceptedFits, hazard-passed}
+use Rattle.planning.specs.Rows.{Passed, AcceptedFits}
+use Rattle.planning.proofs.EnvelopeLaws.{hazard-passed}
 use Rattle.planning.proofs.AcceptedLaws.{hazard-passes}
 use Rattle.job.specs.Fits.{headerInRange, hazardInRange}
 use Rattle.open_memory.specs.Memory.{greatestName, standing, madeFrom, admit, admissible, namesRise, isUnused, isOpenJob}

@@ -35,8 +35,8 @@ unfolding keepIn
 keep-promise m next number e =
     let b = bound (testState m number) _ next e in
     let most : number ≤ greatestStateNumber = leb-true _ _ (number-most m number (b .first) (b .taken)) in
-    let made : statesFrom (m .now) (set (keptStates m) number (keptFrom (m .now))) ≡ next = let q = b .rest in cc in
-    (sym (ap (λ (x : OpenStates). keptUnder x number) made) ∙ kept-set m number number (keptFrom (m .now)) most ∙ rw (eq-eqb number number refl), sym (ap (λ (x : OpenStates). x .now) made))
+    let made : statesFrom (m .present) (set (keptStates m) number (keptFrom (m .present))) ≡ next = let q = b .rest in cc in
+    (sym (ap (λ (x : OpenStates). keptUnder x number) made) ∙ kept-set m number number (keptFrom (m .present)) most ∙ rw (eq-eqb number number refl), sym (ap (λ (x : OpenStates). x .present) made))
 
 pub untouched-promise : UntouchedPromise
 unfolding afterCall addIn withdrawIn keepIn returnIn
@@ -49,10 +49,10 @@ untouched-promise m c number other = go c other
     edit-leaves a = beside-or-made Untouched m (unless-refuse (areOpenStates m) (Row.HeaderRange 0)) _ refl (λ u e. beside-or-made Untouched m a _ refl (λ x f. refl))
 
     go : (c : Call) → (c ≡ keepAs number → ⊥) → Untouched (afterCall m c)
-    go (edit (add name z)) other = edit-leaves (addTo (m .now) name z)
-    go (edit (withdraw name)) other = edit-leaves (withdrawFrom (m .now) name)
+    go (edit (add name z)) other = edit-leaves (addTo (m .present) name z)
+    go (edit (withdraw name)) other = edit-leaves (withdrawFrom (m .present) name)
     go (schedule side room) other = refl
-    go (keepAs n) other = beside-or-made Untouched m (testState m n) _ refl (λ u e. kept-set m n number (keptFrom (m .now)) (leb-true _ _ (number-most m n u e)) ∙ rw (ne-eqb n number (λ q. other (ap keepAs q))))
+    go (keepAs n) other = beside-or-made Untouched m (testState m n) _ refl (λ u e. kept-set m n number (keptFrom (m .present)) (leb-true _ _ (number-most m n u e)) ∙ rw (ne-eqb n number (λ q. other (ap keepAs q))))
     go (returnTo n) other = beside-or-made Untouched m (testState m n) _ refl (λ u e. beside-or-made Untouched m (unless-refuse (isUsed (keptUnder m n)) Row.State) _ refl (λ v f. refl))
 
 -- After a withdrawal its name stands no more, and there is room.
@@ -61,27 +61,27 @@ sound-counted : (h : Header) (n : ℕ) (k : KeptState) → keptSound h k ≡ kep
 unfolding keptSound
 sound-counted h n k = refl
 
-module _ (m : OpenStates) (good : areOpenStates m ≡ true) (name : ℕ) (stood : stands name (standing (m .now)) ≡ true) where
+module _ (m : OpenStates) (good : areOpenStates m ≡ true) (name : ℕ) (stood : stands name (standing (m .present)) ≡ true) where
   abbrev h : Header
-  h = m .now .header
+  h = m .present .header
 
   abbrev left : List NamedHazard
-  left = without name (standing (m .now))
+  left = without name (standing (m .present))
 
   abbrev next : OpenStates
   next = statesFrom (laidOut h left) (keptStates m)
 
-  rules-before : Stand h 0 (standing (m .now))
-  rules-before = open-standing (m .now) (now-open m good)
+  rules-before : Stand h 0 (standing (m .present))
+  rules-before = open-standing (m .present) (now-open m good)
 
   rules : Stand h 0 left
-  rules = without-stand h 0 name (standing (m .now)) rules-before
+  rules = without-stand h 0 name (standing (m .present)) rules-before
 
   header : HeaderFits h
-  header = open-header (m .now) (now-open m good)
+  header = open-header (m .present) (now-open m good)
 
   fewer : length left < mostStanding
-  fewer = omega (arith, one-less name (standing (m .now)) (stand-distinct h 0 (standing (m .now)) rules-before) stood, open-count (m .now) (now-open m good), length-take (h .count) (m .now .hazards))
+  fewer = omega (arith, one-less name (standing (m .present)) (stand-distinct h 0 (standing (m .present)) rules-before) stood, open-count (m .present) (now-open m good), length-take (h .count) (m .present .hazards))
 
   left-open : areOpenStates next ≡ true
   left-open =
@@ -96,26 +96,26 @@ module _ (m : OpenStates) (good : areOpenStates m ≡ true) (name : ℕ) (stood 
 -- A withdrawal that is not refused.
 record Withdrawn (m after : OpenStates) (name : ℕ) : Type 0 where
   good : areOpenStates m ≡ true
-  stood : stands name (standing (m .now)) ≡ true
+  stood : stands name (standing (m .present)) ≡ true
   same : next m good name stood ≡ after
 
 withdrawn : (m after : OpenStates) (name : ℕ) → withdrawIn m name ≡ accepted after → Withdrawn m after name
 unfolding withdrawIn withdrawFrom
 withdrawn m after name e =
     let rule = passed (areOpenStates m) (Row.HeaderRange 0) _ after e in
-    let b = bound (withdrawFrom (m .now) name) _ after (rule .1) in
-    let stood = passed (stands name (standing (m .now))) (Row.Name name) _ (b .first) (passed (isOpenJob (m .now)) (Row.HeaderRange 0) _ (b .first) (b .taken) .1) in
-    let first : laidOut (m .now .header) (without name (standing (m .now))) ≡ b .first = let q = stood .1 in cc in
+    let b = bound (withdrawFrom (m .present) name) _ after (rule .1) in
+    let stood = passed (stands name (standing (m .present))) (Row.Name name) _ (b .first) (passed (isOpenJob (m .present)) (Row.HeaderRange 0) _ (b .first) (b .taken) .1) in
+    let first : laidOut (m .present .header) (without name (standing (m .present))) ≡ b .first = let q = stood .1 in cc in
     let whole : statesFrom (b .first) (keptStates m) ≡ after = let q = b .rest in cc in
     record { good = rule .0; stood = stood .0; same = ap (λ (a : StoredJob). statesFrom a (keptStates m)) first ∙ whole }
 
 pub again-promise : AgainPromise
 again-promise m after name e z =
     let w = withdrawn m after name e in
-    subst (λ (n : OpenStates). replied (addIn n name z) ≡ replied (admit (m .now .header) name z)) (w .same) (next-added m (w .good) name (w .stood) name z ∙ rw (without-stands name (standing (m .now))))
+    subst (λ (n : OpenStates). replied (addIn n name z) ≡ replied (admit (m .present .header) name z)) (w .same) (next-added m (w .good) name (w .stood) name z ∙ rw (without-stands name (standing (m .present))))
 
 pub room-promise : RoomPromise
 room-promise m after name e other z =
     let w = withdrawn m after name e in
-    subst (λ (n : OpenStates). replied (addIn n other z) ≡ replied (testNameAndHazard (m .now .header) (standing (n .now)) other z)) (w .same)
-    (next-added m (w .good) name (w .stood) other z ∙ rw (laid-standing (m .now .header) (without name (standing (m .now)))))
+    subst (λ (n : OpenStates). replied (addIn n other z) ≡ replied (testNameAndHazard (m .present .header) (standing (n .present)) other z)) (w .same)
+    (next-added m (w .good) name (w .stood) other z ∙ rw (laid-standing (m .present .header) (without name (standing (m .present)))))

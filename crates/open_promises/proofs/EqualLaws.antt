@@ -97,10 +97,10 @@ pub equal-promise : EqualPromise
 equal-promise a b places-a places-b open-a open-b = (λ e. subst (SameOpenJob a) e (same-open a), equal)
   where
     equal : SameOpenJob a b → a ≡ b
-    equal s = states-same a b (state-equal (a .now) (b .now) (places-a .state-now) (places-b .state-now) (now-open a open-a) (now-open b open-b) (s .header) (s .hazards)) (λ number. go number (decLe number 7))
+    equal s = states-same a b (state-equal (a .present) (b .present) (places-a .present-state) (places-b .present-state) (now-open a open-a) (now-open b open-b) (s .header) (s .hazards)) (λ number. go number (decLe number 7))
       where
         go : (number : ℕ) → Dec (number ≤ 7) → keptUnder a number ≡ keptUnder b number
         go number (yes l) =
-            kept-equal (a .now .header) (b .now .header) (s .header) (keptUnder a number) (keptUnder b number) (places-under a places-a number) (places-under b places-b number) (each-sound a open-a number) (each-sound b open-b number)
+            kept-equal (a .present .header) (b .present .header) (s .header) (keptUnder a number) (keptUnder b number) (places-under a places-a number) (places-under b places-b number) (each-sound a open-a number) (each-sound b open-b number)
             (s .kept number l)
         go number (no l) = none-above a number (omega arith) ∙ sym (none-above b number (omega arith))

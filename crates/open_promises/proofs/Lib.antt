@@ -8,6 +8,7 @@ pub mod MemoryLaws
 pub mod ReplyLaws
 pub mod ListLaws
 pub mod ContentLaws
+pub mod AddingLaws
 pub mod BuildLaws
 pub mod MeaningLaws
 pub mod EqualLaws

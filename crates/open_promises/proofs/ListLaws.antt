@@ -80,7 +80,7 @@ module _ (s : List ℕ) (j : Job) (calls : List Call) (m : OpenStates) (from : C
   good : areOpenStates m ≡ true
   good = laid-states h fits follows
 
-  now-laid : m .now ≡ laidOut h (placed .present)
+  now-laid : m .present ≡ laidOut h (placed .present)
   now-laid = follows .laid .present
 
   same : Agree h (placed .present) (are .present)
@@ -92,7 +92,7 @@ module _ (s : List ℕ) (j : Job) (calls : List Call) (m : OpenStates) (from : C
   stood : Standing h are m
   stood = record {
     is-open = good;
-    state-now = rw now-laid (holds h same);
+    present-state = rw now-laid (holds h same);
     states-kept = kept-holds;
     next-add = λ name z. add-now m good name z ∙ ap (λ (a : StoredJob). replied (addTo a name z)) now-laid ∙ ap replied (add-laid h (placed .present) fits (same .rules) (same .few) name z) ∙ behind (testAdd h (placed .present) name z) _ _ ∙ ap replied (tests-same h same name z);
     next-withdrawal = λ name. withdraw-now m good name ∙ ap (λ (a : StoredJob). replied (withdrawFrom a name)) now-laid ∙ ap replied (withdraw-laid h (placed .present) fits (same .rules) (same .few) name) ∙ behind (unless-refuse (stands name (placed .present)) (Row.Name name)) _ _

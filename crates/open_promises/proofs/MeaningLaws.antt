@@ -75,22 +75,22 @@ places-under m places number = go (decLt number 8)
 
 module _ (m : OpenStates) (good : areOpenStates m ≡ true) (places : HasPlaces m) where
   abbrev h : Header
-  h = counted (m .now .header) 0
+  h = counted (m .present .header) 0
 
   abbrev ps : List NamedHazard
-  ps = standing (m .now)
+  ps = standing (m .present)
 
-  kept-rules : KeepsRules (m .now)
-  kept-rules = open-exactly (m .now) (places .state-now) .0 (now-open m good)
+  kept-rules : KeepsRules (m .present)
+  kept-rules = open-exactly (m .present) (places .present-state) .0 (now-open m good)
 
   fits : HeaderFits h
-  fits = counted-fits (m .now .header) 0 (kept-rules .header) (omega arith)
+  fits = counted-fits (m .present .header) 0 (kept-rules .header) (omega arith)
 
   rules : Stand h 0 ps
-  rules = stand-counted (m .now .header) 0 0 ps (kept-rules .hazards)
+  rules = stand-counted (m .present .header) 0 0 ps (kept-rules .hazards)
 
   told-under : (number : ℕ) → Told h (keptUnder m number)
-  told-under number = told (m .now .header) (keptUnder m number) (places-under m places number) (sound-cases (keptUnder m number) (m .now .header) (each-sound m good number))
+  told-under number = told (m .present .header) (keptUnder m number) (places-under m places number) (sound-cases (keptUnder m number) (m .present .header) (each-sound m good number))
 
   what : ℕ → Kept (List NamedHazard)
   what number = told-under number .what
@@ -99,7 +99,7 @@ module _ (m : OpenStates) (good : areOpenStates m ≡ true) (places : HasPlaces 
   unfolding what
   what-rules number = told-under number .rules
 
-  -- Each state that is kept is made, kept and taken apart again; then the state now is made.
+  -- Each state that is kept is made, kept and taken apart again; then the present state is made.
   abbrev calls : List Call
   calls = keepBelow what 8 ++ adds ps
 
@@ -112,7 +112,7 @@ module _ (m : OpenStates) (good : areOpenStates m ≡ true) (places : HasPlaces 
   made : placedAfterAll h (opened []) calls ≡ holding ps (keptBelow what 8)
   made =
       foldl-append _ (opened []) (keepBelow what 8) (adds ps) ∙ ap (λ (t : States (List NamedHazard)). placedAfterAll h t (adds ps)) (below-kept h what what-rules 8 (omega arith))
-      ∙ adds-leave h (keptBelow what 8) [] ps rules (omega (arith, header-bounds (m .now .header) (kept-rules .header) .count, length-take (m .now .header .count) (m .now .hazards)))
+      ∙ adds-leave h (keptBelow what 8) [] ps rules (omega (arith, header-bounds (m .present .header) (kept-rules .header) .count, length-take (m .present .header .count) (m .present .hazards)))
 
   laid : Laid h (holding ps (keptBelow what 8)) (foldl afterCall start calls)
   laid = rw made at (follows-all h fits (opened []) (opened []) start (follows-opened h) calls can-make .laid)
@@ -128,10 +128,10 @@ module _ (m : OpenStates) (good : areOpenStates m ≡ true) (places : HasPlaces 
   left-so : m ≡ foldl afterCall start calls
   left-so = states-same m (foldl afterCall start calls) (kept-rules .layout ∙ sym (laid .present)) (λ number. kept-is number ∙ sym (laid .kept number))
 
-  left-by : CallsFrom (writeJob (madeFrom (m .now .header) [])) (madeFrom (m .now .header) []) calls m
+  left-by : CallsFrom (writeJob (madeFrom (m .present .header) [])) (madeFrom (m .present .header) []) calls m
   left-by =
-      let job = madeFrom (m .now .header) [] in
-      let fine = empty-accepted (m .now .header) (kept-rules .header) in
+      let job = madeFrom (m .present .header) [] in
+      let fine = empty-accepted (m .present .header) (kept-rules .header) in
       record {
         is-accepted = fine;
         empty = refl;
@@ -142,7 +142,7 @@ module _ (m : OpenStates) (good : areOpenStates m ≡ true) (places : HasPlaces 
 
 pub memory-promise : MemoryPromise
 memory-promise m places = (
-  λ e. (writeJob (madeFrom (m .now .header) []), madeFrom (m .now .header) [], calls m e places, left-by m e places),
+  λ e. (writeJob (madeFrom (m .present .header) []), madeFrom (m .present .header) [], calls m e places, left-by m e places),
   λ w. standing-promise (w .0) (w .1) (w .2) m (w .3) .is-open,
 )
 

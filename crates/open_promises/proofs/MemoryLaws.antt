@@ -34,7 +34,7 @@ laidKept h nothing = nothingKept
 laidKept h (state ps) = keptFrom (laidOut h ps)
 
 pub record Laid (h : Header) (t : States (List NamedHazard)) (m : OpenStates) : Type 0 where
-  pub present : m .now ≡ laidOut h (t .present)
+  pub present : m .present ≡ laidOut h (t .present)
   pub kept : (number : ℕ) → keptUnder m number ≡ laidKept h (t .kept number)
 
 -- The memory, the hazards in their places, and those apart from them.
@@ -56,10 +56,10 @@ module _ (h : Header) (fits : HeaderFits h) {t s : States (List NamedHazard)} {m
       go (state ps) nothing r n = absurd r
       go (state ps) (state past) r n = sym (sound-used (keptFrom (laidOut h ps)) (counted h n) (kept-used (laidOut h ps))) ∙ laid-open h ps fits (r .rules) (r .few)
 
-  edit-after : (e : Edit) → afterCall m (edit e) ≡ statesFrom (memoryAfter (edited (m .now) e) (m .now)) (keptStates m)
+  edit-after : (e : Edit) → afterCall m (edit e) ≡ statesFrom (memoryAfter (edited (m .present) e) (m .present)) (keptStates m)
   unfolding afterCall addIn withdrawIn
-  edit-after (add name z) = rw laid-states (sym (now-carried m (addTo (m .now) name z) .0))
-  edit-after (withdraw name) = rw laid-states (sym (now-carried m (withdrawFrom (m .now) name) .0))
+  edit-after (add name z) = rw laid-states (sym (now-carried m (addTo (m .present) name z) .0))
+  edit-after (withdraw name) = rw laid-states (sym (now-carried m (withdrawFrom (m .present) name) .0))
 
   laid-edit : (e : Edit) → Laid h (record { present = placedAfter h (t .present) e; kept = t .kept }) (afterCall m (edit e))
   laid-edit e = subst (Laid h (record { present = placedAfter h (t .present) e; kept = t .kept })) (sym (edit-after e)) (record {
@@ -71,14 +71,14 @@ module _ (h : Header) (fits : HeaderFits h) {t s : States (List NamedHazard)} {m
   unfolding statesAfter afterCall keepIn
   laid-keep n = rw laid-states (go (leb n greatestStateNumber) refl)
     where
-      one : (b : Bool) (k : ℕ) → (if b then keptFrom (m .now) else keptUnder m k) ≡ laidKept h (if b then state (t .present) else t .kept k)
+      one : (b : Bool) (k : ℕ) → (if b then keptFrom (m .present) else keptUnder m k) ≡ laidKept h (if b then state (t .present) else t .kept k)
       one true k = ap keptFrom (f .laid .present)
       one false k = f .laid .kept k
 
       go : (b : Bool) → leb n greatestStateNumber ≡ b
           → Laid h (if b then record { present = t .present; kept = λ k. if eqb n k then state (t .present) else t .kept k } else t)
-          (memoryAfter (unless-refuse b Row.State >>= λ _. accepted (statesFrom (m .now) (set (keptStates m) n (keptFrom (m .now))))) m)
-      go true e = record { present = f .laid .present; kept = λ k. kept-set m n k (keptFrom (m .now)) (leb-true _ _ e) ∙ one (eqb n k) k }
+          (memoryAfter (unless-refuse b Row.State >>= λ _. accepted (statesFrom (m .present) (set (keptStates m) n (keptFrom (m .present))))) m)
+      go true e = record { present = f .laid .present; kept = λ k. kept-set m n k (keptFrom (m .present)) (leb-true _ _ e) ∙ one (eqb n k) k }
       go false e = f .laid
 
   laid-return : (n : ℕ) → Laid h (returnedTo (t .kept n) t) (afterCall m (returnTo n))
@@ -86,7 +86,7 @@ module _ (h : Header) (fits : HeaderFits h) {t s : States (List NamedHazard)} {m
   laid-return n = rw laid-states (go (leb n greatestStateNumber) refl (t .kept n) (keptUnder m n) refl (f .laid .kept n))
     where
       back : Bool → KeptState → OpenStates
-      back b k = memoryAfter (unless-refuse b Row.State >>= λ _. unless-refuse (isUsed k) Row.State >>= λ _. accepted (statesFrom (stateOf (m .now .header) k) (keptStates m))) m
+      back b k = memoryAfter (unless-refuse b Row.State >>= λ _. unless-refuse (isUsed k) Row.State >>= λ _. accepted (statesFrom (stateOf (m .present .header) k) (keptStates m))) m
 
       go : (b : Bool) → leb n greatestStateNumber ≡ b → (x : Kept (List NamedHazard)) (k : KeptState) → keptUnder m n ≡ k → k ≡ laidKept h x → Laid h (returnedTo x t) (back b k)
       go false e nothing k u l = f .laid

@@ -38,7 +38,7 @@ module _ {A : Type 0} (next : A → Edit → A) where
   unfolding statesAfter
   keep-most n s most = rw (le-leb n greatestStateNumber most)
 
-  -- After a return the state now is the one that was kept last.
+  -- After a return the present state is the one that was kept last.
   pub returned : (number : ℕ) (s : States A) (before since : List Call) → number ≤ greatestStateNumber → (List·Memᴰ (keepAs number) since → ⊥)
       → foldl (statesAfter next) s (before ++ keepAs number ∷ since ++ returnTo number ∷ []) .present ≡ foldl (statesAfter next) s before .present
   unfolding statesAfter

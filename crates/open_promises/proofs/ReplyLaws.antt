@@ -16,16 +16,16 @@ use Rattle.kept_states.specs.States.{greatestStateNumber, stateOf, isUsed, kept
 use Rattle.kept_states.proofs.StateLaws.{none-above, not-used}
 
 module _ (m : OpenStates) (good : areOpenStates m ≡ true) where
-  -- Add, withdraw and schedule as on the state now.
-  pub add-now : (name : ℕ) (z : Hazard) → replied (addIn m name z) ≡ replied (addTo (m .now) name z)
+  -- Add, withdraw and schedule as on the present state.
+  pub add-now : (name : ℕ) (z : Hazard) → replied (addIn m name z) ≡ replied (addTo (m .present) name z)
   unfolding addIn
-  add-now name z = rw good (behind (addTo (m .now) name z) _ _)
+  add-now name z = rw good (behind (addTo (m .present) name z) _ _)
 
-  pub withdraw-now : (name : ℕ) → replied (withdrawIn m name) ≡ replied (withdrawFrom (m .now) name)
+  pub withdraw-now : (name : ℕ) → replied (withdrawIn m name) ≡ replied (withdrawFrom (m .present) name)
   unfolding withdrawIn
-  withdraw-now name = rw good (behind (withdrawFrom (m .now) name) _ _)
+  withdraw-now name = rw good (behind (withdrawFrom (m .present) name) _ _)
 
-  pub schedule-now : (side room : ℕ) → scheduleIn m side room ≡ scheduleOf (m .now) side room
+  pub schedule-now : (side room : ℕ) → scheduleIn m side room ≡ scheduleOf (m .present) side room
   unfolding scheduleIn
   schedule-now side room = rw good
 
@@ -39,7 +39,7 @@ module _ (m : OpenStates) (good : areOpenStates m ≡ true) where
   return-replied number = rw good (go (leb number greatestStateNumber) refl)
     where
       go : (b : Bool) → leb number greatestStateNumber ≡ b
-          → replied (unless-refuse b Row.State >>= λ _. unless-refuse (isUsed (keptUnder m number)) Row.State >>= λ _. accepted (statesFrom (stateOf (m .now .header) (keptUnder m number)) (keptStates m)))
+          → replied (unless-refuse b Row.State >>= λ _. unless-refuse (isUsed (keptUnder m number)) Row.State >>= λ _. accepted (statesFrom (stateOf (m .present .header) (keptUnder m number)) (keptStates m)))
           ≡ replied (unless-refuse (isUsed (keptUnder m number)) Row.State)
       go true e = behind (unless-refuse (isUsed (keptUnder m number)) Row.State) _ _
       go false e = sym (ap (λ (b : Bool). replied (unless-refuse b Row.State)) (ap isUsed (none-above m number (leb-false number 7 e)) ∙ not-used))

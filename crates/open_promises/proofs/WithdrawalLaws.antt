@@ -17,7 +17,8 @@ use Rattle.job.specs.Job.{Job, unnamed, counted}
 use Rattle.job.specs.Writing.{writeJob}
 use Rattle.planning.specs.Envelope.{farther, reaches, reached, reachOf, offsetOf, lengthening, envelope, cutToRoad, cutEnvelope}
 use Rattle.planning.specs.Required.{jobLevel}
-use Rattle.planning.proofs.EnvelopeLaws.{AcceptedFits, accepted-fits}
+use Rattle.planning.specs.Rows.{AcceptedFits}
+use Rattle.planning.proofs.EnvelopeLaws.{accepted-fits}
 use Rattle.schedule.specs.Plan.{plan}
 use Rattle.schedule.specs.Planned.{Accepted, scheduleAlone, Planned}
 use Rattle.demands.specs.Demands.{Alike}
@@ -41,12 +42,12 @@ use Rattle.open_promises.proofs.ListLaws.{schedule-promise, standing-pr
 under-name : (h : Header) (s : States (List NamedHazard)) (m : OpenStates) → Standing h s m → (name : ℕ) → stands name (s .present) ≡ true → (p : NamedHazard) × StandsUnder name (s .present) p
 under-name h s m stood name e =
     let w = stands-which name (s .present) e in
-    let apart = stand-distinct (m .now .header) 0 (standing (m .now)) (open-standing (m .now) (now-open m (stood .is-open))) in (
+    let apart = stand-distinct (m .present .header) 0 (standing (m .present)) (open-standing (m .present) (now-open m (stood .is-open))) in (
       w .0,
       record {
         member = w .1;
         its-name = w .2;
-        alone = λ q k same. distinct-alone (standing (m .now)) apart (w .0) q (stood .state-now .each (w .0) .1 (w .1)) (stood .state-now .each q .1 k) (same ∙ sym (w .2));
+        alone = λ q k same. distinct-alone (standing (m .present)) apart (w .0) q (stood .present-state .each (w .0) .1 (w .1)) (stood .present-state .each q .1 k) (same ∙ sym (w .2));
       },
     )
 
@@ -103,7 +104,7 @@ module _ (s : List ℕ) (j : Job) (calls : List Call) (m : OpenStates) (from : C
   past = addedSince (j .header) calls
 
   answers : AnswersAs m (jobAfter (j .header) calls)
-  answers = schedule-promise s j calls m from (map unnamed past) (rw (length-map past unnamed) (standing-promise s j calls m from .state-now .few)) (λ z. (λ k. k, λ k. k))
+  answers = schedule-promise s j calls m from (map unnamed past) (rw (length-map past unnamed) (standing-promise s j calls m from .present-state .few)) (λ z. (λ k. k, λ k. k))
 
   module _ (name : ℕ) (next : OpenStates) (e : withdrawIn m name ≡ accepted next) where
     was-standing : stands name past ≡ true

@@ -1,4 +1,5 @@
 pub mod Opening
 pub mod Lists
 pub mod Rules
+pub mod Adding
 pub mod Withdrawal

@@ -28,7 +28,7 @@ use Rattle.kept_states.specs.States.{greatestStateNumber, nothingKept, keptFrom
 
 -- The calls
 
--- Add and withdraw: the calls that edit the state now.
+-- Add and withdraw: the calls that edit the present state.
 pub data Edit : Type 0 where
   add : (name : ℕ) → Hazard → Edit
   withdraw : (name : ℕ) → Edit
@@ -52,7 +52,7 @@ pub data Kept (A : Type 0) : Type 0 where
   nothing : Kept A
   state : A → Kept A
 
--- The state now, and what is kept under each number. A state is of any kind: the hazards that stand, or the edits that count.
+-- The present state, and what is kept under each number. A state is of any kind: the hazards that stand, or the edits that count.
 pub record States (A : Type 0) : Type 0 where
   pub present : A
   pub kept : (number : ℕ) → Kept A
@@ -72,7 +72,7 @@ module _ {A : Type 0} where
   returnedTo nothing s = s
   returnedTo (state a) s = record { present = a; kept = s .kept }
 
-  -- The states after a call, where `next` says what an edit makes of the state now. "Keeping under a used number replaces it." Above 7 it is
+  -- The states after a call, where `next` says what an edit makes of the present state. "Keeping under a used number replaces it." Above 7 it is
   -- refused, and "a refused call alters nothing".
   unfoldable pub statesAfter : (next : A → Edit → A) → States A → Call → States A
   statesAfter next s (edit e) = record { present = next (s .present) e; kept = s .kept }
@@ -168,7 +168,7 @@ HoldsKept h (state past) k = (isUsed k ≡ true) × Holds h past (stateOf h k)
 -- next return 13 exactly where nothing is kept.
 pub record Standing (h : Header) (s : States (List NamedHazard)) (m : OpenStates) : Type 0 where
   pub is-open : areOpenStates m ≡ true
-  pub state-now : Holds h (s .present) (m .now)
+  pub present-state : Holds h (s .present) (m .present)
   pub states-kept : (number : ℕ) → HoldsKept h (s .kept number) (keptUnder m number)
   pub next-add : (name : ℕ) (z : Hazard) → replied (addIn m name z) ≡ replied (testAdd h (s .present) name z)
   pub next-withdrawal : (name : ℕ) → replied (withdrawIn m name) ≡ replied (unless-refuse (stands name (s .present)) (Row.Name name))
@@ -180,7 +180,7 @@ StandingPromise = (s : List ℕ) (j : Job) (calls : List Call) (m : OpenStates) 
 
 -- "A withdrawn name can be added again": the add is refused by its hazard alone.
 abbrev pub AgainPromise : Type 0
-AgainPromise = (m next : OpenStates) (name : ℕ) → withdrawIn m name ≡ accepted next → (z : Hazard) → replied (addIn next name z) ≡ replied (admit (m .now .header) name z)
+AgainPromise = (m next : OpenStates) (name : ℕ) → withdrawIn m name ≡ accepted next → (z : Hazard) → replied (addIn next name z) ≡ replied (admit (m .present .header) name z)
 
 -- The tests of an add but for room: 12 by its name, then its hazard's. So it is tested where there is room, and so it was before request 12.
 abbrev pub testNameAndHazard : Header → List NamedHazard → (name : ℕ) → Hazard → Answer (Unit {0})
@@ -190,7 +190,7 @@ testNameAndHazard h ps name z = unless-refuse (not (stands name ps)) (Row.Name n
 abbrev pub RoomPromise : Type 0
 RoomPromise =
     (m next : OpenStates) (name : ℕ) → withdrawIn m name ≡ accepted next
-    → (other : ℕ) (z : Hazard) → replied (addIn next other z) ≡ replied (testNameAndHazard (m .now .header) (standing (next .now)) other z)
+    → (other : ℕ) (z : Hazard) → replied (addIn next other z) ≡ replied (testNameAndHazard (m .present .header) (standing (next .present)) other z)
 
 -- "After a return, the open job is as when that state was last kept, whichever adds and withdrawals came between": all of it, the
 -- header and the zeros behind the hazards too.
@@ -199,7 +199,7 @@ ReturnPromise =
     (s : List ℕ) (j : Job) (before since : List Call) (number : ℕ) (earlier m : OpenStates)
     → number ≤ greatestStateNumber → (List·Memᴰ (keepAs number) since → ⊥)
     → CallsFrom s j before earlier → CallsFrom s j (before ++ keepAs number ∷ since ++ returnTo number ∷ []) m
-    → m .now ≡ earlier .now
+    → m .present ≡ earlier .present
 
 -- "Other kept states are untouched": by every call but a keep under that number, so also by a return to it; in memory of any content.
 abbrev pub UntouchedPromise : Type 0
@@ -207,4 +207,4 @@ UntouchedPromise = (m : OpenStates) (c : Call) (number : ℕ) → (c ≡ keepAs 
 
 -- "Keeping under a used number replaces it", and leaves the open job as it is.
 abbrev pub KeepPromise : Type 0
-KeepPromise = (m next : OpenStates) (number : ℕ) → keepIn m number ≡ accepted next → (keptUnder next number ≡ keptFrom (m .now)) × (next .now ≡ m .now)
+KeepPromise = (m next : OpenStates) (number : ℕ) → keepIn m number ≡ accepted next → (keptUnder next number ≡ keptFrom (m .present)) × (next .present ≡ m .present)

@@ -35,7 +35,7 @@ RulesPromise = (m : OpenStates) → areOpenStates m ≡ false → AllRefused m
 
 -- Each state has its 256 places. They are the memory's by its type, whose arrays are so long; a list may have any length.
 pub record HasPlaces (m : OpenStates) : Type 0 where
-  pub state-now : length (m .now .hazards) ≡ mostStanding
+  pub present-state : length (m .present .hazards) ≡ mostStanding
   pub states-kept : (k : KeptState) → List·Memᴰ k (keptStates m) → length (k .hazards) ≡ mostStanding
 
 -- Memory keeps the rules exactly if an opening and calls can leave it so.
@@ -59,8 +59,8 @@ pub data SameKept (k l : KeptState) : Type 0 where
 
 -- Headers alike in every number but the hazard count, which is how many stand; the same hazards; and the same kept under each number.
 pub record SameOpenJob (a b : OpenStates) : Type 0 where
-  pub header : Alike (a .now .header) (b .now .header)
-  pub hazards : SameHazards (standing (a .now)) (standing (b .now))
+  pub header : Alike (a .present .header) (b .present .header)
+  pub hazards : SameHazards (standing (a .present)) (standing (b .present))
   pub kept : (number : ℕ) → number ≤ greatestStateNumber → SameKept (keptUnder a number) (keptUnder b number)
 
 -- As `include/barrier.h` has it: "two open jobs are equal, byte for byte, exactly if their headers are equal, the same hazards stand under the same

@@ -81,8 +81,8 @@ module _ (lengths : List ℕ) (run : ℕ) where
   short-none [] s = refl
   short-none (x ∷ xs) s = rw (judged-short x (s x (List·Memᴰ·head refl))) (short-none xs (λ l m. s l (List·Memᴰ·tail m)))
 
-  pub none-exactly : (ls : List (List ℕ)) → (best lengths run ls ≡ none) ↔ NoneCovers lengths run ls
-  none-exactly ls = (none-short ls, short-none ls)
+  pub best-none : (ls : List (List ℕ)) → (best lengths run ls ≡ none) ↔ NoneCovers lengths run ls
+  best-none ls = (none-short ls, short-none ls)
 
   -- What is found is the smallest overrun and its first layout.
   found-same : {o p : ℕ} {c d : List ℕ} → found o c ≡ found p d → (o ≡ p) × (c ≡ d)

@@ -12,12 +12,12 @@ use Rattle.refusal.proofs.EachLaws.{getD-member}
 use Rattle.panels.specs.declared.odometer.Lengths.{Lengths}
 use Rattle.panels.specs.declared.odometer.Odometer.{Odometer}
 use Rattle.panels.specs.Layout.{total}
-use Rattle.panels.specs.Promised.{Yard}
+use Rattle.panels.specs.Promised.{StockLengths}
 use Rattle.panels.specs.Steps.{layoutAt, lengthBack, fourLengths, LengthsFit, Shows, ShowsLayout}
 
 -- The lengths from the last one back
 
-pub four-fit : (ls : List ℕ) → Yard ls → LengthsFit (fourLengths ls)
+pub four-fit : (ls : List ℕ) → StockLengths ls → LengthsFit (fourLengths ls)
 four-fit ls y = record { first = back 3; second = back 2; third = back 1; last = back 0 }
   where
     back : (n : ℕ) → lengthBack ls n ≤ 20000

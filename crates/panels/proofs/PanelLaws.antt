@@ -1,6 +1,6 @@
 -- What the call promises of every call that is not refused, in the paper's words.
 -- Assumes nothing.
-use Prim.Native.Nat.{ℕ, zero, suc, _-_, _^_, _≤_, _<_, min}
+use Prim.Native.Nat.{ℕ, zero, suc, _-_, _≤_, _<_, min}
 use native.Mathlib.Omega.{arith}
 use native.Mathlib.Nat.{dvd-zero}
 use mathlib.Core.Path.{_≡_, refl, sym, ap, _∙_, subst}
@@ -19,15 +19,15 @@ use Rattle.refusal.proofs.AnswerLaws.{bound, tested}
 use Rattle.refusal.proofs.EachLaws.{getD-member}
 use Rattle.panels.specs.Layout.{IsLayout, zeroToFifteen, eachBefore, layouts, tried, total, covers, overrun, Found, none, found, judged, better, best}
 use Rattle.panels.specs.Panels.{Panels, gcd, multipleFrom, floor, panelsFor}
-use Rattle.panels.specs.Promised.{Yard, Limit, FirstSmallest, NoneCovers, NoWorse, FloorOf}
+use Rattle.panels.specs.Promised.{StockLengths, Limit, FirstSmallest, NoneCovers, NoWorse, PanelsGiven, Panels-given, More-tries, Run-zero}
 use Rattle.panels.proofs.RefusedLaws.{unfit, unlimited, fit-yard, fit-limit}
 use Rattle.panels.proofs.PlaceLaws.{layouts-number, layouts-exactly}
-use Rattle.panels.proofs.BestLaws.{best-append, best-first, none-exactly}
+use Rattle.panels.proofs.BestLaws.{best-append, best-first, best-none}
 use Rattle.panels.proofs.FloorLaws.{gcd-some, multiple-least, floor-distance, floor-under}
 
 -- What an accepted call is known to satisfy, and its reply.
 pub record Taken (lengths : List ℕ) (run limit : ℕ) (p : Panels) : Type 0 where
-  pub yard : Yard lengths
+  pub yard : StockLengths lengths
   pub limit-is : Limit limit
   pub best-is : p .best ≡ best lengths run (tried lengths limit)
   pub tries-is : p .tries ≡ length (tried lengths limit)
@@ -49,61 +49,54 @@ taken ls run limit p e =
 
 -- One call.
 module _ (lengths : List ℕ) (run limit : ℕ) (p : Panels) (e : panelsFor lengths run limit ≡ accepted p) where
-  -- "Tries made are the lesser of the limit and the layouts there are": 16 counts of each length. They are the length of the prefix that was tried.
-  pub tries-made : (p .tries ≡ length (tried lengths limit)) × (p .tries ≡ min limit (length (layouts (length lengths)))) × (length (layouts (length lengths)) ≡ 16 ^ length lengths)
-  unfolding tried
-  tries-made =
-      let t = taken lengths run limit p e in
-      (t .tries-is, t .tries-is ∙ length-take limit (layouts (length lengths)), layouts-number (length lengths))
+  smallest : (o : ℕ) (counts : List ℕ) → p .best ≡ found o counts → FirstSmallest lengths run (tried lengths limit) o counts
+  smallest o counts q = best-first lengths run (tried lengths limit) o counts (sym (taken lengths run limit p e .best-is) ∙ q)
 
-  -- "The smallest overrun among those tried, its first layout."
-  pub reply-smallest : (o : ℕ) (counts : List ℕ) → p .best ≡ found o counts → FirstSmallest lengths run (tried lengths limit) o counts
-  reply-smallest o counts q = best-first lengths run (tried lengths limit) o counts (sym (taken lengths run limit p e .best-is) ∙ q)
-
-  -- What is given is a layout.
-  pub reply-layout : (o : ℕ) (counts : List ℕ) → p .best ≡ found o counts → IsLayout lengths counts
+  is-layout : (o : ℕ) (counts : List ℕ) → p .best ≡ found o counts → IsLayout lengths counts
   unfolding tried
-  reply-layout o counts q =
-      let f = reply-smallest o counts q in
+  is-layout o counts q =
+      let f = smallest o counts q in
       let k = length lengths in
       let b : f .place < min limit (length (layouts k)) = rw length-take at (f .among) in
       let g : getD (layouts k) (f .place) [] ≡ counts = sym (getD-take limit (layouts k) (f .place) [] (omega arith)) ∙ f .there in
       layouts-exactly lengths counts .0 (subst (λ (l : List ℕ). List·Memᴰ l (layouts k)) g (getD-member (layouts k) (f .place) [] (omega arith)))
 
-  -- "None is said exactly if no tried layout covers."
-  pub reply-none : (p .best ≡ none) ↔ NoneCovers lengths run (tried lengths limit)
-  reply-none =
+  none-said : (p .best ≡ none) ↔ NoneCovers lengths run (tried lengths limit)
+  none-said =
       let w = taken lengths run limit p e .best-is in
-      let n = none-exactly lengths run (tried lengths limit) in
+      let n = best-none lengths run (tried lengths limit) in
       ((λ q. n .0 (sym w ∙ q)), (λ c. w ∙ n .1 c))
 
-  -- "The floor is the distance from the run's length up to the least multiple, not below it, of the lengths' greatest common divisor."
-  pub reply-floor-is : FloorOf lengths run (p .floor)
-  reply-floor-is = rw (taken lengths run limit p e .floor-is) (floor-distance lengths (taken lengths run limit p e .yard .proper) run)
-
-  -- "No covering layout, tried or not, overruns by less than the floor": of whatever counts.
-  pub reply-floor : (counts : List ℕ) → covers lengths run counts ≡ true → p .floor ≤ overrun lengths run counts
-  reply-floor counts c = rw (taken lengths run limit p e .floor-is) (floor-under lengths (taken lengths run limit p e .yard .proper) run counts c)
-
-  -- "All tries give the least": with every layout tried, over all layouts.
   all-tried : length (layouts (length lengths)) ≤ limit → tried lengths limit ≡ layouts (length lengths)
   unfolding tried
   all-tried h = take-all limit (layouts (length lengths)) h
 
-  pub all-least : length (layouts (length lengths)) ≤ limit → (o : ℕ) (counts : List ℕ) → p .best ≡ found o counts → FirstSmallest lengths run (layouts (length lengths)) o counts
-  all-least h o counts q = subst (λ (ls : List (List ℕ)). FirstSmallest lengths run ls o counts) (all-tried h) (reply-smallest o counts q)
+  all-least : length (layouts (length lengths)) ≤ limit → (o : ℕ) (counts : List ℕ) → p .best ≡ found o counts → FirstSmallest lengths run (layouts (length lengths)) o counts
+  all-least h o counts q = subst (λ (ls : List (List ℕ)). FirstSmallest lengths run ls o counts) (all-tried h) (smallest o counts q)
 
-  pub all-none : length (layouts (length lengths)) ≤ limit → p .best ≡ none → NoneCovers lengths run (layouts (length lengths))
-  all-none h q = subst (λ (ls : List (List ℕ)). NoneCovers lengths run ls) (all-tried h) (reply-none .0 q)
+  all-none : length (layouts (length lengths)) ≤ limit → p .best ≡ none → NoneCovers lengths run (layouts (length lengths))
+  all-none h q = subst (λ (ls : List (List ℕ)). NoneCovers lengths run ls) (all-tried h) (none-said .0 q)
 
-  -- The same of whatever is a layout.
-  pub layout-least : length (layouts (length lengths)) ≤ limit → (o : ℕ) (counts : List ℕ) → p .best ≡ found o counts → (l : List ℕ) → IsLayout lengths l → covers lengths run l ≡ true → o ≤ overrun lengths run l
-  layout-least h o counts q l i = all-least h o counts q .smallest l (layouts-exactly lengths l .1 i)
+  given : PanelsGiven lengths run limit p
+  unfolding tried
+  given =
+      let t = taken lengths run limit p e in
+      record {
+        tries-made = (t .tries-is, t .tries-is ∙ length-take limit (layouts (length lengths)), layouts-number (length lengths));
+        smallest = smallest;
+        is-layout = is-layout;
+        none-said = none-said;
+        floor-is = rw (t .floor-is) (floor-distance lengths (t .yard .proper) run);
+        floor-under = λ counts c. rw (t .floor-is) (floor-under lengths (t .yard .proper) run counts c);
+        all-least = all-least;
+        all-none = all-none;
+        layout-least = λ h o counts q l i. all-least h o counts q .smallest l (layouts-exactly lengths l .1 i);
+        layout-none = λ h q l i. all-none h q l (layouts-exactly lengths l .1 i);
+      }
 
-  pub layout-none : length (layouts (length lengths)) ≤ limit → p .best ≡ none → (l : List ℕ) → IsLayout lengths l → covers lengths run l ≡ false
-  layout-none h q l i = all-none h q l (layouts-exactly lengths l .1 i)
+pub panels-given : Panels-given
+panels-given lengths run limit p e = given lengths run limit p e
 
--- "More tries never give a worse overrun": of two calls alike but in their limits.
 no-worse-refl : (a : Found) → NoWorse a a
 no-worse-refl none = tt
 no-worse-refl (found o l) = omega arith
@@ -117,7 +110,7 @@ better-no-worse (found o l) (found q m) = go (leb o q) refl
     go true h = omega arith
     go false h = let k = leb-false o q h in omega arith
 
-pub more-tries : (lengths : List ℕ) (run limit more : ℕ) (p q : Panels) → panelsFor lengths run limit ≡ accepted p → panelsFor lengths run more ≡ accepted q → limit ≤ more → NoWorse (q .best) (p .best)
+pub more-tries : More-tries
 unfolding tried
 more-tries lengths run limit more p q e f h =
     let a = taken lengths run limit p e .best-is in
@@ -143,7 +136,7 @@ nothing-over : (l : List ℕ) (b : Found) → better (found 0 l) b ≡ found 0 l
 nothing-over l none = refl
 nothing-over l (found p m) = rw (le-leb 0 p (omega arith))
 
-pub run-zero : (lengths : List ℕ) (limit : ℕ) (p : Panels) → panelsFor lengths 0 limit ≡ accepted p → (p .best ≡ found 0 (replicate (length lengths) 0)) × (p .floor ≡ 0)
+pub run-zero : Run-zero
 unfolding tried best judged covers overrun floor
 run-zero lengths limit p e =
     let t = taken lengths 0 limit p e in

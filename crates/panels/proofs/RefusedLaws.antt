@@ -13,10 +13,10 @@ use Rattle.refusal.specs.Answer.{accepted, refused, _>>=_}
 use Rattle.refusal.specs.Refusal.{unless-refuse}
 use Rattle.refusal.specs.declared.Refusal.the-variants as Row
 use Rattle.refusal.specs.Choice.{someOf}
-use Rattle.refusal.proofs.TestLaws.{or-cases, or-left, or-right, not-both, Passing, any-intro, any-elim, decided, impossible, or-false}
-use Rattle.panels.specs.Layout.{tried, none, best}
-use Rattle.panels.specs.Panels.{Panels, outOfRange, floor, panelsFor}
-use Rattle.panels.specs.Promised.{Yard, Limit}
+use Rattle.refusal.proofs.TestLaws.{or-cases, or-left, or-right, not-both, any-intro, any-elim, decided, impossible, or-false}
+use Rattle.panels.specs.Layout.{none}
+use Rattle.panels.specs.Panels.{Panels, outOfRange, panelsFor}
+use Rattle.panels.specs.Promised.{StockLengths, Limit, Unfit, Panels-sixteen, Panels-seventeen, Panels-answered}
 
 none-out : (ls : List ℕ) → someOf outOfRange ls ≡ false → (l : ℕ) → List·Memᴰ l ls → (1 ≤ l) × (l ≤ 20000)
 none-out ls e l m = go (decided (outOfRange l))
@@ -25,16 +25,12 @@ none-out ls e l m = go (decided (outOfRange l))
     go (inl t) = absurd (not-both (any-intro outOfRange m t) e)
     go (inr f) = let w = or-false (ltb l 1) (ltb 20000 l) f in (ltb-false l 1 (w .0), ltb-false 20000 l (w .1))
 
-pub yard : (ls : List ℕ) → 1 ≤ length ls → length ls ≤ 4 → someOf outOfRange ls ≡ false → Yard ls
+pub yard : (ls : List ℕ) → 1 ≤ length ls → length ls ≤ 4 → someOf outOfRange ls ≡ false → StockLengths ls
 yard ls some four all = record {
   proper = record { some = some; each = λ l m. none-out ls all l m .0 };
   four = four;
   to = λ l m. none-out ls all l m .1;
 }
-
--- "No length, over four, or one out of range."
-abbrev pub Unfit : List ℕ → Type 0
-Unfit ls = (length ls ≡ 0) ⊎ ((4 < length ls) ⊎ Passing outOfRange ls)
 
 -- The tests of 16 and 17 as facts.
 abbrev pub unfit : (ls : List ℕ) → Bool
@@ -43,7 +39,7 @@ unfit ls = eqb (length ls) 0 || ltb 4 (length ls) || someOf outOfRange ls
 abbrev pub unlimited : (limit : ℕ) → Bool
 unlimited limit = eqb limit 0 || ltb 65536 limit
 
-pub fit-yard : (ls : List ℕ) → unfit ls ≡ false → Yard ls
+pub fit-yard : (ls : List ℕ) → unfit ls ≡ false → StockLengths ls
 fit-yard ls e =
     let parts = or-false (eqb (length ls) 0 || ltb 4 (length ls)) (someOf outOfRange ls) e in
     let front = or-false (eqb (length ls) 0) (ltb 4 (length ls)) (parts .0) in
@@ -68,7 +64,7 @@ seventeen-only true u p v e = let z : _≡_ {A = ℕ} 16 17 = cc in absurd (omeg
 seventeen-only false true p v e = let none : _≡_ {A = ℕ} 0 v = cc in (sym none, refl, refl)
 seventeen-only false false p v e = impossible cc
 
-yard-fit : (ls : List ℕ) → Yard ls → unfit ls ≡ false
+yard-fit : (ls : List ℕ) → StockLengths ls → unfit ls ≡ false
 yard-fit ls y =
     let some = y .proper .some in
     rw (ne-eqb (length ls) 0 (λ e. omega arith), le-ltb 4 (length ls) (y .four)) (all (decided (someOf outOfRange ls)))
@@ -80,9 +76,9 @@ yard-fit ls y =
         absurd (not-both (w .passes) (let l = y .proper .each (w .one) (w .member) in rw (le-ltb (w .one) 1 l, le-ltb 20000 (w .one) (y .to (w .one) (w .member)))))
 
 module _ (ls : List ℕ) (run limit v : ℕ) where
-  pub sixteen-exactly : (panelsFor ls run limit ≡ refused 16 v) ↔ ((v ≡ 0) × Unfit ls)
+  sixteen : (panelsFor ls run limit ≡ refused 16 v) ↔ ((v ≡ 0) × Unfit ls)
   unfolding panelsFor
-  sixteen-exactly = ((λ e. let w = sixteen-only (unfit ls) (unlimited limit) _ v e in (w .0, to (w .1))), (λ h. rw (h .0, test (h .1))))
+  sixteen = ((λ e. let w = sixteen-only (unfit ls) (unlimited limit) _ v e in (w .0, to (w .1))), (λ h. rw (h .0, test (h .1))))
     where
       last : ((eqb (length ls) 0 || ltb 4 (length ls)) ≡ true) ⊎ (someOf outOfRange ls ≡ true) → Unfit ls
       last (inr p) = inr (inr (any-elim outOfRange ls p))
@@ -100,9 +96,9 @@ module _ (ls : List ℕ) (run limit v : ℕ) where
       test (inr (inl h)) = or-left (someOf outOfRange ls) (or-right (eqb (length ls) 0) (lt-ltb 4 (length ls) h))
       test (inr (inr w)) = or-right (eqb (length ls) 0 || ltb 4 (length ls)) (any-intro outOfRange (w .member) (w .passes))
 
-  pub seventeen-exactly : (panelsFor ls run limit ≡ refused 17 v) ↔ ((v ≡ 0) × Yard ls × ((limit ≡ 0) ⊎ (65536 < limit)))
+  seventeen : (panelsFor ls run limit ≡ refused 17 v) ↔ ((v ≡ 0) × StockLengths ls × ((limit ≡ 0) ⊎ (65536 < limit)))
   unfolding panelsFor
-  seventeen-exactly =
+  seventeen =
       ((λ e. let w = seventeen-only (unfit ls) (unlimited limit) _ v e in (w .0, fit-yard ls (w .1), to (or-cases (eqb limit 0) (ltb 65536 limit) (w .2)))), (λ h. rw (h .0, yard-fit ls (h .1), test (h .2))))
     where
       to : (eqb limit 0 ≡ true) ⊎ (ltb 65536 limit ≡ true) → (limit ≡ 0) ⊎ (65536 < limit)
@@ -113,7 +109,12 @@ module _ (ls : List ℕ) (run limit v : ℕ) where
       test (inl e) = or-left (ltb 65536 limit) (eq-eqb limit 0 e)
       test (inr h) = or-right (eqb limit 0) (lt-ltb 65536 limit h)
 
--- Every other call is answered.
-pub answered : (ls : List ℕ) (run limit : ℕ) → Yard ls → Limit limit → panelsFor ls run limit ≡ accepted (record { best = best ls run (tried ls limit); tries = length (tried ls limit); floor = floor ls run })
+pub sixteen-exactly : Panels-sixteen
+sixteen-exactly = sixteen
+
+pub seventeen-exactly : Panels-seventeen
+seventeen-exactly = seventeen
+
+pub panels-answered : Panels-answered
 unfolding panelsFor
-answered ls run limit y l = let low = l .low in rw (yard-fit ls y, ne-eqb limit 0 (λ e. omega arith), le-ltb 65536 limit (l .top))
+panels-answered ls run limit y l = let low = l .low in rw (yard-fit ls y, ne-eqb limit 0 (λ e. omega arith), le-ltb 65536 limit (l .top))

@@ -15,11 +15,11 @@ use Rattle.refusal.proofs.TestLaws.{any-elim}
 use Rattle.panels.specs.declared.search.Tried.{Tried}
 use Rattle.panels.specs.Layout.{layouts, tried, best}
 use Rattle.panels.specs.Panels.{outOfRange, floor, panelsFor}
-use Rattle.panels.specs.Promised.{Yard, Limit}
+use Rattle.panels.specs.Promised.{StockLengths, Limit}
 use Rattle.panels.specs.Reply.{placesOf, repliedBest, replied}
 use Rattle.panels.specs.Steps.{layoutAt, layoutsFrom, foundAt, Searched}
 use Rattle.panels.proofs.PlaceLaws.{layouts-from, layouts-taken, layouts-number, from-length}
-use Rattle.panels.proofs.RefusedLaws.{sixteen-exactly, seventeen-exactly, answered}
+use Rattle.panels.proofs.RefusedLaws.{sixteen-exactly, seventeen-exactly, panels-answered}
 
 module _ (ls : List ℕ) (run limit : ℕ) where
   pub none-given : length ls ≡ 0 → panelsFor ls run limit ≡ refused 16 0
@@ -31,10 +31,10 @@ module _ (ls : List ℕ) (run limit : ℕ) where
   pub one-out : someOf outOfRange ls ≡ true → panelsFor ls run limit ≡ refused 16 0
   one-out e = sixteen-exactly ls run limit 0 .1 (refl, inr (inr (any-elim outOfRange ls e)))
 
-  pub no-tries : Yard ls → limit ≡ 0 → panelsFor ls run limit ≡ refused 17 0
+  pub no-tries : StockLengths ls → limit ≡ 0 → panelsFor ls run limit ≡ refused 17 0
   no-tries y e = seventeen-exactly ls run limit 0 .1 (refl, y, inl e)
 
-  pub too-many : Yard ls → 65536 < limit → panelsFor ls run limit ≡ refused 17 0
+  pub too-many : StockLengths ls → 65536 < limit → panelsFor ls run limit ≡ refused 17 0
   too-many y h = seventeen-exactly ls run limit 0 .1 (refl, y, inr h)
 
 -- What is tried, by places.
@@ -51,14 +51,14 @@ tried-from ls limit = go (decLe limit (16 ^ length ls))
         ∙ ap (layoutsFrom (length ls) 0) (let e : 16 ^ length ls ≡ min limit (16 ^ length ls) = omega arith in e)
 
 -- The reply, from the tries and the floor.
-module _ (ls : List ℕ) (run limit : ℕ) (y : Yard ls) (l : Limit limit) (t : Tried) (end f : ℕ) (s : Searched ls run end t) (e : end ≡ min limit (16 ^ length ls)) (g : f ≡ floor ls run) where
+module _ (ls : List ℕ) (run limit : ℕ) (y : StockLengths ls) (l : Limit limit) (t : Tried) (end f : ℕ) (s : Searched ls run end t) (e : end ≡ min limit (16 ^ length ls)) (g : f ≡ floor ls run) where
   from-tries : repliedBest (foundAt (length ls) (t .kept)) (t .tries) f ≡ replied (panelsFor ls run limit)
   unfolding replied
   from-tries =
       let those : layoutsFrom (length ls) 0 (t .tries) ≡ tried ls limit = ap (layoutsFrom (length ls) 0) (s .made ∙ e) ∙ sym (tried-from ls limit) in
       let kept : foundAt (length ls) (t .kept) ≡ best ls run (tried ls limit) = s .kept ∙ ap (best ls run) those in
       let number : t .tries ≡ length (tried ls limit) = sym (from-length (length ls) 0 (t .tries)) ∙ ap length those in
-      rw (answered ls run limit y l, kept, number, g)
+      rw (panels-answered ls run limit y l, kept, number, g)
 
   pub found-replied : (counts : List ℕ) → t .kept .found ≡ true → counts ≡ placesOf (layoutAt (length ls) (t .kept .place))
       → record { answer = accepted tt; found = true; overrun = t .kept .overrun; counts = counts; tries = t .tries; floor = f } ≡ replied (panelsFor ls run limit)

@@ -13,7 +13,7 @@ use Rattle.panels.specs.declared.odometer.Lengths.{Lengths}
 use Rattle.panels.specs.declared.odometer.Odometer.{Odometer}
 use Rattle.panels.specs.declared.search.Kept.{Kept}
 use Rattle.panels.specs.Layout.{total, covers, overrun, none, found, judged, better, best}
-use Rattle.panels.specs.Promised.{Yard}
+use Rattle.panels.specs.Promised.{StockLengths}
 use Rattle.panels.specs.Steps.{layoutAt, layoutsFrom, fourLengths, Shows, Advances, foundAt, JudgedNext}
 use Rattle.panels.proofs.PlaceLaws.{from-append}
 use Rattle.panels.proofs.BestLaws.{better-none, best-append}
@@ -73,7 +73,7 @@ module _ (ls : List ℕ) (run : ℕ) where
       ∙ best-append ls run (layoutsFrom k 0 n) (layoutAt k (0 + n) ∷ [])
       ∙ ap (better (best ls run (layoutsFrom k 0 n))) (best-one (layoutAt k (0 + n)) ∙ ap (λ (i : ℕ). judged ls run (layoutAt k i)) (zero-add n))
 
-  pub tried-next : Yard ls → {l : Lengths} {o next : Odometer} {kept after : Kept} {tries : ℕ} → tries < 65536 → TriedSo ls run l o kept tries
+  pub tried-next : StockLengths ls → {l : Lengths} {o next : Odometer} {kept after : Kept} {tries : ℕ} → tries < 65536 → TriedSo ls run l o kept tries
       → JudgedNext kept (o .total) run tries after → Advances l o next → TriedSo ls run l next after (tries + 1)
   tried-next y {l} {o} {next} {kept} {after} {tries} h so j a =
       let k = length ls in

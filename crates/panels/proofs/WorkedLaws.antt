@@ -1,27 +1,24 @@
 -- A worked run: panel lengths 4 and 6 for a run of 21.
 -- Assumes nothing.
 use mathlib.Core.Path.{_≡_, refl}
-use mathlib.Core.List.{List, [], _∷_}
-use Prim.Native.Nat.{ℕ}
+use mathlib.Core.List.{[], _∷_}
 use Rattle.refusal.specs.Choice.{someOf, allOf}
 use Rattle.refusal.specs.Answer.{accepted}
 use Rattle.panels.specs.Layout.{eachBefore, layouts, tried, total, covers, overrun, none, found, judged, best}
 use Rattle.panels.specs.Panels.{greatest, dividesAll, gcd, multipleFrom, floor, panelsFor}
-
-abbrev pub lengths : List ℕ
-lengths = 4 ∷ 6 ∷ []
+use Rattle.panels.specs.Promised.{workedLengths}
 
 -- Of the first five layouts the fifth, none of 4 and four of 6, is the first to cover 21, by 3; the floor is 1, as both lengths are even.
-pub five-tries : panelsFor lengths 21 5 ≡ accepted (record { best = found 3 (0 ∷ 4 ∷ []); tries = 5; floor = 1 })
+pub five-tries : panelsFor workedLengths 21 5 ≡ accepted (record { best = found 3 (0 ∷ 4 ∷ []); tries = 5; floor = 1 })
 unfolding eachBefore layouts tried total covers overrun judged best someOf allOf greatest dividesAll gcd multipleFrom floor panelsFor
 five-tries = refl
 
 -- All 256: one of 4 and three of 6 make 22, the least there is.
-pub all-tries : panelsFor lengths 21 65536 ≡ accepted (record { best = found 1 (1 ∷ 3 ∷ []); tries = 256; floor = 1 })
+pub all-tries : panelsFor workedLengths 21 65536 ≡ accepted (record { best = found 1 (1 ∷ 3 ∷ []); tries = 256; floor = 1 })
 unfolding eachBefore layouts tried total covers overrun judged best someOf allOf greatest dividesAll gcd multipleFrom floor panelsFor
 all-tries = refl
 
 -- Four tries reach 18: none covers, and tries and floor stand all the same.
-pub none-covers : panelsFor lengths 21 4 ≡ accepted (record { best = none; tries = 4; floor = 1 })
+pub none-covers : panelsFor workedLengths 21 4 ≡ accepted (record { best = none; tries = 4; floor = 1 })
 unfolding eachBefore layouts tried total covers overrun judged best someOf allOf greatest dividesAll gcd multipleFrom floor panelsFor
 none-covers = refl

@@ -70,7 +70,7 @@ better none b = b
 better (found o l) none = found o l
 better (found o l) (found p m) = if leb o p then found o l else found p m
 
--- The best of a list of layouts (laws best-first, none-exactly).
+-- The best of a list of layouts (laws best-first, best-none).
 unfoldable pub best : (lengths : List ℕ) (run : ℕ) (layouts : List (List ℕ)) → Found
 best lengths run [] = none
 best lengths run (l ∷ ls) = better (judged lengths run l) (best lengths run ls)

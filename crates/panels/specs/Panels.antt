@@ -31,8 +31,8 @@ gcd (l ∷ ls) = greatest (dividesAll (l ∷ ls)) l
 unfoldable pub multipleFrom : (g n : ℕ) → ℕ
 multipleFrom g n = (n + (g - 1)) / g * g
 
--- "The floor is the distance from the run's length up to the least multiple, not below it, of the lengths' greatest common divisor" (laws
--- reply-floor-is, reply-floor).
+-- "The floor is the distance from the run's length up to the least multiple, not below it, of the lengths' greatest common divisor" (law
+-- panels-given).
 unfoldable pub floor : (lengths : List ℕ) (run : ℕ) → ℕ
 floor lengths run = multipleFrom (gcd lengths) run - run
 

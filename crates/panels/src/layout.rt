@@ -11,7 +11,7 @@ ghost use lib.ListN.{length};
 ghost use Rattle.refusal.specs.Choice.{someOf};
 ghost use Rattle.refusal.specs.Refusal.{refusal};
 ghost use Rattle.panels.specs.Panels.{outOfRange, panelsFor};
-ghost use Rattle.panels.specs.Promised.{Yard, Limit};
+ghost use Rattle.panels.specs.Promised.{StockLengths, Limit};
 ghost use Rattle.panels.specs.Reply.{placesOf, replied, layoutReply};
 ghost use Rattle.panels.specs.Steps.{layoutAt};
 
@@ -95,7 +95,7 @@ fn refused(why: Refusal) -> Layout
 
 // The reply, after the tests.
 fn best_layout(lengths: &[u64], run: u64, limit: u64) -> Layout
-    requires { ⌜ Yard (now lengths) ⌝ }
+    requires { ⌜ StockLengths (now lengths) ⌝ }
     requires { ⌜ Limit limit ⌝ }
     ensures { λ r. ⌜ layoutReply r ≡ replied (panelsFor (now (lengths .entry)) run limit) ⌝ }
 {

@@ -3,7 +3,7 @@ use super::odometer::Odometer;
 use super::odometer::advance;
 use super::odometer::four_lengths;
 ghost use Prim.Native.Nat.{_≤_};
-ghost use Rattle.panels.specs.Promised.{Yard};
+ghost use Rattle.panels.specs.Promised.{StockLengths};
 ghost use Rattle.panels.specs.Steps.{JudgedNext, Searched};
 
 // What is kept of the layouts tried so far: whether one covers, and then the smallest overrun and its first layout's place in the order.
@@ -40,7 +40,7 @@ fn judge(kept: Kept, total: u64, run: u64, place: u64) -> Kept
 // The first `end` layouts, each tried and counted once: trying does not stop early. The caller passes the lesser of the limit and the number of
 // layouts, so `end` never passes the layouts there are.
 pub fn try_layouts(lengths: &[u64], run: u64, end: u64) -> Tried
-    requires { ⌜ Yard (now lengths) ⌝ }
+    requires { ⌜ StockLengths (now lengths) ⌝ }
     requires { ⌜ end ≤ 65536 ⌝ }
     ensures { λ r. ⌜ Searched (now (lengths .entry)) run end r ⌝ }
 {

@@ -15,10 +15,11 @@ use Rattle.job.specs.declared.Header.{Header}
 use Rattle.job.specs.declared.Hazard.{Hazard}
 use Rattle.job.specs.Job.{Job, readJob}
 use Rattle.job.specs.Writing.{writeJob}
-use Rattle.job.proofs.WritingLaws.{Bytes, job-written, job-is-written}
+use Rattle.job.proofs.WritingLaws.{job-written, job-is-written}
+use Rattle.number.specs.Form.{Bytes}
 use Rattle.planning.specs.Envelope.{reached, standsNear, testHazard, testHazards, acceptJob}
-use Rattle.planning.specs.Rows.{Passed}
-use Rattle.planning.proofs.EnvelopeLaws.{AcceptedFits, accepted-fits}
+use Rattle.planning.specs.Rows.{Passed, AcceptedFits}
+use Rattle.planning.proofs.EnvelopeLaws.{accepted-fits}
 use Rattle.refusal.proofs.TestLaws.{not-and-intro}
 
 pub hazard-passes : (h : Header) (i : ℕ) (z : Hazard) → Passed h z → testHazard h i z ≡ accepted tt

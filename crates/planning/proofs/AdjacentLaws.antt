@@ -10,12 +10,8 @@ use borrow.Author.Tests.{lt-ltb, eq-eqb, ne-eqb}
 use Rattle.refusal.proofs.TestLaws.{or-left, or-right}
 use Rattle.job.specs.declared.Header.{Header}
 use Rattle.job.specs.declared.Hazard.{Hazard}
-use Rattle.planning.specs.Envelope.{Traffic, present, adjacent, adjacentTraffic, reaches}
+use Rattle.planning.specs.Envelope.{adjacentTraffic, reaches, Adjacent}
 use Rattle.planning.proofs.ReachLaws.{reaches-adjacent}
-
-pub record Adjacent (h : Header) (side : ℕ) (t : Traffic) : Type 0 where
-  pub there : present h t ≡ true
-  pub beside : adjacent h side t ≡ true
 
 -- "The adjacent traffic of the right side is forward; of the left side opposite. With LO = 0, forward is adjacent to both sides."
 pub is-adjacent : (h : Header) (side : ℕ) → side ≤ 1 → Adjacent h side (adjacentTraffic h side)

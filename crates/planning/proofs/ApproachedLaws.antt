@@ -1,6 +1,6 @@
 -- The hazard asked for by its index: when 14 is returned, and what is known of a hazard that adjacent traffic reaches.
 -- Assumes nothing.
-use Prim.Native.Nat.{ℕ, _+_, _≤_, _<_}
+use Prim.Native.Nat.{ℕ, _≤_, _<_}
 use native.Mathlib.Omega.{arith}
 use mathlib.Core.Path.{_≡_, refl, sym, ap, _∙_}
 use mathlib.Core.Bool.{Bool, true, false}
@@ -12,25 +12,17 @@ use Rattle.refusal.specs.Answer.{Answer, accepted, refused, _>>=_}
 use Rattle.refusal.specs.Refusal.{unless-refuse}
 use Rattle.refusal.specs.declared.Refusal.the-variants as Row
 use Rattle.refusal.proofs.EachLaws.{getD-member}
-use Rattle.job.specs.declared.Header.{Header}
 use Rattle.job.specs.declared.Hazard.{Hazard}
 use Rattle.job.specs.declared.StoredJob.{StoredJob}
 use Rattle.job.specs.Job.{Job, unnamed, jobOf}
 use Rattle.job.specs.Reply.{unused}
-use Rattle.job.specs.Fits.{HeaderFits, HazardFits}
+use Rattle.job.specs.Fits.{HazardFits}
 use Rattle.job.proofs.RangeLaws.{hazard-bounds}
-use Rattle.planning.specs.Approached.{hazardAt, adjacentReaches, approachedHazard}
+use Rattle.planning.specs.Approached.{hazardAt, adjacentReaches, approachedHazard, ApproachedFits}
 use Rattle.planning.proofs.ReachLaws.{reached-near}
-use Rattle.planning.proofs.EnvelopeLaws.{AcceptedFits}
+use Rattle.planning.specs.Rows.{AcceptedFits}
 use Rattle.planning.proofs.AcceptLaws.{stored}
 use Rattle.planning.proofs.AdjacentLaws.{adjacent-reaches}
-
--- A hazard in its ranges that adjacent traffic reaches and that stands clear of the barrier.
-pub record ApproachedFits (h : Header) (z : Hazard) : Type 0 where
-  pub header : HeaderFits h
-  pub hazard : HazardFits h z
-  pub reach : z .near < h .zone
-  pub clear : h .offset + h .deflection ≤ z .near
 
 module _ (j : Job) (i : ℕ) where
   pub no-such : length (j .hazards) ≤ i → approachedHazard j i ≡ refused 14 0

@@ -22,13 +22,13 @@ use Rattle.job.specs.Fits.{HazardFits, JobFits}
 use Rattle.job.proofs.RangeLaws.{header-bounds, hazard-bounds}
 use Rattle.job.proofs.JobLaws.{job-fits}
 use Rattle.runs.specs.declared.Stretch.{Stretch}
-use Rattle.runs.specs.Level.{Has}
+use Rattle.runs.specs.Level.{Has, Proper}
 use Rattle.runs.specs.RunList.{lastStation}
-use Rattle.runs.proofs.LevelLaws.{Proper, Levelled, EndsBy}
+use Rattle.runs.proofs.LevelLaws.{Levelled, EndsBy}
 use Rattle.planning.specs.Envelope.{Traffic, forward, opposite, runout, reaches, reached, reachOf, offsetOf, envelope, envelopes, cutToRoad, cutEnvelope, sideEnvelopes, OnRoad, standsNear, testHazard, testHazards, acceptJob}
 use Rattle.planning.specs.Reply.{Cuts, cutsOf, testedEnvelopes}
 use Rattle.planning.specs.Overhang.{SideHazard}
-use Rattle.planning.specs.Rows.{Passed}
+use Rattle.planning.specs.Rows.{Passed, AcceptedFits}
 use Rattle.planning.proofs.ReachLaws.{reaching-domain}
 use Rattle.refusal.specs.declared.Refusal.the-variants as Row
 
@@ -42,11 +42,6 @@ hazards-passed h i [] u e = λ z m. absurd (List·Memᴰ·not-nil m)
 hazards-passed h i (x ∷ xs) u e =
     let b1 = bound (testHazard h i x) _ u e in
     cons-each (Passed h) (hazard-passed h i x (b1 .first) (b1 .taken)) (hazards-passed h (i + 1) xs u (b1 .rest))
-
--- An accepted job.
-pub record AcceptedFits (j : Job) : Type 0 where
-  pub fits : JobFits j
-  pub passed : (z : Hazard) → List·Memᴰ z (j .hazards) → Passed (j .header) z
 
 pub accepted-fits : (s : List ℕ) (j : Job) → acceptJob s ≡ accepted j → AcceptedFits j
 unfolding acceptJob

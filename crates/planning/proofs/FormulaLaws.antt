@@ -21,7 +21,8 @@ use Rattle.runs.proofs.LeastLaws.{required-covers}
 use Rattle.planning.specs.Envelope.{Traffic, forward, opposite, runout, reaches, reached, reachOf, offsetOf, lengthening, envelope, cutToRoad, cutEnvelope, OnRoad, Upstream, BelowApproach, Asked, beside, upstream, sideEnvelopes}
 use Rattle.planning.specs.Overhang.{SideHazard}
 use Rattle.planning.specs.Required.{jobLevel}
-use Rattle.planning.proofs.EnvelopeLaws.{AcceptedFits, domain-of, cut-has, to-cut, side-levelled}
+use Rattle.planning.specs.Rows.{AcceptedFits}
+use Rattle.planning.proofs.EnvelopeLaws.{domain-of, cut-has, to-cut, side-levelled}
 
 module _ (j : Job) (fits : AcceptedFits j) (z : Hazard) (m : List·Memᴰ z (j .hazards)) where
   is-reached : (t : Traffic) → reaches (j .header) z t ≡ true → reached (j .header) z ≡ true

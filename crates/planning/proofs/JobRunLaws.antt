@@ -14,14 +14,14 @@ use Rattle.job.specs.Job.{Job}
 use Rattle.job.specs.Fits.{HazardFits}
 use Rattle.job.proofs.RangeLaws.{hazard-bounds}
 use Rattle.runs.specs.declared.Stretch.{Stretch}
-use Rattle.runs.specs.RunList.{isRunList}
+use Rattle.runs.specs.RunList.{isRunList, RunsOf}
 use Rattle.runs.specs.Required.{requiredRuns, endPoints, runsBetween}
-use Rattle.runs.proofs.RunsOfLaws.{RunsOf}
 use Rattle.runs.proofs.RequiredLaws.{required-runs, required-run-list}
 use Rattle.planning.specs.Envelope.{envelopes, sideEnvelopes, acceptJob}
 use Rattle.planning.specs.Required.{jobLevel, jobRuns}
 use Rattle.planning.specs.Reply.{acceptedRuns}
-use Rattle.planning.proofs.EnvelopeLaws.{AcceptedFits, accepted-fits, side-proper, side-ends, side-count}
+use Rattle.planning.specs.Rows.{AcceptedFits}
+use Rattle.planning.proofs.EnvelopeLaws.{accepted-fits, side-proper, side-ends, side-count}
 
 module _ (j : Job) (side : ℕ) (fits : AcceptedFits j) where
   pub job-runs : RunsOf (jobLevel j side) (jobRuns j side)

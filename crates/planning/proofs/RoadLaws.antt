@@ -19,7 +19,8 @@ use Rattle.runs.proofs.RunsOfLaws.{member→run}
 use Rattle.runs.proofs.LevelLaws.{Joined, covered, bridged, level→joined}
 use Rattle.planning.specs.Envelope.{forward, opposite, reached, lengthening, envelope, envelopes, cutToRoad, sideEnvelopes, overhang, noOverhang, greater, overhangs, sideOverhangs, OnRoad, StaysOnRoad}
 use Rattle.planning.specs.Required.{jobLevel, jobRuns}
-use Rattle.planning.proofs.EnvelopeLaws.{AcceptedFits, side-lies}
+use Rattle.planning.specs.Rows.{AcceptedFits}
+use Rattle.planning.proofs.EnvelopeLaws.{side-lies}
 use Rattle.planning.proofs.JobRunLaws.{job-runs}
 
 -- Off the road a job requires nothing.

@@ -19,7 +19,7 @@ use Rattle.refusal.proofs.EachLaws.{cons-each}
 use Rattle.job.specs.declared.Header.{Header}
 use Rattle.job.specs.declared.Hazard.{Hazard}
 use Rattle.job.specs.Job.{Job, readJob}
-use Rattle.job.proofs.WritingLaws.{Bytes}
+use Rattle.number.specs.Form.{Bytes}
 use Rattle.job.proofs.RowLaws.{read-exactly}
 use Rattle.planning.specs.Envelope.{reached, standsNear, testHazard, testHazards, acceptJob}
 use Rattle.planning.specs.Rows.{Near, Passed, FirstNear, FirstNearOf, JobRow, of-reading, near-barrier}

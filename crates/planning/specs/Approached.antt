@@ -1,6 +1,6 @@
 -- One hazard of an accepted job, for the calls that ask about its adjacent approach (document 02, requests 9 and 10).
 -- Assumes nothing.
-use Prim.Native.Nat.{ℕ}
+use Prim.Native.Nat.{ℕ, _+_, _≤_, _<_}
 use mathlib.Core.Bool.{Bool}
 use mathlib.Core.List.{[]}
 use lib.ListN.{length, getD}
@@ -12,6 +12,7 @@ use Rattle.job.specs.declared.Header.{Header}
 use Rattle.job.specs.declared.Hazard.{Hazard}
 use Rattle.job.specs.Job.{Job, hazardOf}
 use Rattle.planning.specs.Envelope.{adjacentTraffic, reaches}
+use Rattle.job.specs.Fits.{HeaderFits, HazardFits}
 
 -- The hazard with an index; zeros where there is none.
 abbrev pub hazardAt : Job → (index : ℕ) → Hazard
@@ -26,3 +27,10 @@ approachedHazard j i =
     unless-refuse (ltb i (length (j .hazards))) Row.Hazard >>= λ _.
     unless-refuse (adjacentReaches (j .header) (hazardAt j i)) Row.Hazard >>= λ _.
     accepted (hazardAt j i)
+
+-- A hazard in its ranges that adjacent traffic reaches and that stands clear of the barrier.
+pub record ApproachedFits (h : Header) (z : Hazard) : Type 0 where
+  pub header : HeaderFits h
+  pub hazard : HazardFits h z
+  pub reach : z .near < h .zone
+  pub clear : h .offset + h .deflection ≤ z .near

@@ -35,6 +35,11 @@ adjacent h side opposite = eqb side 1
 unfoldable pub adjacentTraffic : Header → (side : ℕ) → Traffic
 adjacentTraffic h side = if adjacent h side forward then forward else opposite
 
+-- A traffic that is there and adjacent, as this one is (law is-adjacent).
+pub record Adjacent (h : Header) (side : ℕ) (t : Traffic) : Type 0 where
+  pub there : present h t ≡ true
+  pub beside : adjacent h side t ≡ true
+
 abbrev pub runout : Header → Traffic → ℕ
 runout h forward = h .forward
 runout h opposite = h .opposite

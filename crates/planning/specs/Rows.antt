@@ -13,6 +13,7 @@ use Rattle.job.specs.declared.Hazard.{Hazard}
 use Rattle.job.specs.Job.{Job, readJob}
 use Rattle.job.specs.Rows.{ReadRow}
 use Rattle.planning.specs.Envelope.{reached}
+use Rattle.job.specs.Fits.{JobFits}
 
 -- A "reached hazard with n < M + D".
 pub record Near (h : Header) (z : Hazard) : Type 0 where
@@ -22,6 +23,11 @@ pub record Near (h : Header) (z : Hazard) : Type 0 where
 -- A hazard that passes 5.
 pub record Passed (h : Header) (z : Hazard) : Type 0 where
   pub clear : reached h z ≡ true → h .offset + h .deflection ≤ z .near
+
+-- An accepted job: in its ranges, and its hazards pass 5.
+pub record AcceptedFits (j : Job) : Type 0 where
+  pub fits : JobFits j
+  pub passed : (z : Hazard) → List·Memᴰ z (j .hazards) → Passed (j .header) z
 
 -- "Hazards in order, both sides": the hazard with an index stands too near, and those before it pass.
 pub record FirstNear (h : Header) (zs : List Hazard) (index : ℕ) : Type 0 where

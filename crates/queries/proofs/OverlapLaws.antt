@@ -12,9 +12,9 @@ use Rattle.refusal.specs.Choice.{if_then_else_}
 use Rattle.refusal.specs.Answer.{accepted}
 use Rattle.number.specs.Number.{Reading}
 use Rattle.runs.specs.declared.Stretch.{Stretch}
-use Rattle.runs.specs.RunList.{shownLevel}
+use Rattle.runs.specs.RunList.{shownLevel, Next, Rising}
 use Rattle.runs.specs.Count.{countFrom}
-use Rattle.runs.proofs.RunLaws.{Next, Rising, shown-nothing}
+use Rattle.runs.proofs.RunLaws.{shown-nothing}
 use Rattle.runs.proofs.CountLaws.{count-none, count-run}
 use Rattle.schedule.specs.Schedule.{ReadRun}
 use Rattle.queries.specs.Walk.{headAt, recordAt, overlap, overlapAt, overlaps, overlapSum}

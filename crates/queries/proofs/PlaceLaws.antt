@@ -15,10 +15,10 @@ use Rattle.refusal.specs.Refusal.{unless-refuse}
 use Rattle.refusal.specs.declared.Refusal.the-variants as Row
 use Rattle.refusal.proofs.AnswerLaws.{bound}
 use Rattle.number.specs.Number.{Reading, writeNumber}
-use Rattle.number.proofs.ByteLaws.{Bytes}
+use Rattle.number.specs.Form.{Bytes}
 use Rattle.number.proofs.WriteLaws.{small-length}
 use Rattle.runs.specs.declared.Stretch.{Stretch}
-use Rattle.runs.proofs.RunLaws.{Rising}
+use Rattle.runs.specs.RunList.{Rising}
 use Rattle.schedule.specs.Schedule.{writeRecord, writeRecords, writeSchedule, ReadRun, readSchedule}
 use Rattle.queries.specs.Walk.{headAt, recordAt}
 use Rattle.queries.specs.Lookup.{Part, Found, found, nowhere, findRecord, placeIn, asked, lookup, partOf}

@@ -14,9 +14,9 @@ use Rattle.runs.specs.declared.Stretch.{Stretch}
 use Rattle.runs.specs.RunList.{shownLevel}
 use Rattle.schedule.specs.Schedule.{readSchedule}
 use Rattle.queries.specs.Quantity.{millimetres}
-use Rattle.queries.specs.Ranges.{Range, rangesOf, areRanges, mostRanges, Counted, quantities}
+use Rattle.queries.specs.Ranges.{Range, rangesOf, areRanges, mostRanges, Counted, quantities, rangeAt, AllRanged}
 use Rattle.queries.proofs.QuantityLaws.{level-tested, argument-refused}
-use Rattle.queries.proofs.RangeLaws.{rangeAt, ranges-at, WholeRanges, whole-ranges}
+use Rattle.queries.proofs.RangeLaws.{ranges-at, whole-ranges}
 
 -- The quantity of one range in runs.
 abbrev pub priced : List Stretch → (level : ℕ) → Range → ℕ
@@ -33,10 +33,6 @@ getD-map-in f (x ∷ l) (suc i) e d h = getD-map-in f l i e d (omega arith)
 -- The quantity at an index is that of the range there.
 pub priced-at : (f : Range → ℕ) (l : List ℕ) (i : ℕ) → i < length (rangesOf l) → getD (map f (rangesOf l)) i 0 ≡ f (rangeAt l i)
 priced-at f l i h = getD-map-in f (rangesOf l) i 0 (rangeAt l i) h ∙ ap f (ranges-at l i h (rangeAt l i))
-
--- The arguments are in their ranges.
-abbrev pub AllRanged : (level : ℕ) (numbers : List ℕ) → Type 0
-AllRanged level numbers = (1 ≤ level) × (level ≤ 6) × WholeRanges numbers
 
 pub all-ranged : (v : ℕ) (l : List ℕ) → ((leb 1 v && leb v 6 && areRanges l) ≡ true) ↔ AllRanged v l
 all-ranged v l = level-tested v (areRanges l) (whole-ranges l)

@@ -13,12 +13,12 @@ use Rattle.refusal.specs.declared.Refusal.the-variants as Row
 use Rattle.refusal.proofs.AnswerLaws.{same-behind}
 use Rattle.refusal.proofs.TestLaws.{and-left, and-right, and-intro}
 use Rattle.runs.specs.declared.Stretch.{Stretch}
-use Rattle.runs.specs.RunList.{shownLevel}
-use Rattle.runs.proofs.RunLaws.{Rising, run-list-rising}
+use Rattle.runs.specs.RunList.{shownLevel, Rising}
+use Rattle.runs.proofs.RunLaws.{run-list-rising}
 use Rattle.schedule.specs.Schedule.{readSchedule}
 use Rattle.schedule.proofs.ScheduleLaws.{read-list}
 use Rattle.queries.specs.Walk.{overlaps, overlapSum}
-use Rattle.queries.specs.Quantity.{millimetres, quantity}
+use Rattle.queries.specs.Quantity.{millimetres, quantity, Ranged}
 use Rattle.queries.proofs.OverlapLaws.{millimetres-overlaps}
 
 -- The runs of a schedule that can be read rise.
@@ -36,10 +36,6 @@ level-tested v t is = (
 pub argument-refused : {A P : Type 0} (t : Bool) (f : Unit {0} → Answer A) → (t ≡ true → P) → (P → ⊥) → (unless-refuse t Row.Argument >>= f) ≡ refused 8 0
 argument-refused true f is n = absurd (n (is refl))
 argument-refused false f is n = refl
-
--- The arguments are in their ranges.
-abbrev pub Ranged : (v p q : ℕ) → Type 0
-Ranged v p q = (1 ≤ v) × (v ≤ 6) × (p ≤ q)
 
 pub ranged : (v p q : ℕ) → ((leb 1 v && leb v 6 && leb p q) ≡ true) ↔ Ranged v p q
 ranged v p q = level-tested v (leb p q) (leb-true p q, le-leb p q)

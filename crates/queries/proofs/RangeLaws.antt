@@ -13,7 +13,7 @@ use lib.Dec.{leb}
 use borrow.Author.Tests.{le-leb, lt-leb, leb-true}
 use Rattle.refusal.proofs.TestLaws.{and-left, and-right, and-intro}
 use Rattle.runs.proofs.IndexLaws.{zeros}
-use Rattle.queries.specs.Ranges.{Range, rangesOf, areRanges, mostRanges, placesOf}
+use Rattle.queries.specs.Ranges.{Range, rangesOf, areRanges, mostRanges, placesOf, rangeAt, WholeRanges}
 
 -- One after the other
 
@@ -41,9 +41,6 @@ module _ (l : List ℕ) (i : ℕ) where
 
 -- By index
 
-abbrev pub rangeAt : List ℕ → (i : ℕ) → Range
-rangeAt l i = record { p = getD l (2 * i) 0; q = getD l (2 * i + 1) 0 }
-
 pub ranges-count : (l : List ℕ) → length (rangesOf l) ≡ length l / 2
 unfolding rangesOf
 ranges-count [] = refl
@@ -63,10 +60,7 @@ ranges-at (p ∷ []) i h d = absurd (omega arith)
 ranges-at (p ∷ q ∷ l) zero h d = refl
 ranges-at (p ∷ q ∷ l) (suc i) h d = ranges-at l i (omega arith) d ∙ sym (shifted p q l i)
 
--- In the paper's words: every number has its partner, and no p is above its q.
-pub record WholeRanges (l : List ℕ) : Type 0 where
-  pub pairs : length l ≡ 2 * length (rangesOf l)
-  pub ordered : (i : ℕ) → i < length (rangesOf l) → rangeAt l i .p ≤ rangeAt l i .q
+-- The test in the paper's words.
 
 are-whole : (l : List ℕ) → areRanges l ≡ true → WholeRanges l
 unfolding areRanges rangesOf

@@ -7,7 +7,7 @@ use mathlib.Core.Logic.{_⊎_, inl, inr}
 use mathlib.Core.List.{List}
 use Rattle.refusal.specs.Answer.{accepted}
 use Rattle.number.specs.Number.{Reading}
-use Rattle.number.proofs.ByteLaws.{Bytes}
+use Rattle.number.specs.Form.{Bytes}
 use Rattle.runs.specs.RunList.{lastStation}
 use Rattle.schedule.specs.Schedule.{ReadRun}
 use Rattle.queries.specs.Walk.{headAt, recordAt, overlapAt}

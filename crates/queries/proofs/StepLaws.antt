@@ -10,10 +10,11 @@ use Rattle.refusal.specs.Answer.{Answer, accepted, refused, _>>=_}
 use Rattle.refusal.proofs.AnswerLaws.{same-behind}
 use Rattle.refusal.proofs.TestLaws.{impossible}
 use Rattle.number.specs.Number.{Reading, writeNumber}
-use Rattle.number.proofs.ByteLaws.{Bytes}
+use Rattle.number.specs.Form.{Bytes}
 use Rattle.number.proofs.ReadLaws.{number-read}
 use Rattle.runs.specs.declared.Stretch.{Stretch}
-use Rattle.runs.proofs.RunLaws.{Next, follows}
+use Rattle.runs.specs.RunList.{Next}
+use Rattle.runs.proofs.RunLaws.{follows}
 use Rattle.schedule.specs.Schedule.{readHead, ReadRun, readRecord, orTen, readRecords, readSchedule}
 use Rattle.schedule.proofs.ScheduleLaws.{or-ten, record-read, schedule-parts, records-rise}
 use Rattle.queries.specs.Walk.{headAt, recordAt}

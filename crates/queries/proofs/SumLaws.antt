@@ -12,19 +12,18 @@ use Rattle.refusal.specs.Answer.{Answer, accepted, refused}
 use Rattle.refusal.proofs.TestLaws.{impossible}
 use Rattle.number.specs.Number.{Reading}
 use Rattle.runs.specs.declared.Stretch.{Stretch}
-use Rattle.runs.specs.RunList.{lastStation}
-use Rattle.runs.proofs.RunLaws.{Next}
+use Rattle.runs.specs.RunList.{lastStation, Next}
 use Rattle.runs.proofs.IndexLaws.{zeros}
 use Rattle.schedule.specs.Schedule.{ReadRun, readSchedule}
 use Rattle.queries.specs.Walk.{headAt, recordAt, overlap, overlapAt, overlaps, overlapSum}
-use Rattle.queries.specs.Ranges.{mostRanges, rangesOf, quantities, placesOf, replied}
+use Rattle.queries.specs.Ranges.{mostRanges, rangesOf, quantities, placesOf, replied, rangeAt, AllRanged}
 use Rattle.queries.specs.Sums.{Sums, Grown, runCount, Tallied}
 use Rattle.queries.specs.declared.quantities.Tally.the-variants as Tally
 use Rattle.queries.proofs.StepLaws.{thenRuns, runs-refused, Rest, head-refused, walk-start, record-follows, walk-passed, walk-refused, walk-over, walk-left-over}
 use Rattle.queries.proofs.OverlapLaws.{millimetres-overlaps, overlap-most, Summed, summed-start, summed-turn, summed-over}
 use Rattle.queries.proofs.QuantityLaws.{read-rising}
-use Rattle.queries.proofs.RangeLaws.{rangeAt, ranges-count, places-count, places-in, places-behind}
-use Rattle.queries.proofs.QuantitiesLaws.{AllRanged, priced, priced-at, quantities-none, quantities-accepted}
+use Rattle.queries.proofs.RangeLaws.{ranges-count, places-count, places-in, places-behind}
+use Rattle.queries.proofs.QuantitiesLaws.{priced, priced-at, quantities-none, quantities-accepted}
 
 -- One run
 

@@ -18,12 +18,12 @@ use Rattle.number.specs.Number.{Reading, readingOf, numberAt, readNumber, write
 use Rattle.number.specs.declared.Read.{Read}
 use Rattle.number.specs.declared.Read.the-variants.{Number, Ended, Malformed}
 use Rattle.number.proofs.Read
-use Rattle.number.proofs.ByteLaws.{Bytes}
+use Rattle.number.specs.Form.{Bytes}
 use Rattle.number.proofs.WriteLaws.{write-one}
 use Rattle.number.proofs.ReadLaws.{read-stands}
 use Rattle.number.proofs.GroupWalk.{read-none, read-one}
-use Rattle.runs.specs.RunList.{mayFollow}
-use Rattle.runs.proofs.RunLaws.{Next, follows}
+use Rattle.runs.specs.RunList.{mayFollow, Next}
+use Rattle.runs.proofs.RunLaws.{follows}
 use Rattle.schedule.specs.Schedule.{orTen, ReadRun, readRecord}
 use Rattle.schedule.proofs.ScheduleLaws.{runAfter, may-follow}
 use Rattle.queries.specs.Walk.{recordAt, followingRun, levelAt}

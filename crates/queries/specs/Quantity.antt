@@ -1,6 +1,6 @@
 -- The call quantity: its complete reply.
 -- Assumes nothing.
-use Prim.Native.Nat.{ℕ, _-_}
+use Prim.Native.Nat.{ℕ, _-_, _≤_}
 use mathlib.Core.Bool.{_&&_}
 use mathlib.Core.List.{List}
 use lib.Dec.{leb, eqb}
@@ -16,6 +16,10 @@ use Rattle.schedule.specs.Schedule.{readSchedule}
 -- "How many millimetres of [p, q) have exactly that level."
 unfoldable pub millimetres : (f : ℕ → ℕ) → (level p q : ℕ) → ℕ
 millimetres f level p q = countFrom (λ (t : ℕ). eqb (f t) level) p (q - p)
+
+-- What 8 asks of a level and a range: level 1 to 6, and no p > q.
+abbrev pub Ranged : (level p q : ℕ) → Type 0
+Ranged level p q = (1 ≤ level) × (level ≤ 6) × (p ≤ q)
 
 -- "8, then 10."
 unfoldable pub quantity : (s : List ℕ) (level p q : ℕ) → Answer ℕ

@@ -1,9 +1,10 @@
 -- Document 02's first request, quantities for a whole contract: up to 64 ranges and one level in one call.
 -- Assumes nothing.
-use Prim.Native.Nat.{ℕ, _-_}
+use Prim.Native.Nat.{ℕ, _+_, _-_, _*_, _≤_, _<_}
+use mathlib.Core.Path.{_≡_}
 use mathlib.Core.Bool.{Bool, true, false, _&&_}
 use mathlib.Core.List.{List, [], _∷_, map}
-use lib.ListN.{length}
+use lib.ListN.{length, getD}
 use lib.Dec.{leb}
 use Rattle.refusal.specs.Answer.{Answer, accepted, refused, _>>=_}
 use Rattle.refusal.specs.Refusal.{unless-refuse, outcome}
@@ -30,6 +31,18 @@ unfoldable pub areRanges : List ℕ → Bool
 areRanges [] = true
 areRanges (p ∷ []) = false
 areRanges (p ∷ q ∷ numbers) = leb p q && areRanges numbers
+
+-- The same in words, by the range at an index: every number has its partner, and no p is above its q.
+abbrev pub rangeAt : List ℕ → (i : ℕ) → Range
+rangeAt l i = record { p = getD l (2 * i) 0; q = getD l (2 * i + 1) 0 }
+
+pub record WholeRanges (l : List ℕ) : Type 0 where
+  pub pairs : length l ≡ 2 * length (rangesOf l)
+  pub ordered : (i : ℕ) → i < length (rangesOf l) → rangeAt l i .p ≤ rangeAt l i .q
+
+-- What 8 asks of a level and the ranges.
+abbrev pub AllRanged : (level : ℕ) (numbers : List ℕ) → Type 0
+AllRanged level numbers = (1 ≤ level) × (level ≤ 6) × WholeRanges numbers
 
 -- "Take up to 64 ranges."
 abbrev pub mostRanges : ℕ

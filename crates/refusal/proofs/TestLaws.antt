@@ -7,7 +7,7 @@ use mathlib.Core.Logic.{_⊎_, inl, inr}
 use mathlib.Core.Bool.{Bool, true, false, _&&_, _||_, not, false≢true}
 use borrow.Author.Tests.{not-true}
 use mathlib.Core.List.{List, [], _∷_, List·Memᴰ, List·Memᴰ·head, List·Memᴰ·tail, List·Memᴰ·cases-cons, List·Memᴰ·not-nil}
-use Rattle.refusal.specs.Choice.{if_then_else_, someOf, keep}
+use Rattle.refusal.specs.Choice.{if_then_else_, someOf, keep, Passing}
 
 -- Facts that contradict each other, of whatever data: `cc` finds 0 ≡ 1 in them.
 pub impossible : {C : Type 0} → _≡_ {A = ℕ} 0 1 → C
@@ -57,12 +57,6 @@ not-and-intro true b h = rw (h refl)
 not-and-intro false b h = refl
 
 module _ {A : Type 0} where
-  -- an element of a list that passes a test
-  pub record Passing (p : A → Bool) (l : List A) : Type 0 where
-    pub one : A
-    pub member : List·Memᴰ one l
-    pub passes : p one ≡ true
-
   pub any-elim : (p : A → Bool) (l : List A) → someOf p l ≡ true → Passing p l
   unfolding someOf
   any-elim p [] e = absurd (false≢true e)

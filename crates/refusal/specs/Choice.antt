@@ -1,7 +1,8 @@
 -- Choice by a test, and tests over a list.
 -- Assumes nothing.
+use mathlib.Core.Path.{_≡_}
 use mathlib.Core.Bool.{Bool, true, false, _&&_, _||_}
-use mathlib.Core.List.{List, [], _∷_}
+use mathlib.Core.List.{List, [], _∷_, List·Memᴰ}
 
 module _ {ℓ} {A : Type ℓ} where
   infix 20 if_then_else_
@@ -24,3 +25,10 @@ module _ {ℓ} {A : Type ℓ} where
   unfoldable pub keep : (A → Bool) → List A → List A
   keep p [] = []
   keep p (x ∷ xs) = let r = keep p xs in if p x then x ∷ r else r
+
+module _ {A : Type 0} where
+  -- an element of a list that passes the test
+  pub record Passing (p : A → Bool) (l : List A) : Type 0 where
+    pub one : A
+    pub member : List·Memᴰ one l
+    pub passes : p one ≡ true

@@ -1,4 +1,4 @@
--- The calls on the parts of an open job's memory as C sees them: the state now afterwards, and the reply. `sound` says that all that is
+-- The calls on the parts of an open job's memory as C sees them: the present state afterwards, and the reply. `sound` says that all that is
 -- kept keeps the rules.
 -- Assumes nothing.
 use Prim.Native.Nat.{ℕ}
@@ -19,7 +19,7 @@ use Rattle.replies.specs.declared.open.Opening.{Opening}
 use Rattle.replies.specs.declared.open.Keeping.{Keeping}
 use Rattle.replies.specs.Interface.{replyOf, planReplyOf}
 
--- The state now after a call, and the reply: number 0 and value 0 where the call is done.
+-- The present state after a call, and the reply: number 0 and value 0 where the call is done.
 abbrev pub changedBy : StoredJob → Answer StoredJob → Changed
 changedBy m a = record { next = memoryAfter a m; reply = replyOf (replied a) }
 

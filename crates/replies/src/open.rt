@@ -13,20 +13,20 @@ ghost use Rattle.refusal.specs.Refusal.{outcome};
 ghost use Rattle.replies.specs.Interface.{replyOf};
 ghost use Rattle.replies.specs.OpenInterface.{endedBy, afterOpening, afterAdd, afterWithdrawal, afterKeeping, afterReturn, scheduleReply, scheduleOutput};
 
-// The state now after a call, and the reply.
+// The present state after a call, and the reply.
 pub struct Changed {
     pub next: StoredJob,
     pub reply: Reply,
 }
 
-// The state now after an opening, the reply, and whether it was done: then nothing is kept any more.
+// The present state after an opening, the reply, and whether it was done: then nothing is kept any more.
 pub struct Opening {
     pub next: StoredJob,
     pub reply: Reply,
     pub done: bool,
 }
 
-// The reply of keeping, and whether it was done: then the state now is kept under the number.
+// The reply of keeping, and whether it was done: then the present state is kept under the number.
 pub struct Keeping {
     pub reply: Reply,
     pub done: bool,
@@ -43,7 +43,7 @@ fn ending(how: Outcome) -> Keeping
     }
 }
 
-// The reply beside the state now.
+// The reply beside the present state.
 fn with_reply(change: Change) -> Changed
     ensures { λ r. ⌜ r ≡ record { next = change .next; reply = replyOf (outcome (change .outcome) 0) } ⌝ }
 {

@@ -3,24 +3,18 @@
 use Prim.Native.Nat.{ℕ, _≤_}
 use native.Mathlib.Omega.{arith}
 use mathlib.Core.Path.{_≡_, sym, ap, _∙_}
-use mathlib.Core.Bool.{Bool}
 use mathlib.Core.List.{List, [], _∷_}
-use lib.Dec.{ltb}
 use borrow.Author.Tests.{lt-ltb, le-ltb}
 use Rattle.job.specs.Job.{Job}
 use Rattle.runs.specs.declared.Stretch.{Stretch}
-use Rattle.runs.specs.RunList.{shownLevel, lastStation, lastEnd}
+use Rattle.runs.specs.RunList.{shownLevel, lastStation, lastEnd, Rising}
 use Rattle.runs.specs.Count.{countFrom}
-use Rattle.runs.proofs.RunLaws.{Rising, shown-nothing}
+use Rattle.runs.proofs.RunLaws.{shown-nothing}
 use Rattle.runs.proofs.CountLaws.{count-same, count-none, count-run}
 use Rattle.planning.specs.Required.{jobLevel, jobRuns}
-use Rattle.planning.proofs.EnvelopeLaws.{AcceptedFits}
+use Rattle.planning.specs.Rows.{AcceptedFits}
 use Rattle.planning.proofs.JobRunLaws.{job-runs}
-use Rattle.report.specs.Text.{covered}
-
--- A level above 0.
-abbrev pub above : ℕ → Bool
-above level = ltb 0 level
+use Rattle.report.specs.Text.{covered, above}
 
 last-after : (e v : ℕ) (rs : List Stretch) → Rising e v rs → e ≤ lastEnd e rs
 last-after e v [] h = omega arith

@@ -8,7 +8,7 @@ use mathlib.Core.List.{List, [], _∷_, _++_}
 use lib.ListN.{length, getD, length-append, List·getD-append}
 use borrow.Author.Tests.{lt-ltb, le-ltb}
 use Rattle.report.specs.Text.{digit, digitsIn, decimal}
-use Rattle.report.specs.Digits.{valueFrom}
+use Rattle.report.specs.Digits.{valueFrom, tens}
 
 digits-one : (k n : ℕ) → n < 10 → digitsIn (suc k) n ≡ digit n ∷ []
 unfolding digitsIn
@@ -17,11 +17,6 @@ digits-one k n h = rw (lt-ltb n 10 h)
 digits-more : (k n : ℕ) → 10 ≤ n → digitsIn (suc k) n ≡ digitsIn k (n / 10) ++ digit n ∷ []
 unfolding digitsIn
 digits-more k n h = rw (le-ltb n 10 h)
-
--- 10 to the power k.
-abbrev pub tens : ℕ → ℕ
-tens zero = 1
-tens (suc k) = 10 * tens k
 
 -- A number below 10 to the power k has its digits in k.
 digits-enough : (k n : ℕ) → n < tens (suc k) → digitsIn (suc (suc k)) n ≡ digitsIn (suc k) n

@@ -4,3 +4,4 @@ pub mod LineLaws
 pub mod CoveredLaws
 pub mod ReportLaws
 pub mod CallLaws
+pub mod InputLaws

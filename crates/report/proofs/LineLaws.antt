@@ -6,8 +6,7 @@ use mathlib.Core.Path.{_≡_, refl, sym}
 use mathlib.Core.List.{List, [], _∷_, _++_, append-assoc, append-nil}
 use lib.ListN.{length, getD, length-append}
 use Rattle.runs.specs.declared.Stretch.{Stretch}
-use Rattle.runs.specs.RunList.{lastStation}
-use Rattle.runs.proofs.RunLaws.{Rising}
+use Rattle.runs.specs.RunList.{lastStation, Rising}
 use Rattle.report.specs.Text.{line, runLine, runLines, covered}
 use Rattle.runs.proofs.StoredLaws.{run, firstRuns, runs-more, behind}
 

@@ -11,19 +11,19 @@ use Rattle.refusal.specs.Answer.{Answer, accepted, refused}
 use Rattle.number.specs.Number.{writeIn, writeNumber, scan, readNumber, numberAt}
 use Rattle.approach.specs.Approach.{ceilDiv, formulaLength, approachLength}
 use Rattle.approach.specs.Panel.{raised, raisedLength}
-use Rattle.job.specs.Writing.{writeNumbers}
+use Rattle.job.specs.Writing.{writeNumbers, printedJob}
 use Rattle.job.specs.Job.{Job, sharedRanges, headerRanges, hazardRanges, readFields, readHeader, readHazards, readJob, readRest}
 use Rattle.runs.specs.declared.Stretch.{Stretch}
 use Rattle.runs.specs.Level.{filled, highest, requiredLevel}
 use Rattle.runs.specs.Required.{insertStation, endPoints, put, runsBetween, requiredRuns}
-use Rattle.runs.specs.RunList.{isRunList, lastStation}
-use Rattle.runs.proofs.RunLaws.{Next, Rising, run-list-rising, run-list-short}
+use Rattle.runs.specs.RunList.{isRunList, lastStation, Next, Rising}
+use Rattle.runs.proofs.RunLaws.{run-list-rising, run-list-short}
 use Rattle.planning.specs.Envelope.{farther, reachOf, offsetOf, reaches, reached, lengthening, envelope, envelopes, cutToRoad, standsNear, testHazard, testHazards, acceptJob}
 use Rattle.planning.specs.Required.{jobRuns}
 use Rattle.planning.proofs.EnvelopeLaws.{accepted-fits}
 use Rattle.planning.proofs.JobRunLaws.{job-run-list}
 use Rattle.report.specs.Text.{digitsIn, decimal, fields, line, rightWord, leftWord, totalWord, refusedWord, runLines, covered, totalLine, refusedLine, runsReport, reportOf, reported}
-use Rattle.report.specs.Printed.{printedJob, printedText}
+use Rattle.report.specs.Printed.{printedText}
 use Rattle.report.specs.Printing.{mostText}
 use Rattle.report.proofs.DigitLaws.{decimal-within, decimal-most}
 use Rattle.report.proofs.LineLaws.{lineOf, covered-top}

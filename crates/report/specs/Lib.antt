@@ -3,3 +3,4 @@ pub mod Digits
 pub mod Printed
 pub mod Writing
 pub mod Printing
+pub mod Input

@@ -1,12 +1,7 @@
--- Document 01's job on paper: its numbers, and what they print.
+-- What document 01's job on paper prints.
 -- Assumes nothing.
 use Prim.Native.Nat.{ℕ}
 use mathlib.Core.List.{List, [], _∷_}
-
-unfoldable pub printedJob : List ℕ
-printedJob =
-    1 ∷ 0 ∷ 1000000 ∷ 101000 ∷ 0 ∷ 9000 ∷ 0 ∷ 3000 ∷ 1000 ∷ 15 ∷ 1 ∷ 13340 ∷ 0 ∷ 1
-    ∷ 0 ∷ 200000 ∷ 210000 ∷ 5000 ∷ 9000 ∷ 3 ∷ []
 
 -- `R 155773 210000 3`, and `total 54227 0`.
 unfoldable pub printedText : List ℕ

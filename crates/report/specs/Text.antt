@@ -1,14 +1,17 @@
 -- The text that program `barrier` prints: its lines, byte by byte.
 -- Assumes nothing.
-use Prim.Native.Nat.{ℕ, zero, suc, _+_, _-_, _/_, _%_}
+use Prim.Native.Nat.{ℕ, zero, suc, _+_, _-_, _/_, _%_, _≤_}
+use mathlib.Core.Path.{_≡_}
 use mathlib.Core.List.{List, [], _∷_, _++_}
-use lib.Dec.{ltb}
+use lib.Dec.{ltb, eqb}
 use Rattle.refusal.specs.Choice.{if_then_else_}
 use Rattle.refusal.specs.Answer.{Answer, accepted, refused}
 use Rattle.job.specs.Job.{Job}
 use Rattle.runs.specs.declared.Stretch.{Stretch}
 use Rattle.planning.specs.Envelope.{acceptJob}
 use Rattle.planning.specs.Required.{jobRuns}
+use Rattle.runs.specs.Level.{Has}
+use mathlib.Core.Bool.{Bool}
 
 -- Numbers
 
@@ -53,7 +56,10 @@ unfoldable pub runLines : (word : List ℕ) → List Stretch → List ℕ
 runLines word [] = []
 runLines word (r ∷ rs) = runLine word (r .start) (r .end) (r .level) ++ runLines word rs
 
--- The millimetres of the runs; the laws count them one by one.
+-- The millimetres of the runs; the laws count them one by one, those of a level above 0.
+abbrev pub above : ℕ → Bool
+above level = ltb 0 level
+
 unfoldable pub covered : List Stretch → ℕ
 covered [] = 0
 covered (r ∷ rs) = (r .end - r .start) + covered rs
@@ -85,3 +91,16 @@ reportOf (refused k v) = refusedLine k v
 -- What is printed for the job bytes s.
 unfoldable pub reported : (s : List ℕ) → List ℕ
 reported s = reportOf (acceptJob s)
+
+-- The word that a side's lines begin with.
+abbrev pub sideWord : (side : ℕ) → List ℕ
+sideWord side = if eqb side 0 then rightWord else leftWord
+
+-- A run of level v or higher that has t, and its line in the text printed for s.
+pub record PrintedRun (s word : List ℕ) (v t : ℕ) : Type 0 where
+  pub run : Stretch
+  pub has : Has run t
+  pub level : v ≤ run .level
+  pub before : List ℕ
+  pub after : List ℕ
+  pub text : reported s ≡ before ++ (runLine word (run .start) (run .end) (run .level) ++ after)

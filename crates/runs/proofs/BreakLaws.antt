@@ -12,10 +12,10 @@ use lib.Dec.{ltb, leb, eqb}
 use borrow.Author.Tests.{ltb-true, ltb-false, leb-true, leb-false, le-ltb, lt-leb, le-leb, eqb-true, eqb-false}
 use Rattle.refusal.specs.Choice.{if_then_else_}
 use Rattle.runs.specs.declared.Stretch.{Stretch}
-use Rattle.runs.specs.RunList.{lastStation}
+use Rattle.runs.specs.RunList.{lastStation, Next, RunsOf}
 use Rattle.runs.specs.Breaks.{Break, levelAt, levelOf, Shape, cut, setFrom, runsBelow}
-use Rattle.runs.proofs.RunLaws.{Next, shown-nothing}
-use Rattle.runs.proofs.RunsOfLaws.{RunsOf, RunsFrom, runs-cons, runs-skip, runs-all}
+use Rattle.runs.proofs.RunLaws.{shown-nothing}
+use Rattle.runs.proofs.RunsOfLaws.{RunsFrom, runs-cons, runs-skip, runs-all}
 
 -- The level at t, by where t lies from the last break point.
 module _ (b : Break) (bs : List Break) (t : ℕ) where

@@ -12,9 +12,9 @@ use Rattle.refusal.specs.Choice.{if_then_else_}
 use Rattle.refusal.proofs.TestLaws.{and-right, not-both}
 use Rattle.runs.specs.declared.Stretch.{Stretch}
 use Rattle.runs.specs.Level.{has}
-use Rattle.runs.specs.RunList.{shownLevel}
+use Rattle.runs.specs.RunList.{shownLevel, Rising}
 use Rattle.runs.specs.Count.{countFrom}
-use Rattle.runs.proofs.RunLaws.{Rising, shown-zero}
+use Rattle.runs.proofs.RunLaws.{shown-zero}
 
 pub count-same : (f g : ℕ → Bool) → ((t : ℕ) → f t ≡ g t) → (p n : ℕ) → countFrom f p n ≡ countFrom g p n
 count-same f g e p n = ap (λ (h : ℕ → Bool). countFrom h p n) (fun-ext e)

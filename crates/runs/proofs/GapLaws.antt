@@ -10,9 +10,9 @@ use mathlib.Core.List.{List}
 use Rattle.refusal.specs.Choice.{someOf}
 use Rattle.refusal.proofs.TestLaws.{decided, not-both}
 use Rattle.runs.specs.declared.Stretch.{Stretch}
-use Rattle.runs.specs.Level.{InSet, Gap, Filled, Highest, has, atLeast, requiredLevel}
+use Rattle.runs.specs.Level.{InSet, Gap, Filled, Highest, has, atLeast, requiredLevel, Proper}
 use Rattle.refusal.proofs.OrderLaws.{not-lt}
-use Rattle.runs.proofs.LevelLaws.{Joined, covered, bridged, Proper, test→set, set→test, level-top, level→joined, joined→level}
+use Rattle.runs.proofs.LevelLaws.{Joined, covered, bridged, test→set, set→test, level-top, level→joined, joined→level}
 
 -- The least number up to k that has a decided property, which k has.
 record Least (P : ℕ → Type 0) (k : ℕ) : Type 0 where

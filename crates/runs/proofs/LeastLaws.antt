@@ -6,9 +6,9 @@ use native.Mathlib.Decide.{decLe, decLt}
 use mathlib.Core.Logic.{inr}
 use mathlib.Core.List.{List, List·Memᴰ}
 use Rattle.runs.specs.declared.Stretch.{Stretch}
-use Rattle.runs.specs.Level.{Covers, NoShortGap, NoShortGapIn, InSet, Gap, requiredLevel}
+use Rattle.runs.specs.Level.{Covers, NoShortGap, NoShortGapIn, InSet, Gap, requiredLevel, Proper}
 use Rattle.refusal.proofs.OrderLaws.{not-lt}
-use Rattle.runs.proofs.LevelLaws.{Joined, covered, bridged, Proper, Levelled, level-below, level→joined, joined→level}
+use Rattle.runs.proofs.LevelLaws.{Joined, covered, bridged, Levelled, level-below, level→joined, joined→level}
 use Rattle.runs.proofs.GapLaws.{around, Filled→joined}
 
 module _ (es : List Stretch) (G : ℕ) where

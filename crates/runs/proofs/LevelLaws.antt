@@ -8,20 +8,16 @@ use mathlib.Core.Bool.{Bool, true, false, _&&_}
 use mathlib.Core.List.{List, List·Memᴰ}
 use lib.Dec.{ltb, leb}
 use borrow.Author.Tests.{ltb-true, leb-true, lt-ltb, le-leb}
-use Rattle.refusal.specs.Choice.{if_then_else_, someOf}
+use Rattle.refusal.specs.Choice.{if_then_else_, someOf, Passing}
 use Rattle.runs.specs.declared.Stretch.{Stretch}
 use Rattle.runs.specs.Level.{Has, InSet, has, between, atLeast, filled, highest, requiredLevel}
-use Rattle.refusal.proofs.TestLaws.{and-left, and-right, and-intro, or-cases, or-left, or-right, not-both, Passing, any-elim, any-intro, keep-elim, keep-intro}
+use Rattle.refusal.proofs.TestLaws.{and-left, and-right, and-intro, or-cases, or-left, or-right, not-both, any-elim, any-intro, keep-elim, keep-intro}
 use Rattle.refusal.proofs.OrderLaws.{not-lt}
 
 -- t is in an envelope of level v or higher, or between two that are less than G apart.
 pub data Joined (es : List Stretch) (v G t : ℕ) : Type 0 where
   covered : (e : Stretch) → List·Memᴰ e es → v ≤ e .level → Has e t → Joined es v G t
   bridged : (a b : Stretch) → List·Memᴰ a es → List·Memᴰ b es → v ≤ a .level → v ≤ b .level → a .end ≤ t → t < b .start → b .start < a .end + G → Joined es v G t
-
--- Every envelope has a millimetre.
-abbrev pub Proper : List Stretch → Type 0
-Proper es = (e : Stretch) → List·Memᴰ e es → e .start < e .end
 
 -- Levels 1 to 6.
 abbrev pub Levelled : List Stretch → Type 0

@@ -14,13 +14,13 @@ use Rattle.refusal.specs.Choice.{if_then_else_}
 use Rattle.refusal.proofs.TestLaws.{and-left, and-right, and-intro, not-both}
 use Rattle.refusal.proofs.EachLaws.{cons-each}
 use Rattle.runs.specs.declared.Stretch.{Stretch}
-use Rattle.runs.specs.Level.{Has, requiredLevel}
+use Rattle.runs.specs.Level.{Has, requiredLevel, Proper}
 use Rattle.runs.specs.Required.{put, endPoints, runsBetween, requiredRuns}
-use Rattle.runs.specs.RunList.{lastStation, isRunList}
+use Rattle.runs.specs.RunList.{lastStation, isRunList, Next, RunsOf}
 use Rattle.refusal.proofs.OrderLaws.{not-lt}
-use Rattle.runs.proofs.LevelLaws.{Proper, EndsBy, level-top}
-use Rattle.runs.proofs.RunLaws.{Next, list-test, follow-other, shown-in, shown-nothing}
-use Rattle.runs.proofs.RunsOfLaws.{RunsOf, RunsFrom, runs-cons, runs-skip, runs-all, runs-rest}
+use Rattle.runs.proofs.LevelLaws.{EndsBy, level-top}
+use Rattle.runs.proofs.RunLaws.{list-test, follow-other, shown-in, shown-nothing}
+use Rattle.runs.proofs.RunsOfLaws.{RunsFrom, runs-cons, runs-skip, runs-all, runs-rest}
 use Rattle.runs.proofs.PointLaws.{RisingPoints, points-rise, points-length, points-each, level-past, level-early, level-stays}
 
 -- A stretch of one level put before runs: left out, in front, or made one with the first.

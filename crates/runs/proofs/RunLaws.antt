@@ -14,20 +14,7 @@ use Rattle.refusal.specs.Choice.{if_then_else_}
 use Rattle.refusal.proofs.TestLaws.{and-left, and-right, and-intro, decided, not-both}
 use Rattle.runs.specs.declared.Stretch.{Stretch}
 use Rattle.runs.specs.Level.{Has}
-use Rattle.runs.specs.RunList.{mostRuns, lastStation, mayFollow, risingRuns, isRunList, shownLevel}
-
--- A run that may follow one that ended at e with level v.
-pub record Next (e v : ℕ) (r : Stretch) : Type 0 where
-  pub after : e ≤ r .start
-  pub long : r .start < r .end
-  pub ends : r .end ≤ lastStation
-  pub low : 1 ≤ r .level
-  pub top : r .level ≤ 6
-  pub differs : e ≡ r .start → v ≢ r .level
-
-abbrev pub Rising : ℕ → ℕ → List Stretch → Type 0
-Rising e v [] = Unit {0}
-Rising e v (r ∷ rs) = Next e v r × Rising (r .end) (r .level) rs
+use Rattle.runs.specs.RunList.{mostRuns, lastStation, mayFollow, risingRuns, isRunList, shownLevel, Next, Rising}
 
 apart : (a b c d : ℕ) → (a ≡ b → c ≢ d) → not (eqb a b && eqb c d) ≡ true
 apart a b c d h = go (decided (eqb a b)) (decided (eqb c d))

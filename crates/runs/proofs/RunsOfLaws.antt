@@ -9,14 +9,9 @@ use mathlib.Core.List.{List, [], _∷_, List·Memᴰ, List·Memᴰ·head, List·
 use Rattle.refusal.proofs.EachLaws.{cons-each}
 use Rattle.runs.specs.declared.Stretch.{Stretch}
 use Rattle.runs.specs.Level.{Has}
-use Rattle.runs.specs.RunList.{IsRun, shownLevel}
+use Rattle.runs.specs.RunList.{IsRun, shownLevel, Next, Rising, RunsOf}
 use Rattle.refusal.proofs.OrderLaws.{not-lt}
-use Rattle.runs.proofs.RunLaws.{Next, Rising, rising-back, shown-in, shown-before, shown-after, shown-zero, not-shown, shown-run}
-
--- The run list of the level f.
-pub record RunsOf (f : ℕ → ℕ) (rs : List Stretch) : Type 0 where
-  pub rising : Rising 0 0 rs
-  pub shows : (t : ℕ) → shownLevel rs t ≡ f t
+use Rattle.runs.proofs.RunLaws.{rising-back, shown-in, shown-before, shown-after, shown-zero, not-shown, shown-run}
 
 -- From e on, where level v ended, the runs show f.
 pub record RunsFrom (f : ℕ → ℕ) (e v : ℕ) (rs : List Stretch) : Type 0 where

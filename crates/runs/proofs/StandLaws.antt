@@ -8,13 +8,12 @@ use mathlib.Core.List.{List, [], _∷_, List·Memᴰ·not-nil}
 use lib.ListN.{getD}
 use Rattle.runs.specs.declared.Stretch.{Stretch}
 use Rattle.runs.specs.Level.{requiredLevel}
-use Rattle.runs.specs.RunList.{lastStation}
+use Rattle.runs.specs.RunList.{lastStation, RunsOf}
 use Rattle.runs.specs.Required.{endPoints}
 use Rattle.runs.specs.Breaks.{Break, levelAt, levelOf, runsBelow}
 use Rattle.runs.specs.Stand.{aboveTo, Above, distinctTo, Stands}
 use Rattle.refusal.proofs.OrderLaws.{not-lt}
 use Rattle.runs.proofs.LevelLaws.{level-top}
-use Rattle.runs.proofs.RunsOfLaws.{RunsOf}
 use Rattle.runs.proofs.PointLaws.{level-past}
 use Rattle.runs.proofs.BreakLaws.{at-last, at-earlier, shape-on, level-on, breaks-runs}
 use Rattle.runs.proofs.TopLaws.{level-falls, distinct-less}

@@ -14,10 +14,10 @@ use Rattle.refusal.proofs.StoredLaws.{padded-more, padded-clear}
 use Rattle.runs.specs.declared.Stretch.{Stretch}
 use Rattle.runs.specs.declared.RunList.{RunList}
 use Rattle.runs.specs.declared.Envelopes.{Envelopes}
-use Rattle.runs.specs.RunList.{mostRuns, isRunList, lastEnd, runsTo, runsOf}
+use Rattle.runs.specs.RunList.{mostRuns, isRunList, lastEnd, runsTo, runsOf, Next, Rising}
 use Rattle.runs.specs.Stored.{column, storedRuns}
 use Rattle.runs.proofs.IndexLaws.{Indexed, indexed-last, indexed-more}
-use Rattle.runs.proofs.RunLaws.{Next, Rising, run-list-rising, run-list-short}
+use Rattle.runs.proofs.RunLaws.{run-list-rising, run-list-short}
 use Rattle.runs.proofs.RunsOfLaws.{stretch-path}
 
 -- The level of the last of the runs; v where there is none.

@@ -14,6 +14,10 @@ use Rattle.runs.specs.declared.Stretch.{Stretch}
 abbrev pub Has : Stretch → ℕ → Type 0
 Has e t = (e .start ≤ t) × (t < e .end)
 
+-- Every envelope has a millimetre.
+abbrev pub Proper : List Stretch → Type 0
+Proper es = (e : Stretch) → List·Memᴰ e es → e .start < e .end
+
 -- t is in an envelope of level v or higher.
 pub record InSet (es : List Stretch) (v t : ℕ) : Type 0 where
   pub one : Stretch

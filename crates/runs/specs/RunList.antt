@@ -1,6 +1,6 @@
 -- Run lists: what a run is, which lists are run lists, the level that one shows.
 -- Assumes nothing.
-use Prim.Native.Nat.{ℕ, zero, suc, _-_, _<_}
+use Prim.Native.Nat.{ℕ, zero, suc, _-_, _≤_, _<_}
 use mathlib.Core.Bool.{Bool, true, _&&_, not}
 use mathlib.Core.List.{List, [], _∷_, _++_}
 use mathlib.Core.Path.{_≡_}
@@ -48,6 +48,24 @@ isRunList rs = leb (length rs) mostRuns && risingRuns 0 0 rs
 unfoldable pub shownLevel : List Stretch → (t : ℕ) → ℕ
 shownLevel [] t = 0
 shownLevel (r ∷ rs) t = if has r t then r .level else shownLevel rs t
+
+-- The same as facts: a run that may follow one that ended at e with level v, and runs after it.
+pub record Next (e v : ℕ) (r : Stretch) : Type 0 where
+  pub after : e ≤ r .start
+  pub long : r .start < r .end
+  pub ends : r .end ≤ lastStation
+  pub low : 1 ≤ r .level
+  pub top : r .level ≤ 6
+  pub differs : e ≡ r .start → v ≢ r .level
+
+abbrev pub Rising : ℕ → ℕ → List Stretch → Type 0
+Rising e v [] = Unit {0}
+Rising e v (r ∷ rs) = Next e v r × Rising (r .end) (r .level) rs
+
+-- The run list of the level f.
+pub record RunsOf (f : ℕ → ℕ) (rs : List Stretch) : Type 0 where
+  pub rising : Rising 0 0 rs
+  pub shows : (t : ℕ) → shownLevel rs t ≡ f t
 
 -- Where the last of the runs ends; e where there is none.
 abbrev pub lastEnd : (e : ℕ) → List Stretch → ℕ

@@ -9,9 +9,9 @@ use lib.ListN.{length, length-append}
 use Rattle.number.specs.Number.{writeNumber}
 use Rattle.number.proofs.WriteLaws.{number-length, small-length, middle-length, long-length}
 use Rattle.runs.specs.declared.Stretch.{Stretch}
-use Rattle.runs.specs.RunList.{isRunList}
+use Rattle.runs.specs.RunList.{isRunList, Rising}
 use Rattle.runs.proofs.LevelLaws.{EndsBy}
-use Rattle.runs.proofs.RunLaws.{Rising, run-list-rising, run-list-short}
+use Rattle.runs.proofs.RunLaws.{run-list-rising, run-list-short}
 use Rattle.schedule.specs.Schedule.{writeRecord, writeRecords, writeSchedule}
 
 -- Eleven bytes for each record, and a sixth for a gap or a length from 2 to the 35th on.

@@ -26,7 +26,8 @@ use Rattle.planning.specs.Reply.{cutsOf, testedEnvelopes, testedRuns}
 use Rattle.planning.specs.declared.accept.SideEnvelopes.{SideEnvelopes}
 use Rattle.planning.proofs.AcceptLaws.{Replies}
 use Rattle.planning.proofs.SideLaws.{envelopes-done, envelopes-refused, runs-done}
-use Rattle.planning.proofs.EnvelopeLaws.{AcceptedFits, hazards-passed}
+use Rattle.planning.specs.Rows.{AcceptedFits}
+use Rattle.planning.proofs.EnvelopeLaws.{hazards-passed}
 use Rattle.planning.proofs.JobRunLaws.{job-run-list}
 use Rattle.planning.proofs.RoadLaws.{runs-on-road}
 use Rattle.schedule.specs.Schedule.{writeSchedule}

@@ -17,7 +17,8 @@ use Rattle.job.specs.Job.{Job}
 use Rattle.job.proofs.RangeLaws.{header-bounds}
 use Rattle.planning.specs.Envelope.{Traffic, runout, reaches, reachOf, offsetOf, sideOverhangs, OnRoad, Upstream}
 use Rattle.planning.specs.Required.{jobLevel, jobRuns}
-use Rattle.planning.proofs.EnvelopeLaws.{AcceptedFits, accepted-fits, domain-of}
+use Rattle.planning.specs.Rows.{AcceptedFits}
+use Rattle.planning.proofs.EnvelopeLaws.{accepted-fits, domain-of}
 use Rattle.planning.proofs.FormulaLaws.{formula-level}
 use Rattle.planning.proofs.JobRunLaws.{job-runs, job-run-list}
 use Rattle.schedule.specs.Schedule.{writeSchedule, readSchedule}

@@ -15,10 +15,10 @@ use Rattle.refusal.proofs.AnswerLaws.{bound, passed}
 use Rattle.refusal.proofs.TestLaws.{and-left, and-intro, impossible}
 use Rattle.number.specs.Number.{writeNumber, Reading, numberAt}
 use Rattle.number.proofs.ReadLaws.{read-number, after-number, number-read}
-use Rattle.number.proofs.ByteLaws.{Bytes}
+use Rattle.number.specs.Form.{Bytes}
 use Rattle.runs.specs.declared.Stretch.{Stretch}
-use Rattle.runs.specs.RunList.{mostRuns, mayFollow, risingRuns, isRunList}
-use Rattle.runs.proofs.RunLaws.{Next, Rising, rising-test, run-list-rising, run-list-short}
+use Rattle.runs.specs.RunList.{mostRuns, mayFollow, risingRuns, isRunList, Next, Rising}
+use Rattle.runs.proofs.RunLaws.{rising-test, run-list-rising, run-list-short}
 use Rattle.schedule.specs.Schedule.{writeRecord, writeRecords, writeSchedule, IsSchedule, orTen, readHead, ReadRun, readRecord, readRecords, readSchedule}
 
 -- Which run may follow another.

@@ -20,7 +20,7 @@ use Rattle.runs.specs.Stand.{AllSound}
 use Rattle.runs.proofs.StoredLaws.{envelopeAt, firstEnvelopes, runs-none, runs-more}
 use Rattle.runs.proofs.LevelLaws.{Joined, covered, bridged, level-top, level→joined, joined→level}
 use Rattle.station_level.specs.declared.nearest.Nearest.{Nearest}
-use Rattle.station_level.specs.Nearest.{Extreme, Sought, LastEnd, noStart, FirstStart, NearestOf, hasStation}
+use Rattle.station_level.specs.Nearest.{Extreme, Sought, LastEnd, noStart, FirstStart, NearestOf, hasStation, ReadTo}
 
 -- Extremes
 
@@ -173,12 +173,6 @@ module _ (es : List Stretch) (sound : AllSound es) (G t v end start : ℕ) (some
       let ends = last .each a (m, omega arith, omega arith) in
       let starts = first .each b (o, omega arith, y) in
       or-right (ltb t end) (and-intro (lt-ltb 0 end (omega arith)) (lt-ltb start (end + G) (omega arith)))
-
--- The levels above v are tried: none of them has the station.
-pub record ReadTo (es : List Stretch) (G t v end start : ℕ) : Type 0 where
-  pub ends : LastEnd es t (λ (l : ℕ). v < l) end
-  pub starts : FirstStart es t (λ (l : ℕ). v < l) start
-  pub level : requiredLevel es G t ≤ v
 
 pub read-none : (es : List Stretch) → AllSound es → (G t : ℕ) → ReadTo es G t 6 0 noStart
 read-none es sound G t = record {

@@ -9,6 +9,7 @@ use lib.ListN.{getD}
 use lib.Dec.{ltb}
 use Rattle.runs.specs.declared.Stretch.{Stretch}
 use Rattle.station_level.specs.declared.nearest.Nearest.{Nearest}
+use Rattle.runs.specs.Level.{requiredLevel}
 
 -- x is the extreme, by an order, of a number of the envelopes of a set: none goes beyond it, and one has it, or it is `none`.
 pub record Extreme (Within : ℕ → ℕ → Type 0) (none : ℕ) (number : Stretch → ℕ) (S : Stretch → Type 0) (x : ℕ) : Type 0 where
@@ -38,3 +39,9 @@ pub record NearestOf (es : List Stretch) (t : ℕ) (near : Nearest) : Type 0 whe
 -- With this last end and this first start: t is in an envelope, or between the end of one and the start of another that are less than G apart.
 abbrev pub hasStation : (end start G t : ℕ) → Bool
 hasStation end start G t = ltb t end || (ltb 0 end && ltb start (end + G))
+
+-- The levels above v are tried: none of them has the station.
+pub record ReadTo (es : List Stretch) (G t v end start : ℕ) : Type 0 where
+  pub ends : LastEnd es t (λ (l : ℕ). v < l) end
+  pub starts : FirstStart es t (λ (l : ℕ). v < l) start
+  pub level : requiredLevel es G t ≤ v

@@ -7,12 +7,18 @@ use std::process::{Child, Command, ExitCode, Output, Stdio};
 use std::thread::sleep;
 use std::time::{Duration, Instant};
 
-use cases::draft::{A, B, LEVEL, LO, M, PRINTED, PRINTED_HAZARD, S, SIDE, number_bytes, printed};
+use cases::draft::{
+    A, B, C, D, Draft, G, LEVEL, LO, M, PRINTED, PRINTED_HAZARD, S, SIDE, T, W, number_bytes,
+    printed,
+};
 use cases::{Random, jobs};
 use reference::job::LAST_STATION;
 
 /// No input takes the program longer than this.
 const PATIENCE: Duration = Duration::from_secs(20);
+
+/// No accepted job has more bytes.
+const LONGEST: usize = 5_162;
 
 struct Input {
     name: &'static str,
@@ -141,6 +147,34 @@ fn input(name: &'static str, bytes: Vec<u8>) -> Input {
     }
 }
 
+/// An accepted job of 5,162 bytes, of which none is longer: every number takes as
+/// many bytes as its range lets it.
+fn longest() -> Draft {
+    let begin = LAST_STATION - 2_000_000_000;
+    let hazards: Vec<_> = (0..256)
+        .map(|i| {
+            let start = begin + 1_000_000 + i * 7_000_000;
+            [i % 2, start, start + 10_000, 17_000, 19_000, i % 6 + 1]
+        })
+        .collect();
+    let job = printed()
+        .with(A, begin)
+        .with(B, LAST_STATION)
+        .with(LO, 90_000)
+        .with(C, 20_000)
+        .with(W, 16_384)
+        .with(M, 16_384)
+        .with(D, 128)
+        .with(T, 16_384)
+        .with(G, 50_000)
+        .in_panels(4_000)
+        .with_hazards(&hazards);
+    assert_eq!(job.bytes().len(), LONGEST, "the longest job");
+    let text = reference::program::text(&job.bytes());
+    assert!(text.starts_with("R "), "the longest job is accepted");
+    job
+}
+
 /// The job on paper with a field of its hazard changed.
 fn hazard_with(field: usize, value: u64) -> Vec<u8> {
     printed().with_hazard(field, value).bytes()
@@ -170,6 +204,16 @@ fn inputs() -> Vec<Input> {
     let too_many = number_bytes(&numbers);
     numbers[0] = 3;
     let no_kind = number_bytes(&numbers);
+    let longest = longest();
+    let long_with = |length| {
+        let mut bytes = longest.bytes();
+        bytes.resize(length, 0);
+        bytes
+    };
+    let mut last_level = longest.clone();
+    last_level.hazards[255][LEVEL] = 7;
+    let mut last_level = last_level.bytes();
+    last_level.resize(9_000, 0);
     let mut random = Random::new(1, "program");
     let many = jobs::islands(&mut random, 0, 255).bytes();
     let mut list = vec![
@@ -211,6 +255,11 @@ fn inputs() -> Vec<Input> {
         input("8,192 bytes (7)", of_length(8_192)),
         input("8,193 bytes (7)", of_length(8_193)),
         input("far more than 8,192 bytes (7)", of_length(100_000)),
+        input("the longest job", longest.bytes()),
+        input("the longest job cut by a byte (1)", long_with(LONGEST - 1)),
+        input("the longest job and a byte (7)", long_with(LONGEST + 1)),
+        input("the longest job up to 8,193 bytes (7)", long_with(8_193)),
+        input("a last level of 7 before 8,192 bytes (4)", last_level),
         input("two sides", two_sided.bytes()),
         input("no hazards", PRINTED.bytes()),
         input("511 runs", many.clone()),

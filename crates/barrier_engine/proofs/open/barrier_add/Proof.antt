@@ -1,4 +1,4 @@
--- `barrier_engine::open::barrier_add` meets its contract: a walk of its code. All that is kept is tested, the state now goes through `added` by value, and what comes of it is stored.
+-- `barrier_engine::open::barrier_add` meets its contract: a walk of its code. All that is kept is tested, the present state goes through `added` by value, and what comes of it is stored.
 -- All that the proof knows of the functions called is that they meet their contracts. Assumes nothing.
 use Rattle.open_memory.specs.Memory.{hazardGiven}
 use Rattle.open_memory.proofs.GivenHazard as GivenHazard·t
@@ -6,7 +6,7 @@ use Rattle.open_memory.proofs.GivenHazard.Laws as GivenHazard·t′
 use Rattle.open_job.specs.Open.{memoryAfter, replied}
 use Rattle.kept_states.specs.States.{addIn, keptStates, statesFrom}
 use Rattle.kept_states.specs.declared.OpenStates.{OpenStates}
-use Rattle.kept_states.proofs.WholeLaws.{allSound}
+use Rattle.kept_states.specs.Parts.{allSound}
 use Rattle.kept_states.proofs.states.also_sound.Symbol.{name as #also-sound}
 use Rattle.replies.specs.Interface.{replyOf}
 use Rattle.replies.specs.OpenInterface.{afterAdd}
@@ -40,7 +40,7 @@ added a = afterAdd (a .0) (a .1 .0) (a .1 .1 .0) (a .1 .1 .1 .0)
 
 -- what the code computes
 abbrev result : (κ : Lft) → OpenStates → Denots (rows 1 (κ, tt) Asked) → Changed
-result κ m a = afterAdd (allSound m) (m .now) (a .0) (a .1 .0)
+result κ m a = afterAdd (allSound m) (m .present) (a .0) (a .1 .0)
 
 abbrev made : (κ : Lft) → OpenStates → Denots (rows 1 (κ, tt) Asked) → OpenStates
 made κ m a = statesFrom (result κ m a .next) (keptStates m)
@@ -57,8 +57,8 @@ module _ {M : Type 1} (𝓤 : URA M) (H : Heap 𝓤) (A : Atoms 𝓤) (W : Given
       let p : Parts m = parts m was in
       -- [the memory; job, header, sound, slot, now, name, hazard, done, the result; ..]
       move ! (0 ∷ 18 ∷ 12 ∷ 10 ∷ 6 ∷ 4 ∷ 16 ∷ 14 ∷ 8 ∷ 20 ∷ []) $ all-tested ! fm known-tested 1 4 5 7 refl refl refl refl p $
-      copies ! 0 refl refl refl refl (look ! 1 refl) refl (init ! 5 refl (stored .typed 𝓤 H A W (m .now) (p .now-fits))) $
-      asks ! fm Added changed added known-added (allSound m, (m .now, a)) (refl, (p .now-fits, fits)) (and-then ! (var ! 3 refl) (and-then ! (var ! 5 refl) (and-then ! (var ! 6 refl) (and-then ! (var ! 7 refl) (no-more !))))) (from ! (stop !)) (init ! 8 refl) (λ i.
+      copies ! 0 refl refl refl refl (look ! 1 refl) refl (init ! 5 refl (stored .typed 𝓤 H A W (m .present) (p .present-fits))) $
+      asks ! fm Added changed added known-added (allSound m, (m .present, a)) (refl, (p .present-fits, fits)) (and-then ! (var ! 3 refl) (and-then ! (var ! 5 refl) (and-then ! (var ! 6 refl) (and-then ! (var ! 7 refl) (no-more !))))) (from ! (stop !)) (init ! 8 refl) (λ i.
       move ! (0 ∷ 1 ∷ 8 ∷ 9 ∷ []) $ changes ! 1 6 refl refl refl m r i $
       move ! (0 ∷ 10 ∷ 11 ∷ 12 ∷ []) $ puts ! tt b o (made κ m a) (whole (made κ m a) (with-now m (r .next) p (changed-fits r i .0))) $
       -- [the reference; the locals; what frees each]

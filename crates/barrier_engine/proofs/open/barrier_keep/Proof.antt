@@ -1,11 +1,11 @@
--- `barrier_engine::open::barrier_keep` meets its contract: a walk of its code. All that is kept is tested, the state now and the number go through `kept` by value, and each kept state is chosen anew.
+-- `barrier_engine::open::barrier_keep` meets its contract: a walk of its code. All that is kept is tested, the present state and the number go through `kept` by value, and each kept state is chosen anew.
 -- All that the proof knows of the functions called is that they meet their contracts. Assumes nothing.
 use denote.Struct.Laws as LL
 use Rattle.open_job.specs.Open.{memoryAfter, replied}
 use Rattle.kept_states.specs.States.{keepIn, keptFrom}
 use Rattle.kept_states.specs.declared.KeptState.{KeptState}
 use Rattle.kept_states.specs.declared.OpenStates.{OpenStates}
-use Rattle.kept_states.proofs.WholeLaws.{allSound, eachChosen}
+use Rattle.kept_states.specs.Parts.{allSound, eachChosen}
 use Rattle.kept_states.proofs.states.also_sound.Symbol.{name as #also-sound}
 use Rattle.kept_states.proofs.states.kept_from.{Symbol.name as #kept-from, Symbol.routine as kept-from-routine, Met.met as kept-from-met}
 use Rattle.kept_states.proofs.states.choose.Symbol.{name as #choose}
@@ -50,10 +50,10 @@ fresh a = keptFrom (a .0)
 
 -- what the code computes
 abbrev result : (κ : Lft) → OpenStates → Denots (rows 1 (κ, tt) Asked) → Keeping
-result κ m a = afterKeeping (allSound m) (m .now) (a .0)
+result κ m a = afterKeeping (allSound m) (m .present) (a .0)
 
 abbrev made : (κ : Lft) → OpenStates → Denots (rows 1 (κ, tt) Asked) → OpenStates
-made κ m a = eachChosen m (result κ m a .done) (a .0) (keptFrom (m .now))
+made κ m a = eachChosen m (result κ m a .done) (a .0) (keptFrom (m .present))
 
 module _ {M : Type 1} (𝓤 : URA M) (H : Heap 𝓤) (A : Atoms 𝓤) (W : Given 𝓤 H A) (C : Calls 𝓤 H) (Λ : Loops 𝓤 H) (fm : FmC 𝓤 H (W .laws) C)
     (known-tested : Triple 𝓤 (C #also-sound) (Gives 𝓤 H A Tested truth tested)) (known-fresh : Triple 𝓤 (C #kept-from) (Gives 𝓤 H A (stored ∷ []) kept fresh))
@@ -61,7 +61,7 @@ module _ {M : Type 1} (𝓤 : URA M) (H : Heap 𝓤) (A : Atoms 𝓤) (W : Given
   walk : Walk 𝓤 H A Asked made (λ κ m a. result κ m a .reply) C Λ code.function
   walk κ q b o γ m a fits =
       let r : Keeping = result κ m a in
-      let x : KeptState = keptFrom (m .now) in
+      let x : KeptState = keptFrom (m .present) in
       qed W (lent 𝓤 H A κ q b o γ m) ∵ enter ! C Λ code.function _ _ $
       alloc1 ! (λ l0. alloc1 ! (λ l1. alloc1 ! (λ l2. alloc1 ! (λ l3. alloc1 ! (λ l4. alloc1 ! (λ l5. alloc1 ! (λ l6. alloc1 ! (λ l7. alloc1 ! (λ l8. alloc1 ! (λ l9. alloc1 ! (λ l10. alloc0 ! $ params1 ! $
       pass1 ! (init ! 18 refl (tt, tt)) $ pass1 ! (init ! 16 refl (uint w64 .typed 𝓤 H A W (a .0) (fits .0))) $ pass0 ! $
@@ -69,10 +69,10 @@ module _ {M : Type 1} (𝓤 : URA M) (H : Heap 𝓤) (A : Atoms 𝓤) (W : Given
       let p : Parts m = parts m was in
       -- [the memory; job, header, sound, slot, now, state, keeping, new, done, old, the result; ..]
       move ! (0 ∷ 22 ∷ 18 ∷ 16 ∷ 8 ∷ 6 ∷ 20 ∷ 14 ∷ 12 ∷ 10 ∷ 4 ∷ 24 ∷ []) $ all-tested ! fm known-tested 1 3 4 8 refl refl refl refl p $
-      copies ! 0 refl refl refl refl (look ! 1 refl) refl (init ! 5 refl (stored .typed 𝓤 H A W (m .now) (p .now-fits))) $
-      asks ! fm Kept keeping keepingOf known-kept (allSound m, (m .now, a)) (refl, (p .now-fits, fits)) (and-then ! (var ! 3 refl) (and-then ! (var ! 5 refl) (and-then ! (var ! 6 refl) (no-more !)))) (from ! (stop !)) (init ! 7 refl) (λ i.
-      copies ! 0 refl refl refl refl (look ! 1 refl) refl (store ! 5 refl (stored .typed 𝓤 H A W (m .now) (p .now-fits))) $
-      asks ! fm (stored ∷ []) kept fresh known-fresh (m .now, tt) (p .now-fits, tt) (and-then ! (var ! 5 refl) (no-more !)) (from ! (stop !)) (init ! 8 refl) (λ j.
+      copies ! 0 refl refl refl refl (look ! 1 refl) refl (init ! 5 refl (stored .typed 𝓤 H A W (m .present) (p .present-fits))) $
+      asks ! fm Kept keeping keepingOf known-kept (allSound m, (m .present, a)) (refl, (p .present-fits, fits)) (and-then ! (var ! 3 refl) (and-then ! (var ! 5 refl) (and-then ! (var ! 6 refl) (no-more !)))) (from ! (stop !)) (init ! 7 refl) (λ i.
+      copies ! 0 refl refl refl refl (look ! 1 refl) refl (store ! 5 refl (stored .typed 𝓤 H A W (m .present) (p .present-fits))) $
+      asks ! fm (stored ∷ []) kept fresh known-fresh (m .present, tt) (p .present-fits, tt) (and-then ! (var ! 5 refl) (no-more !)) (from ! (stop !)) (init ! 8 refl) (λ j.
       assigns ! (of-opd ! (load ! (from ! (fld ! refl (stop !))) (look-in ! 7 (sub ! 1 refl (all !))))) (from ! (stop !)) (init ! 9 refl (truth .typed 𝓤 H A W (r .done) (keeping-fits r i .1))) $
       -- [the memory; job, slot, old, state, new, done, keeping, the result, header, sound, now; ..]
       move ! (0 ∷ 1 ∷ 4 ∷ 10 ∷ 6 ∷ 8 ∷ 9 ∷ 7 ∷ 11 ∷ []) $ each-kept ! fm known-choice 1 2 6 7 10 8 refl refl refl refl refl refl (a .0) (fits .0) x j (r .done) m p (λ p′.

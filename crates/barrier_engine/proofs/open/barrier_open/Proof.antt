@@ -1,4 +1,4 @@
--- `barrier_engine::open::barrier_open` meets its contract: a walk of its code. The state now and the bytes go through `opened`, what comes of it is stored, and each kept state is emptied.
+-- `barrier_engine::open::barrier_open` meets its contract: a walk of its code. The present state and the bytes go through `opened`, what comes of it is stored, and each kept state is emptied.
 -- All that the proof knows of the functions called is that they meet their contracts. Assumes nothing.
 use mathlib.Core.List.{_++_}
 use contract.Running.{tablesOf}
@@ -9,7 +9,7 @@ use Rattle.job.specs.declared.StoredJob.{StoredJob}
 use Rattle.open_job.specs.Open.{memoryAfter, replied}
 use Rattle.kept_states.specs.States.{openStates, keptStates, statesFrom}
 use Rattle.kept_states.specs.declared.OpenStates.{OpenStates}
-use Rattle.kept_states.proofs.WholeLaws.{eachEmptied}
+use Rattle.kept_states.specs.Parts.{eachEmptied}
 use Rattle.kept_states.proofs.states.empty.Symbol.{name as #empty}
 use Rattle.replies.specs.Interface.{replyOf}
 use Rattle.replies.specs.OpenInterface.{afterOpening}
@@ -98,13 +98,13 @@ module _ {M : Type 1} (𝓤 : URA M) (H : Heap 𝓤) (A : Atoms 𝓤) (W : Given
         move ! (16 ∷ 17 ∷ 18 ∷ []) $ takes ! tt b o m (λ was.
         let p : Parts m = parts m was in
         -- [the memory; job, new, old, done, now, bytes, opening, the result; what the bytes own; their token; ..]
-        move ! (0 ∷ 16 ∷ 6 ∷ 4 ∷ 10 ∷ 8 ∷ 14 ∷ 12 ∷ 18 ∷ 20 ∷ 21 ∷ []) $ copies ! 0 refl refl refl refl (look ! 1 refl) refl (init ! 5 refl (stored .typed 𝓤 H A W (m .now) (p .now-fits))) $
+        move ! (0 ∷ 16 ∷ 6 ∷ 4 ∷ 10 ∷ 8 ∷ 14 ∷ 12 ∷ 18 ∷ 20 ∷ 21 ∷ []) $ copies ! 0 refl refl refl refl (look ! 1 refl) refl (init ! 5 refl (stored .typed 𝓤 H A W (m .present) (p .present-fits))) $
         -- replies::open::opened
         move ! (9 ∷ []) $ fsplit ! $ use1 W (Bytes κ′ y ⊛ Bytes κ′ y) (shr-slice-copy 𝓤 H A W (named 1) κ′ u8 .twice y (sliced y ∷ [])) $ split ! $
-        move ! (0 ∷ 12 ∷ []) $ use2 W (raw (Opens 𝓤 H A at-mem run .pre (given 𝓤 H A at-mem run κ′ q′ (m .now) y))) (goes-in 𝓤 H A at-mem run κ′ q′ (m .now) y W (p .now-fits)) $
-        calls-at ! fm (Opens 𝓤 H A at-mem run) known-opened (given 𝓤 H A at-mem run κ′ q′ (m .now) y) (and-then ! (var ! 8 refl) (and-then ! (var ! 9 refl) (no-more !))) (λ w.
-        use1 W (later (some (λ (r : Opening). (Token κ′ q′ ⊛ ‵ (opening .row .own r (w ∷ []))) ⊛ raw (Ensured 𝓤 H A at-mem run κ′ q′ (m .now) y r)))) (id⊢ 𝓤 _) $ await ! tt $ pick ! (λ r.
-        split ! $ move ! (1 ∷ []) $ use1 W (raw (fact 𝓤 (r ≡ afterOpening (m .now) (now y)))) (ensures 𝓤 H A at-mem run κ′ q′ (m .now) y r) $ heard ! (r ≡ afterOpening (m .now) (now y)) (λ e.
+        move ! (0 ∷ 12 ∷ []) $ use2 W (raw (Opens 𝓤 H A at-mem run .pre (given 𝓤 H A at-mem run κ′ q′ (m .present) y))) (goes-in 𝓤 H A at-mem run κ′ q′ (m .present) y W (p .present-fits)) $
+        calls-at ! fm (Opens 𝓤 H A at-mem run) known-opened (given 𝓤 H A at-mem run κ′ q′ (m .present) y) (and-then ! (var ! 8 refl) (and-then ! (var ! 9 refl) (no-more !))) (λ w.
+        use1 W (later (some (λ (r : Opening). (Token κ′ q′ ⊛ ‵ (opening .row .own r (w ∷ []))) ⊛ raw (Ensured 𝓤 H A at-mem run κ′ q′ (m .present) y r)))) (id⊢ 𝓤 _) $ await ! tt $ pick ! (λ r.
+        split ! $ move ! (1 ∷ []) $ use1 W (raw (fact 𝓤 (r ≡ afterOpening (m .present) (now y)))) (ensures 𝓤 H A at-mem run κ′ q′ (m .present) y r) $ heard ! (r ≡ afterOpening (m .present) (now y)) (λ e.
         split ! $ move ! (1 ∷ []) $ facts ! (opening .row) (Is (opening .row)) (shows 𝓤 H A (opening .row)) r (w ∷ []) (λ is. lands-as ! opening r w is (λ i.
         let d : OpenStates = eachEmptied m (r .done) (r .next) in
         let g = opening-fits r i in

@@ -1,4 +1,4 @@
--- `barrier_engine::open::barrier_open_schedule` meets its contract: a walk of its code. A share of the memory is looked into: all that is kept is tested, and the state now and the output go through `scheduled`.
+-- `barrier_engine::open::barrier_open_schedule` meets its contract: a walk of its code. A share of the memory is looked into: all that is kept is tested, and the present state and the output go through `scheduled`.
 -- All that the proof knows of the functions called is that they meet their contracts. Assumes nothing.
 use base.Fml.{fres, fshr-bor}
 use contract.Running.{tablesOf}
@@ -18,7 +18,7 @@ use Rattle.kept_states.specs.States.{scheduleIn}
 use Rattle.kept_states.specs.declared.OpenStates.{OpenStates}
 use Rattle.kept_states.proofs.OpenStates as OpenStates·t
 use Rattle.kept_states.proofs.OpenStates.Laws as OpenStates·t′
-use Rattle.kept_states.proofs.WholeLaws.{allSound}
+use Rattle.kept_states.specs.Parts.{allSound}
 use Rattle.kept_states.proofs.states.also_sound.Symbol.{name as #also-sound}
 use Rattle.replies.specs.Interface.{planReplyOf}
 use Rattle.replies.specs.OpenInterface.{scheduleReply, scheduleOutput}
@@ -93,7 +93,7 @@ module _ {M : Type 1} (𝓤 : URA M) (H : Heap 𝓤) (A : Atoms 𝓤) (W : Given
 
   -- what `scheduled` says of its reply and of the last output
   abbrev Said : PlanReply → List ℕ → Type 0
-  Said r zs = (r ≡ scheduleReply (allSound m) (m .now) n (now y)) × (zs ≡ scheduleOutput (allSound m) (m .now) n (now y))
+  Said r zs = (r ≡ scheduleReply (allSound m) (m .present) n (now y)) × (zs ≡ scheduleOutput (allSound m) (m .present) n (now y))
 
   module _ (C : Calls 𝓤 H) (Λ : Loops 𝓤 H) (fm : FmC 𝓤 H (W .laws) C) (known-tested : Triple 𝓤 (C #also-sound) (Gives 𝓤 H A Tested truth tested)) (known-scheduled : Triple 𝓤 (C #scheduled) (Schedules 𝓤 H A at-mem run)) where
     walk : Holds (hasTy (lone (MutSlice (named 1) κ′ u8 .mir)) (sliced y)) × WT (sliced y) → Room u8 (length (now y)) → ent 𝓤 (onEntry 𝓤 H A f.signature (κ, (κ′, tt)) (q, (q′, tt)) x at) (WpFn 𝓤 H C Λ code.function (vptr b o ∷ vint w64 n ∷ sliced y ∷ []) Post)
@@ -108,17 +108,17 @@ module _ {M : Type 1} (𝓤 : URA M) (H : Heap 𝓤) (A : Atoms 𝓤) (W : Given
         let p : Parts m = parts m was in
         -- [a share of the memory; job, header, sound, slot, now, the output's pointer, the output, side, out, the result; what the other parameters own; the output's token; ..]
         move ! (0 ∷ 20 ∷ 14 ∷ 12 ∷ 10 ∷ 8 ∷ 6 ∷ 4 ∷ 18 ∷ 16 ∷ 22 ∷ 25 ∷ 26 ∷ []) $ all-tested ! fm known-tested 1 4 5 6 refl refl refl refl p $
-        copies ! 0 refl refl refl refl (look ! 1 refl) refl (init ! 5 refl (stored .typed 𝓤 H A W (m .now) (p .now-fits))) $
+        copies ! 0 refl refl refl refl (look ! 1 refl) refl (init ! 5 refl (stored .typed 𝓤 H A W (m .present) (p .present-fits))) $
         assigns ! (addr ! (from ! (fld ! refl (hop ! (look-in ! 9 (sub ! 0 refl (all !))) (stop !))))) (from ! (stop !)) (init ! 6 refl (tt, tt)) $
         assigns ! (agg ! (and-then ! (var ! 6 refl) (and-then ! (load ! (from ! (fld ! refl (stop !))) (look-in ! 9 (sub ! 1 refl (all !)))) (no-more !)))) (from ! (stop !)) (init ! 7 refl (tt, (tt, (record { fits = space .0 }, tt)))) $
         -- replies::open::scheduled, with the output
         move ! (11 ∷ []) $ fsplit ! $ drop ! $ fsplit ! $ move ! (0 ∷ 13 ∷ []) $
-        use2 W (raw (Schedules 𝓤 H A at-mem run .pre (given 𝓤 H A at-mem run κ′ q′ (allSound m) (m .now) n y))) (goes-in 𝓤 H A at-mem run κ′ q′ (allSound m) (m .now) n y W (p .now-fits) n-fits) $
-        calls-at ! fm (Schedules 𝓤 H A at-mem run) known-scheduled (given 𝓤 H A at-mem run κ′ q′ (allSound m) (m .now) n y) (and-then ! (var ! 5 refl) (and-then ! (var ! 7 refl) (and-then ! (var ! 10 refl) (and-then ! (var ! 9 refl) (no-more !))))) (λ w.
-        use1 W (later (some (λ (r : PlanReply). (Token κ′ q′ ⊛ ‵ (planned .row .own r (w ∷ []))) ⊛ raw (Ensured 𝓤 H A at-mem run κ′ q′ (allSound m) (m .now) n y r)))) (id⊢ 𝓤 _) $ await ! tt $ pick ! (λ r.
+        use2 W (raw (Schedules 𝓤 H A at-mem run .pre (given 𝓤 H A at-mem run κ′ q′ (allSound m) (m .present) n y))) (goes-in 𝓤 H A at-mem run κ′ q′ (allSound m) (m .present) n y W (p .present-fits) n-fits) $
+        calls-at ! fm (Schedules 𝓤 H A at-mem run) known-scheduled (given 𝓤 H A at-mem run κ′ q′ (allSound m) (m .present) n y) (and-then ! (var ! 5 refl) (and-then ! (var ! 7 refl) (and-then ! (var ! 10 refl) (and-then ! (var ! 9 refl) (no-more !))))) (λ w.
+        use1 W (later (some (λ (r : PlanReply). (Token κ′ q′ ⊛ ‵ (planned .row .own r (w ∷ []))) ⊛ raw (Ensured 𝓤 H A at-mem run κ′ q′ (allSound m) (m .present) n y r)))) (id⊢ 𝓤 _) $ await ! tt $ pick ! (λ r.
         -- what it ensures, at some last output
         split ! $ move ! (1 ∷ []) $
-        use1 W (some (λ (zs : (Unit {0} × (Unit {0} × (Unit {0} × (List ℕ × Unit {0}))))). ‵ (lasts scheduled·f.ended (κ′, tt) (allSound m, (m .now, (n, (y, tt)))) zs) ⊛ raw (fact 𝓤 (Said r (zs .1 .1 .1 .0))))) (id⊢ 𝓤 _) $ pick ! (λ zs.
+        use1 W (some (λ (zs : (Unit {0} × (Unit {0} × (Unit {0} × (List ℕ × Unit {0}))))). ‵ (lasts scheduled·f.ended (κ′, tt) (allSound m, (m .present, (n, (y, tt)))) zs) ⊛ raw (fact 𝓤 (Said r (zs .1 .1 .1 .0))))) (id⊢ 𝓤 _) $ pick ! (λ zs.
         split ! $ move ! (1 ∷ []) $ heard ! (Said r (zs .1 .1 .1 .0)) (λ e. fsplit ! $ drop ! $ fsplit ! $ drop ! $ fsplit ! $ drop ! $ fsplit ! $ fsplit ! $ move ! (1 ∷ []) $ feqL ! (λ l.
         move ! (2 ∷ []) $ split ! $ move ! (1 ∷ []) $ peeks ! (planned .row) (Is (planned .row)) (shows 𝓤 H A (planned .row)) r (w ∷ []) (λ is.
         -- [what the result owns; the output's token; the last output; true; true; a share of the memory; the locals; what the memory owns; what shuts it; ..]

@@ -1,9 +1,9 @@
--- `barrier_engine::open::barrier_return` meets its contract: a walk of its code. All that is kept is tested, the state asked for is looked for and goes with the state now through `returned` by value, and what comes of it is stored.
+-- `barrier_engine::open::barrier_return` meets its contract: a walk of its code. All that is kept is tested, the state asked for is looked for and goes with the present state through `returned` by value, and what comes of it is stored.
 -- All that the proof knows of the functions called is that they meet their contracts. Assumes nothing.
 use Rattle.open_job.specs.Open.{memoryAfter, replied}
 use Rattle.kept_states.specs.States.{returnIn, keptStates, statesFrom}
 use Rattle.kept_states.specs.declared.OpenStates.{OpenStates}
-use Rattle.kept_states.proofs.WholeLaws.{allSound, lookedFor}
+use Rattle.kept_states.specs.Parts.{allSound, lookedFor}
 use Rattle.kept_states.proofs.states.also_sound.Symbol.{name as #also-sound}
 use Rattle.kept_states.proofs.states.choose.Symbol.{name as #choose}
 use Rattle.replies.specs.Interface.{replyOf}
@@ -36,7 +36,7 @@ returned a = afterReturn (a .0) (a .1 .0) (a .1 .1 .0) (a .1 .1 .1 .0)
 
 -- what the code computes
 abbrev result : (κ : Lft) → OpenStates → Denots (rows 1 (κ, tt) Asked) → Changed
-result κ m a = afterReturn (allSound m) (m .now) (a .0) (lookedFor m (a .0))
+result κ m a = afterReturn (allSound m) (m .present) (a .0) (lookedFor m (a .0))
 
 abbrev made : (κ : Lft) → OpenStates → Denots (rows 1 (κ, tt) Asked) → OpenStates
 made κ m a = statesFrom (result κ m a .next) (keptStates m)
@@ -55,8 +55,8 @@ module _ {M : Type 1} (𝓤 : URA M) (H : Heap 𝓤) (A : Atoms 𝓤) (W : Given
       move ! (0 ∷ 18 ∷ 14 ∷ 12 ∷ 6 ∷ 10 ∷ 16 ∷ 4 ∷ 8 ∷ 20 ∷ []) $ all-tested ! fm known-tested 1 3 4 7 refl refl refl refl p $
       -- [the memory; job, slot, found, state, sound, now, done, the result, header; ..]
       move ! (0 ∷ 1 ∷ 4 ∷ 5 ∷ 6 ∷ 3 ∷ 7 ∷ 8 ∷ 9 ∷ []) $ all-found ! fm known-choice 1 2 7 5 refl refl refl refl (a .0) (fits .0) m p (λ found.
-      copies ! 0 refl refl refl refl (look ! 1 refl) refl (init ! 6 refl (stored .typed 𝓤 H A W (m .now) (p .now-fits))) $
-      asks ! fm Returned changed returned known-returned (allSound m, (m .now, (a .0, (lookedFor m (a .0), tt)))) (refl, (p .now-fits, (fits .0, (found, tt))))
+      copies ! 0 refl refl refl refl (look ! 1 refl) refl (init ! 6 refl (stored .typed 𝓤 H A W (m .present) (p .present-fits))) $
+      asks ! fm Returned changed returned known-returned (allSound m, (m .present, (a .0, (lookedFor m (a .0), tt)))) (refl, (p .present-fits, (fits .0, (found, tt))))
       (and-then ! (var ! 5 refl) (and-then ! (var ! 6 refl) (and-then ! (var ! 4 refl) (and-then ! (var ! 3 refl) (no-more !))))) (from ! (stop !)) (init ! 7 refl) (λ i.
       move ! (0 ∷ 1 ∷ 7 ∷ 8 ∷ []) $ changes ! 1 6 refl refl refl m r i $
       move ! (0 ∷ 10 ∷ 11 ∷ 12 ∷ []) $ puts ! tt b o (made κ m a) (whole (made κ m a) (with-now m (r .next) p (changed-fits r i .0))) $

@@ -7,7 +7,7 @@ use mathlib.Core.Path.{refl, _∙_}
 use borrow.Author.Needs.{needs}
 use Rattle.job.specs.Job.{sharedRanges, headerRanges}
 use Rattle.job.proofs.ArrayLaws.{all-left}
-use Rattle.job.proofs.HeaderLaws.{table-range, HeaderLeft, header-number, header-refused, header-plain, header-counted}
+use Rattle.job.proofs.HeaderLaws.{HeaderLeft, header-number, header-refused, header-plain, header-counted}
 use Rattle.job.proofs.header_fields.read_header.Statement.{statement}
 use Rattle.job.proofs.header_fields.read_header.Tie as tie
 
@@ -19,7 +19,7 @@ abbrev μ-loop : tie.MeasureT-loop
 
 header-range-requires : tie.Need-header-range-requires Inv-loop μ-loop
 unfolding headerRanges sharedRanges
-header-range-requires c κs = (search needs, (table-range (c .before .before .loop .k), search needs))
+header-range-requires c κs = (search needs, (refl, search needs))
 
 returns : tie.Need-returns Inv-loop μ-loop
 returns c =

@@ -14,7 +14,7 @@ abbrev answered : Outcome → Answer (Unit {0})
 answered o = outcome o tt
 
 -- The tests pass.
-may : (c : tie.After-enum-told) → let a = c .before .before .before .args in testNumber (a .sound) (a .now) (a .number) ≡ accepted tt
+may : (c : tie.After-enum-told) → let a = c .before .before .before .args in testNumber (a .sound) (a .present) (a .number) ≡ accepted tt
 may c = sym (c .before .before .test-number .ensures) ∙ ap answered (c .enum-told .given .1)
 
 returns : tie.Need-returns

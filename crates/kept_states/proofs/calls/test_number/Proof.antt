@@ -1,4 +1,4 @@
--- `kept_states::calls::test_number` meets its contract: the kept states, the state now, the number. Assumes nothing.
+-- `kept_states::calls::test_number` meets its contract: the kept states, the present state, the number. Assumes nothing.
 use native.Mathlib.Omega.{arith}
 use mathlib.Core.Path.{sym, _∙_}
 use borrow.Author.Needs.{needs}

@@ -2,7 +2,7 @@
 use native.Mathlib.Omega.{arith}
 use mathlib.Core.Path.{sym, ap, _∙_}
 use borrow.Author.Needs.{needs}
-use Rattle.panels.specs.Promised.{Yard}
+use Rattle.panels.specs.Promised.{StockLengths}
 use Rattle.panels.specs.Reply.{replied}
 use Rattle.panels.proofs.RefusedLaws.{yard}
 use Rattle.panels.proofs.ReplyLaws.{none-given, over-four, one-out, no-tries, too-many}
@@ -10,7 +10,7 @@ use Rattle.panels.proofs.layout.layout.Statement.{statement}
 use Rattle.panels.proofs.layout.layout.Tie as tie
 
 -- The lengths that are not refused.
-lengths-pass : (c : tie.Else3) → Yard (c .before .before .before .before .before .args .lengths .now)
+lengths-pass : (c : tie.Else3) → StockLengths (c .before .before .before .before .before .args .lengths .now)
 lengths-pass c = yard _ (omega arith) (c .before .before .if2 .left) (sym (c .before .out-of-range .ensures) ∙ c .if3 .left)
 
 returns : tie.Need-returns

@@ -6,10 +6,10 @@ use native.Mathlib.Omega.{arith}
 use borrow.Author.Needs.{needs}
 use borrow.Author.Tests.{not-true, not-false}
 use lib.ListN.{length}
-use Rattle.queries.specs.Ranges.{mostRanges, rangesOf, replied}
+use Rattle.queries.specs.Ranges.{mostRanges, rangesOf, replied, AllRanged}
 use Rattle.queries.specs.Sums.{Tallied}
 use Rattle.queries.proofs.RangeLaws.{ranges-count}
-use Rattle.queries.proofs.QuantitiesLaws.{AllRanged, all-ranged, quantities-argument, quantities-many}
+use Rattle.queries.proofs.QuantitiesLaws.{all-ranged, quantities-argument, quantities-many}
 use Rattle.queries.proofs.SumLaws.{sums-none, quantities-bad, quantities-over}
 use Rattle.queries.proofs.quantities.quantities.Statement.{statement}
 use Rattle.queries.proofs.quantities.quantities.Tie as tie

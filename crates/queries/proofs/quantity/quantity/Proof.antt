@@ -2,7 +2,8 @@
 use mathlib.Core.Path.{sym, _∙_}
 use native.Mathlib.Omega.{arith}
 use borrow.Author.Needs.{needs}
-use Rattle.queries.proofs.QuantityLaws.{Ranged, quantity-sum, quantity-argument}
+use Rattle.queries.specs.Quantity.{Ranged}
+use Rattle.queries.proofs.QuantityLaws.{quantity-sum, quantity-argument}
 use Rattle.queries.proofs.quantity.quantity.Statement.{statement}
 use Rattle.queries.proofs.quantity.quantity.Tie as tie
 

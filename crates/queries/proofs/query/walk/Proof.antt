@@ -7,8 +7,9 @@ use native.Mathlib.Omega.{arith}
 use borrow.Author.Needs.{needs}
 use borrow.Author.Tests.{eq-eqb, ne-eqb}
 use Rattle.refusal.specs.Answer.{accepted, refused}
-use Rattle.number.proofs.ByteLaws.{Bytes, index-bytes}
-use Rattle.runs.proofs.RunLaws.{Next}
+use Rattle.number.specs.Form.{Bytes}
+use Rattle.number.proofs.ByteLaws.{index-bytes}
+use Rattle.runs.specs.RunList.{Next}
 use Rattle.schedule.specs.Schedule.{ReadRun}
 use Rattle.queries.specs.Walk.{headReply, recordAt, recordReply, overlap, overlapAt, overlapSum}
 use Rattle.queries.specs.Lookup.{placeIn}

@@ -2,7 +2,7 @@
 use mathlib.Core.Path.{_≡_, sym}
 use native.Mathlib.Omega.{arith}
 use Rattle.refusal.specs.Answer.{refused}
-use Rattle.runs.proofs.RunLaws.{Next}
+use Rattle.runs.specs.RunList.{Next}
 use Rattle.schedule.proofs.ScheduleLaws.{runAfter}
 use Rattle.queries.specs.Walk.{followingRun, recordReply}
 use Rattle.queries.specs.declared.walk.Record.the-variants as Record

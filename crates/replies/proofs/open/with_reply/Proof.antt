@@ -1,4 +1,4 @@
--- `replies::open::with_reply` meets its contract: the reply beside the state now. Assumes nothing.
+-- `replies::open::with_reply` meets its contract: the reply beside the present state. Assumes nothing.
 use mathlib.Core.Path.{ap}
 use borrow.Author.Needs.{needs}
 use Rattle.job.specs.declared.StoredJob.{StoredJob}

@@ -7,8 +7,8 @@ use borrow.Author.Needs.{needs}
 use Rattle.runs.specs.declared.Stretch.{Stretch}
 use Rattle.runs.specs.RunList.{lastStation}
 use Rattle.runs.specs.Stand.{AllSound}
-use Rattle.station_level.specs.Nearest.{NearestOf}
-use Rattle.station_level.proofs.NearestLaws.{ReadTo, read-none, level-found, level-lower}
+use Rattle.station_level.specs.Nearest.{NearestOf, ReadTo}
+use Rattle.station_level.proofs.NearestLaws.{read-none, level-found, level-lower}
 use Rattle.station_level.proofs.nearest.highest_level.Statement.{statement}
 use Rattle.station_level.proofs.nearest.highest_level.Tie as tie
 
