@@ -1,6 +1,7 @@
 # Two commands for a fresh machine with the Rattle toolchain, gcc and cargo: make run, make test. The second also needs g++ and pkg-config.
-# Beside them: make fuzz SECONDS=n, make bench, make bench-instructions (with valgrind), and Makefile.vendor's make install and make examples.
-.PHONY: run test promises proved engine hand fuzz bench bench-instructions
+# Beside them: make fuzz SECONDS=n, make bench, make bench-instructions (with valgrind), Makefile.vendor's make install and make examples, and for the engine as C
+# make portable, make portable-mutants, make platforms (with the compilers and emulators that portable/platforms.sh names).
+.PHONY: run test promises proved engine hand fuzz bench bench-instructions portable portable-test portable-mutants platforms bench-portable
 
 SECONDS ?= 60
 CARGO = cargo --quiet
@@ -13,7 +14,7 @@ run:
 	@target/bin/barrier <crates/barrier/stdin
 
 # Everything. The toolchain's gate comes last: all proved from nothing, each must-fail edit refused, each program run.
-test: promises hand vendor-test
+test: promises hand vendor-test portable-test
 	rt fmt --check
 	rt ci
 
@@ -37,6 +38,24 @@ hand: engine
 	$(CARGO) test --locked --manifest-path tests/Cargo.toml
 	$(HAND) -p differential
 	$(HAND) -p program -- target/bin/barrier
+
+# The engine as one file of C, from the proved MIR (portable/README.md).
+portable: proved
+	sh portable/make.sh portable/barrier_engine.c
+
+portable-test: engine
+	sh portable/test.sh
+
+# The toolchain's examples through the translator; wrong translators, each of which has to be found.
+portable-mutants: proved
+	python3 -B portable/tests/examples.py
+	python3 -B portable/tests/mutants.py
+
+platforms: engine
+	sh portable/platforms.sh
+
+bench-portable: engine
+	sh portable/bench.sh
 
 fuzz: engine
 	$(HAND) -p differential -- --seconds $(SECONDS)

@@ -640,17 +640,24 @@
  * one call at a time may open, add, withdraw, keep or return, and no other call
  * with it; calls on different open jobs do not touch each other.  One call of
  * barrier_plan, barrier_level, barrier_corners or barrier_offset takes at most
- * 36 KiB of stack, each of those on an open job at most 64 KiB, without the
+ * 40 KiB of stack, each of those on an open job at most 64 KiB, without the
  * open job itself, and each of the others less than 2 KiB.
  *
  * ---------------------------------------------------------------------------
  * PLATFORM AND LINKING
  *
- * The engine is machine code for x86-64, with the System V calling convention,
- * in ELF files: Linux on PCs and servers.  There is none for Windows or macOS,
- * for ARM, which many controllers have, nor for 32-bit or big-endian machines:
- * the back end of the toolchain that makes it makes this one alone.  Jobs and
- * schedules are bytes that do not depend on the machine.
+ * There are two ways to have the engine, with the same calls and answers:
+ *
+ *   - portable/barrier_engine.c, one file of C99, for every machine that has a
+ *     C compiler: ARM and Windows too.  Compile it with your program, or make
+ *     an archive of it (make -f Makefile.vendor vendor-c).  It needs memcpy,
+ *     memset and memmove, and nothing else of a C library.
+ *     docs/PLATFORMS.md lists the machines on which it was run.
+ *   - libbarrier_engine.a, machine code for x86-64, with the System V calling
+ *     convention, in ELF files: Linux on PCs and servers.  The back end of the
+ *     toolchain that makes it makes this one alone.
+ *
+ * Jobs and schedules are bytes that do not depend on the machine.
  *
  * `pkg-config --cflags --libs barrier_engine` prints the flags; they name this
  * header's folder and the archive libbarrier_engine.a.  The archive is position
@@ -708,10 +715,17 @@
  *
  * That each call replies what its definition says, for every input, is proved;
  * docs/PROMISES.md lists the definitions.  Beside them has to be believed: the
- * toolchain that read the source, its prover, kernel and logic, and its back
- * end, the assembler and the linker; that this header and the engine agree on
- * the calling convention, which is tested; memcpy and its kin of the C library;
- * the machine; and that the caller keeps to "Memory".  What the stack takes is
+ * toolchain that read the source, its prover, kernel and logic; memcpy and its
+ * kin of the C library; the machine; and that the caller keeps to "Memory".
+ * Then, by what is linked:
+ *
+ *   - the archive: the toolchain's back end, the assembler and the linker;
+ *   - the C: portable/translator, which wrote it from what is proved, and your
+ *     own compiler.  The C itself is not proved.  portable/README.md says how
+ *     it is tied to the proofs and how it is tested.
+ *
+ * That the structs and calls of this header are the engine's is tested, leaf by
+ * leaf, and that both agree on the calling convention.  What the stack takes is
  * measured.  barrier_help.h, the examples and the code for Rust and Python are
  * tested and not proved.
  *
@@ -770,8 +784,9 @@ extern "C" {
  * an open job keeps, under 0 to BARRIER_STATES - 1.
  *
  * BARRIER_OPEN_STACK_MAX bytes of stack suffice for each call on an open job,
- * BARRIER_STACK_MAX for each of the others.  This is measured of the archive,
- * as part of its test, and not proved.
+ * BARRIER_STACK_MAX for each of the others.  This is measured and not proved:
+ * of the archive as part of its test, and of the C, compiled with -O2 or more,
+ * in docs/PLATFORMS.md, which names what takes more.
  */
 #define BARRIER_SCHEDULE_MAX 5624
 #define BARRIER_JOB_MAX 8192
@@ -787,7 +802,7 @@ extern "C" {
 #define BARRIER_TRIES_MAX 65536
 #define BARRIER_STATION_MAX UINT64_C(1000000000000)
 #define BARRIER_ROAD_MAX UINT64_C(2000000000)
-#define BARRIER_STACK_MAX 36864
+#define BARRIER_STACK_MAX 40960
 #define BARRIER_OPEN_STACK_MAX 65536
 
 /*

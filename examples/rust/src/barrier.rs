@@ -56,7 +56,7 @@ pub const ROAD_MAX: u64 = 2_000_000_000;
 /// Bytes of stack that suffice for each call on an open job, without the open
 /// job itself, and for each of the other calls.
 pub const OPEN_STACK_MAX: usize = 65536;
-pub const STACK_MAX: usize = 36864;
+pub const STACK_MAX: usize = 40960;
 
 /// A side of the road, `RIGHT` or `LEFT`; the engine refuses any other number.
 pub type Side = u64;
