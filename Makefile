@@ -1,10 +1,12 @@
-# Two commands for a fresh machine with the Rattle toolchain, gcc and cargo: make run, make test. The second also needs g++ and pkg-config.
-# Beside them: make fuzz SECONDS=n, make bench, make bench-instructions (with valgrind), Makefile.vendor's make install and make examples, and for the engine as C
-# make portable, make portable-mutants, make platforms (with the compilers and emulators that portable/platforms.sh names).
-.PHONY: run test promises proved engine hand fuzz bench bench-instructions portable portable-test portable-mutants platforms bench-portable
+# Two commands for a fresh machine with the Rattle toolchain, gcc and cargo: make run, make test. The second also needs g++, pkg-config and python3.
+# Beside them: make fuzz SECONDS=n, make bench, make bench-instructions (with valgrind), Makefile.vendor's make install and make examples, for the engine as C
+# make portable, make portable-mutants, make platforms (with the compilers and emulators that portable/platforms.sh names), and for what is delivered
+# make dist [GATE=LOG] and make dist-check [DIST=DELIVERY].
+.PHONY: run test promises proved engine hand fuzz bench bench-instructions portable portable-test portable-mutants platforms bench-portable dist dist-check
 
 SECONDS ?= 60
-CARGO = cargo --quiet
+# The tests are of the archive that is named to them.
+CARGO = BARRIER_LIB_DIR="$(CURDIR)/target/staticlib" cargo --quiet
 HAND = $(CARGO) run --release --locked --manifest-path tests/Cargo.toml
 
 # Document 01's printed example, through the program: proved, built, run.
@@ -14,7 +16,9 @@ run:
 	@target/bin/barrier <crates/barrier/stdin
 
 # Everything. The toolchain's gate comes last: all proved from nothing, each must-fail edit refused, each program run.
+# Before it the log is told what was built and tested, which make dist reads there.
 test: promises hand vendor-test portable-test
+	@python3 -B delivery/gate.py
 	rt fmt --check
 	rt ci
 
@@ -56,6 +60,28 @@ platforms: engine
 
 bench-portable: engine
 	sh portable/bench.sh
+
+# target/dist/barrier_engine-VERSION and its tar.gz, from the last commit. GATE names the log of a gate run of that commit (.ci/run >LOG); without it the gate
+# runs first, and its log is kept as target/gate.log. The gate removes target/ on its way.
+dist:
+	@[ -z "$(GATE)" ] || [ -f "$(GATE)" ] || { echo "dist: there is no log $(GATE)" >&2; exit 1; }
+	@python3 -B delivery/dist.py ready
+	@if [ -z "$(GATE)" ]; then \
+	    log=$$(mktemp) && echo "dist: the gate runs first; its log is $$log" && \
+	    { MAKEFLAGS='' .ci/run >"$$log" 2>&1 || { tail -n 20 "$$log"; exit 1; }; } && mv "$$log" target/gate.log; \
+	fi
+	@$(MAKE) --no-print-directory engine
+	@python3 -B delivery/dist.py make "$(or $(GATE),target/gate.log)"
+
+# One command that compares: all is proved and built again, and held against CHANGELOG.md and, where DIST names a delivery (its folder or its tar.gz), against
+# that. Without the toolchain, what can be compared without it.
+dist-check:
+	@if command -v rt >/dev/null; then \
+	    rm -rf target/stamp target/rlib target/bin target/staticlib && $(MAKE) --no-print-directory engine && \
+	    sh portable/make.sh target/barrier_engine.c && python3 -B delivery/check.py --c target/barrier_engine.c $(if $(DIST),"$(DIST)"); \
+	else \
+	    python3 -B delivery/check.py $(if $(DIST),"$(DIST)"); \
+	fi
 
 fuzz: engine
 	$(HAND) -p differential -- --seconds $(SECONDS)

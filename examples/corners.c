@@ -5,9 +5,9 @@
  *
  *     corners jobs/corners.job >corners.svg
  *
- * These are the approaches of single hazards, each as if it stood alone, and no
- * schedule.  A run of several hazards is not built from all of their approaches:
- * barrier.h, "Corner points", says which corners it is drawn from.
+ * These are the approaches of single hazards, each as if it stood alone: this
+ * is not a schedule.  A run of several hazards is not built from all of their
+ * approaches: barrier.h, "Corner points", says which corners it is drawn from.
  *
  * The sheet corner is the road's begin at offset 0, so the corners are counted
  * from there: those of an approach that runs into the contract before this one
@@ -16,7 +16,7 @@
  *
  * Ends with 0; with 1 where the engine refuses the job, which is said on
  * standard error, and no picture is written; with 2 where it is used wrongly,
- * the input is not read or the output not written.
+ * the input cannot be read or the output cannot be written.
  */
 #include "job_text.h"
 
@@ -24,7 +24,7 @@
 
 static const char usage[] = "usage: corners [--stations km|metres] [--help] [FILE]\n";
 
-/* From millimetres to the picture.  Along and across have scales of their own. */
+/* From millimetres to the picture.  Along and across have different scales. */
 struct frame {
     double width;
     double first, along;     /* the leftmost station, units for a millimetre */
@@ -37,7 +37,7 @@ struct frame {
 
 enum {
     WIDTH = 1240,       /* of a picture, and of a column of numbers */
-    ONE_COLUMN = 40,    /* so many hazards have one; more make a wider picture */
+    ONE_COLUMN = 40,    /* this many hazards have one; more make a wider picture */
     TOP = 104,
     SIDE_DEPTH = 170,
     ROAD_LEAST = 40,
@@ -202,7 +202,7 @@ static void print_road(const struct frame *frame)
                zone, to);
     }
     print_road_end(frame, begin, 0, "road begin", road.begin);
-    /* Ends that are near one another have their labels in two rows. */
+    /* Ends that are near each other have their labels in two rows. */
     print_road_end(frame, end, to - from < TWO_LABELS, "road end", road.end);
 }
 

@@ -1,7 +1,7 @@
 /*
  * A controller's day, as a log: a job is opened in the morning, hazards are
- * added as the rod reaches them, two adds are refused and mended, a variant is
- * tried and taken back; then the inspector asks for the level underfoot, and
+ * added as the rod reaches them, two adds are refused and put right, a variant
+ * is tried and taken back; then the inspector asks for the level underfoot, and
  * the office for the schedule, the quantities of the contract's lots, the
  * panels of each run and the corner points of the drawing.
  *
@@ -35,7 +35,7 @@ static const barrier_help_header road = {
 };
 
 /* The lots of the contract, and the panels of the yard, the shortest first: so
-   fewer are taken.  Fifteen of each are twice so long together. */
+   fewer are taken.  Fifteen of each together are twice as long. */
 static const uint64_t lots[] = {0, 500000, 500000, 1000000, 1000000, 2000000};
 static const uint64_t yard[] = {2500, 4000};
 static const uint64_t YARD_HALF = 48750;
@@ -102,7 +102,7 @@ static int open_road(barrier_open_job *job)
     return said("open the road", BARRIER_HELP_OPEN, reply.number, reply.value);
 }
 
-/* One reading in millimetres, down or up; 0 where it is no length. */
+/* One reading in millimetres, down or up; 0 where it is not a length. */
 static int millimetres(const char *reading, int up, uint64_t *value)
 {
     const size_t length = strlen(reading);
@@ -121,7 +121,7 @@ static int add(barrier_open_job *job, const struct reading *reading)
     enum { DOWN = 0, UP = 1 };
     char what[64];
     barrier_hazard hazard = {reading->side, 0, 0, 0, 0, reading->level};
-    /* Outwards: the hazard that is planned is never the smaller one. */
+    /* Outwards: the planned hazard is never smaller than the measured one. */
     if (!millimetres(reading->first, DOWN, &hazard.start) ||
         !millimetres(reading->end, UP, &hazard.end) ||
         !millimetres(reading->near_offset, DOWN, &hazard.near_offset) ||
@@ -156,7 +156,7 @@ static int print_side(const barrier_open_job *job, uint64_t side)
         printf("    %-5s %10s to %10s m  NC-%" PRIu64 "\n", name, metres(run.start),
                metres(run.end), run.level);
     if (reply.before > 0 || reply.after > 0)
-        printf("    %-5s tell the neighbouring contract: %s m before the road, %s m behind it\n",
+        printf("    %-5s tell the neighbouring contract: %s m before the road, %s m after it\n",
                name, metres(reply.before), metres(reply.after));
     return walk.result == BARRIER_HELP_OK;
 }
@@ -241,7 +241,7 @@ static int inspect(const struct standing *now)
 static int print_panels(barrier_help_run run)
 {
     const uint64_t length = run.end - run.start;
-    /* A layout has at most 15 panels of each length: of a long run the longest
+    /* A layout has at most 15 panels of each length: for a long run the longest
        ones are laid first, until half of that is left, for which there are many
        layouts. */
     const uint64_t first = length <= YARD_HALF ? 0 : (length - YARD_HALF + yard[1] - 1) / yard[1];

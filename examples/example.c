@@ -7,7 +7,7 @@
  * what it should: a schedule that cannot be read must not be priced as one
  * without barriers.
  *
- * It stands alone: copied elsewhere it needs the two installed headers and the
+ * It can be copied elsewhere: it only needs the two installed headers and the
  * engine.  first.c is shorter.
  *
  *     cc example.c $(pkg-config --cflags --libs barrier_engine) -o example
@@ -32,7 +32,7 @@ static const barrier_help_header printed_header = {
     15, 1,       /* a, b: flare, 1 across for 15 along */
     13340,       /* T: straight barrier before the flare */
     0,           /* G: continuity limit */
-    0            /* panel length: of kind 2 alone */
+    0            /* panel length: only of kind 2 */
 };
 
 /* Its one hazard: a culvert headwall on the right. */
@@ -68,7 +68,7 @@ static void print_refusal(const char *what, enum barrier_help_call call, uint64_
 
 /*
  * Plans one side into BARRIER_SCHEDULE_MAX bytes; 0 bytes if refused.  This job
- * hangs over nowhere; a program for any job looks at before and after too.
+ * has no overhang; a program for any job also looks at before and after.
  */
 static size_t plan(const uint8_t *job, size_t job_len, uint64_t side, uint8_t *out)
 {
@@ -118,7 +118,7 @@ static int print_stations(const uint8_t *right, size_t right_len)
     return 1;
 }
 
-/* The level at a station, of the job alone; 0 if refused. */
+/* The level at a station, from the job only; 0 if refused. */
 static int print_level(const uint8_t *job, size_t job_len, uint64_t station)
 {
     const barrier_reply reply = barrier_level(job, job_len, BARRIER_RIGHT, station);
@@ -133,7 +133,7 @@ static int print_level(const uint8_t *job, size_t job_len, uint64_t station)
     return 1;
 }
 
-/* What an inspector asks, who has the job but no schedule. */
+/* What an inspector asks who has the job but no schedule. */
 static int print_levels(const uint8_t *job, size_t job_len)
 {
     printf("Levels on the right side, without its schedule\n");
@@ -196,7 +196,7 @@ static int print_prices(const uint8_t *right, size_t right_len)
     return print_lots(right, right_len, 155773) && print_road(right, right_len);
 }
 
-/* Whole millimetres: nothing behind the point is left out. */
+/* Whole millimetres: nothing after the point is left out. */
 static void print_corner(const char *name, barrier_corner corner)
 {
     printf("    %-8s (%.0f, %.0f)\n", name, corner.station, corner.offset);
@@ -231,7 +231,7 @@ static int print_offset(const uint8_t *job, size_t job_len, uint64_t longest)
         print_refusal("offset", BARRIER_HELP_OFFSET, reply.number, reply.value);
         return 0;
     }
-    /* Offset 0 is an offset: whether there is one, found alone says. */
+    /* Offset 0 is an offset: only found says whether there is one. */
     if (reply.found)
         printf("  approach of at most %" PRIu64 " mm: offset %" PRIu64 "\n", longest, reply.value);
     else
@@ -274,7 +274,7 @@ static int print_overhang(void)
     }
     printf("An approach that runs into the neighbouring contract\n");
     print_bytes("right schedule", out, (size_t)reply.value);
-    printf("  overhang on the right: %" PRIu64 " mm before the road, %" PRIu64 " mm behind it\n",
+    printf("  overhang on the right: %" PRIu64 " mm before the road, %" PRIu64 " mm after it\n",
            reply.before, reply.after);
     return 1;
 }

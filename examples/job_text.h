@@ -21,8 +21,8 @@
  *                                                 a name may be left out
  *
  * Whether a number is right is for the engine to judge.  Text that cannot be
- * read is reported with its line and column, a column being a character, and
- * the program ends with 2.
+ * read is reported with its line and column (a column is a character), and the
+ * program ends with 2.
  *
  * Include this file before any other.
  */
@@ -89,7 +89,7 @@ static const char *job_tool = "job"; /* the program's name, for what is said */
 
 /* ---- What is said ---- */
 
-/* How many bytes the character at the start of so many bytes has; 0 where they
+/* How many bytes the character at the start of that many bytes has; 0 where they
    are not UTF-8. */
 static size_t job_character(const char *text, size_t length)
 {
@@ -114,7 +114,7 @@ static int job_is_control(const char *at)
     return first < 0x20 || first == 0x7F || (first == 0xC2 && (unsigned char)at[1] < 0xA0);
 }
 
-/* A word of the text, of the command or a path, so far as it is shown. */
+/* A word of the text, of the command or a path, as far as it is shown. */
 static void job_show(const char *word, size_t length, size_t most)
 {
     size_t shown = 0;
@@ -132,7 +132,7 @@ static void job_show(const char *word, size_t length, size_t most)
     }
 }
 
-/* Says what is wrong, of a word where one is given, and ends the program. */
+/* Says what is wrong, with a word where one is given, and ends the program. */
 static void job_stop_word(struct job_place place, const char *what, const char *word, size_t length)
 {
     fprintf(stderr, "%s: ", job_tool);
@@ -188,7 +188,7 @@ static int job_is_blank(char c)
     return c == ' ' || c == '\t' || c == '\r';
 }
 
-/* How many characters so many bytes of UTF-8 are. */
+/* How many characters that many bytes of UTF-8 are. */
 static size_t job_characters(const char *text, size_t length)
 {
     size_t count = 0;
@@ -253,7 +253,7 @@ static int job_is(const struct job_word *word, const char *wanted)
     return word->length == strlen(wanted) && memcmp(word->at, wanted, word->length) == 0;
 }
 
-/* The same but for capital letters. */
+/* The same except for capital letters. */
 static int job_is_capital(const struct job_word *word, const char *wanted)
 {
     if (word->length != strlen(wanted))
@@ -273,10 +273,10 @@ static void job_stop_at(const struct job_word *word, const char *what)
 
 /* ---- Numbers ---- */
 
-/* What a number counts: by that a wrong one is spoken of. */
+/* What a number counts: the message about a wrong one depends on it. */
 enum job_unit { JOB_NUMBER, JOB_LENGTH, JOB_STATION };
 
-/* Whether the word has these letters alone. */
+/* Whether the word has only these letters. */
 static int job_only(const struct job_word *word, const char *letters)
 {
     for (size_t i = 0; i < word->length; i++)
@@ -293,7 +293,7 @@ static int job_has(const struct job_word *word, const char *letters)
     return 0;
 }
 
-/* Adds digits behind a number. */
+/* Adds digits after a number. */
 static uint64_t job_digits(const struct job_word *word, uint64_t number, const char *digits,
                            size_t count)
 {
@@ -306,7 +306,7 @@ static uint64_t job_digits(const struct job_word *word, uint64_t number, const c
     return number;
 }
 
-/* Digits of a number or before a plus: so many are looked at, and no more. */
+/* Digits of a number or before a plus: this many are looked at, and no more. */
 static void job_test_digits(const struct job_word *word, size_t digits)
 {
     if (digits > 20)
@@ -422,11 +422,11 @@ static int job_read_choice(const struct job_line *line, struct job_place *given,
     return 0;
 }
 
-/* Room for all names of a text, each with a zero behind it. */
+/* Room for all names of a text, each with a zero after it. */
 static char job_names[2 * JOB_INPUT_MAX];
 static size_t job_names_length = 0;
 
-/* A comment as a name: without blanks at its ends, at most so many characters;
+/* A comment as a name: without blanks at its ends, at most that many characters;
    NULL where nothing is left of it. */
 static const char *job_comment_name(const char *text, size_t length)
 {
@@ -464,7 +464,7 @@ static const char *job_read_name(const struct job_word *word)
     return name;
 }
 
-/* A hazard without a name in quotes has its comment for one. */
+/* A hazard without a name in quotes has its comment as its name. */
 static void job_read_hazard(const struct job_line *line)
 {
     static const enum job_unit units[JOB_HAZARD_NUMBERS] = {JOB_NUMBER, JOB_STATION, JOB_STATION,
@@ -549,7 +549,7 @@ static void job_complete(size_t lines)
                           strlen(job_fields[i].name));
 }
 
-/* What cannot be turned round: a two-way road, and a hazard that is off it. */
+/* What cannot be turned round: a two-way road, and a hazard off the road. */
 static void job_test_turning(void)
 {
     const uint64_t begin = job.header[JOB_BEGIN], end = job.header[JOB_END];
@@ -567,7 +567,7 @@ static void job_test_turning(void)
     }
 }
 
-/* The side of the road that the engine's is, and the other way about. */
+/* The side of the road that the engine's is, and the other way round. */
 static inline uint64_t job_real_side(uint64_t side)
 {
     return job.stations_fall != job.drives_left ? barrier_help_swap_side(side) : side;
@@ -673,7 +673,7 @@ static void job_stop_file(const char *path, const char *what)
     exit(2);
 }
 
-/* A job's own file is not written over, by whatever name or link it goes. */
+/* A job's own file is not written over, whatever name or link it has. */
 static void job_spare(FILE *input, const char *path)
 {
     struct stat in, out;
@@ -720,7 +720,7 @@ static void job_test_utf16(size_t length)
         job_stop(begin, "this is UTF-16; save it as UTF-8");
 }
 
-/* Reads a job as text; the program ends where it is none. */
+/* Reads a job as text; the program ends where it is not one. */
 static inline void job_from_text(const char *path)
 {
     const size_t length = job_read_input(path);
@@ -800,7 +800,7 @@ static inline int job_refused(enum barrier_help_call call, uint64_t number, uint
     return 1;
 }
 
-/* Ends the work: 2 where what was written did not get there, else the status. */
+/* Ends the work: 2 where what was written did not arrive, else the status. */
 static int job_written(int status)
 {
     if (fflush(stdout) != 0 || ferror(stdout)) {

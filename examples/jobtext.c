@@ -6,7 +6,7 @@
  *
  * Without a file, or with -, it reads standard input.  job_text.h beside this
  * file reads the text, and has its form: one field on a line; '#' begins a
- * comment; empty lines do not count.  The header's lines may stand in any order
+ * comment; empty lines do not count.  The header's lines may be in any order
  * and each has to be there once, but the panel length may be left out: with it
  * the job is of kind 2, without it of kind 1.  Hazards keep their order.  Two
  * more lines may be given, to say something else than what is usual: `kind`,
@@ -18,11 +18,12 @@
  *
  * With -r it reads a job of kind 1 or 2, of up to 256 hazards, whose numbers may
  * be out of their ranges.  The text gives the same bytes again; it has no names,
- * and sides and stations are the engine's.  Bytes that it cannot read it
- * reports, and writes no text; listing then has the engine's refusal, with the
+ * and sides and stations are the engine's.  It reports bytes that it cannot
+ * read, and writes no text; listing then has the engine's refusal, with the
  * place.
  *
- * Ends with 0, or with 2 where the input is not read or the output not written.
+ * Ends with 0, or with 2 where the input cannot be read or the output cannot be
+ * written.
  */
 #include "job_text.h"
 
@@ -52,7 +53,7 @@ static void print_header(const barrier_help_header *header)
         printf("panel %" PRIu64 "\n", header->panel);
 }
 
-/* A side that is neither right nor left stands as its number. */
+/* A side that is neither right nor left is written as its number. */
 static void print_hazard(const barrier_hazard *hazard)
 {
     if (hazard->side <= BARRIER_LEFT)
@@ -63,7 +64,7 @@ static void print_hazard(const barrier_hazard *hazard)
            hazard->end, hazard->near_offset, hazard->far_offset, hazard->level);
 }
 
-/* Why bytes are not read as a job. */
+/* Why bytes cannot be read as a job. */
 static const char *unread(enum barrier_help_result result)
 {
     switch (result) {
@@ -74,7 +75,7 @@ static const char *unread(enum barrier_help_result result)
     case BARRIER_HELP_NO_ROOM:
         return "the job has more than 256 hazards";
     case BARRIER_HELP_LEFT_OVER:
-        return "bytes are left over behind the job";
+        return "bytes are left over after the job";
     default:
         return "the job is neither of kind 1 nor of kind 2";
     }

@@ -1,7 +1,7 @@
 /*
  * Panels for one run: a yard stocks two panel lengths, and the run of the
  * sample job is laid from them, with more and more tries, and with the lengths
- * the other way about; then runs at the ends of what these lengths cover, a
+ * the other way round; then runs at the ends of what these lengths cover, a
  * longer one, and refusals.  It ends with 1 where a call does not do what it
  * should.
  *
@@ -13,11 +13,11 @@
 #include <barrier.h>
 
 /* In the order in which their counts rise: the last one's changes fastest, so
-   that the shortest length, which stands first, is taken as rarely as can be. */
+   the shortest length, which stands first, is taken as rarely as possible. */
 enum { LENGTHS = 2 };
 static const uint64_t lengths[LENGTHS] = {2500, 4000};
 static const uint64_t longest_first[LENGTHS] = {4000, 2500};
-/* Fifteen of each are so long together. */
+/* Fifteen of each are this long together. */
 static const uint64_t COVERED = 97500;
 
 /* The run [155773, 210000). */
@@ -37,7 +37,7 @@ static int print_layout(const uint64_t *yard, uint64_t run, uint64_t limit)
         print_refusal(reply);
         return 0;
     }
-    /* An overrun of 0 is one: whether a layout covers the run, found alone says. */
+    /* An overrun of 0 is one: only found says whether a layout covers the run. */
     if (reply.found)
         printf("(%" PRIu64 ", %" PRIu64 "), overrun %" PRIu64, reply.counts[0], reply.counts[1],
                reply.overrun);
@@ -55,7 +55,7 @@ static int print_tries(void)
     for (size_t i = 0; i < sizeof limits / sizeof limits[0]; i++)
         if (!print_layout(lengths, RUN, limits[i]))
             return 0;
-    /* The same overrun, in seventeen panels and not in fourteen. */
+    /* The same overrun, with seventeen panels and not fourteen. */
     printf("The longest first\n");
     return print_layout(longest_first, RUN, BARRIER_TRIES_MAX);
 }

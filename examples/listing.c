@@ -15,12 +15,12 @@
  *     listing -p <job.bytes                  lines as the program `barrier`
  *                                            prints them, in millimetres
  *
- * Without a file it reads standard input.  A first word that is a station is no
- * file: ./500 is one.
+ * Without a file it reads standard input.  A first word that is a station is not
+ * a file: ./500 is one.
  *
  * Tables and lots are in metres with three decimals, which are the millimetres:
  * nothing is rounded.  A lot does not have its end station, so what begins on a
- * boundary is in the second lot alone, and the lots of a road add up to the road.
+ * boundary is only in the second lot, and the lots of a road add up to the road.
  * A station with more decimals goes to the nearest millimetre.  Lots that do not
  * cover the road, or go past it, are warned of on standard error: most often the
  * stations were millimetres.
@@ -28,20 +28,20 @@
  * Sides and stations are the road's own, also where the text says `drives left`
  * or `stations fall`.  Hazards with names are listed at the end.
  *
- * With -p, where approaches run into the neighbouring contract, there is a line
- * more for that side, which `barrier` does not print:
+ * With -p, where approaches run into the neighbouring contract, there is one
+ * more line for that side, which `barrier` does not print:
  *
  *     overhang R 21501 20758
  *
- * the side and the greatest overhang before the road and behind it.  These
+ * the side and the greatest overhang before the road and after it.  These
  * millimetres are not in the covered ones, nor in any table.
  *
- * A table for a spreadsheet has a line of heads, lines that end as RFC 4180 has
- * it, decimal points, and lengths in millimetres and again in metres.
+ * A table for a spreadsheet has a line of headings, lines that end as in RFC
+ * 4180, decimal points, and lengths in millimetres and again in metres.
  *
  * Ends with 0; with 1 where the engine refuses the job, which is said on
  * standard error, and nothing is printed; with 2 where it is used wrongly, the
- * input is not read or the output not written.
+ * input cannot be read or the output cannot be written.
  */
 #include "job_text.h"
 
@@ -138,7 +138,7 @@ static int plan(void)
     return 0;
 }
 
-/* Stations from where the envelope of one hazard alone begins, before it is cut,
+/* Stations from where the envelope of a single hazard begins, before it is cut,
    to where it ends; 0 where nobody reaches the hazard. */
 static int envelope_of(size_t index, int64_t *start, int64_t *end)
 {
@@ -358,7 +358,7 @@ static void print_hazards(void)
     }
 }
 
-/* Says that the lots are wrong for the road, in what way, and where both lie. */
+/* Says that the lots are wrong for the road, in what way, and where both are. */
 static void warn(const char *how)
 {
     char texts[4][BARRIER_HELP_TEXT_MAX];
@@ -393,19 +393,19 @@ static int print_tables(void)
 
 /* ---- As tables for a spreadsheet ---- */
 
-/* A column of lengths: its head, and whether it is a station. */
+/* A column of lengths: its heading, and whether it is a station. */
 struct column {
     const char *head;
     int station;
 };
 
-/* A length for a column; none is an empty cell. */
+/* A length for a column; an empty cell where there is none. */
 struct cell {
     int64_t mm;
     int none;
 };
 
-/* The heads: the texts, then each length in millimetres, in metres, and the
+/* The headings: the texts, then each length in millimetres, in metres, and the
    stations in kilometres. */
 static void print_heads(const char *texts, const struct column *columns, size_t count)
 {
@@ -477,8 +477,8 @@ static int print_csv_runs(void)
     return 1;
 }
 
-/* The rows of one lot, or of what lies outside them: one for each level that the
-   side has. */
+/* The rows of one lot, or of what is outside the lots: one for each level that
+   the side has. */
 static void print_csv_lot(const struct side *side, const char *lot, struct cell first,
                           struct cell last, const uint64_t *row)
 {
@@ -496,7 +496,7 @@ static void print_csv_lot(const struct side *side, const char *lot, struct cell 
     }
 }
 
-/* Without lots the road is the first one, and nothing lies outside it. */
+/* Without lots the road is the first one, and nothing is outside it. */
 static int print_csv_quantities(void)
 {
     static const struct cell none = {0, 1};
@@ -577,7 +577,7 @@ static int print_csv(void)
 
 /* ---- The program ---- */
 
-/* A station in metres or in kilometres; 0 where the word is none. */
+/* A station in metres or in kilometres; 0 where the word is not a station. */
 static int read_station(const char *word, uint64_t *station)
 {
     const size_t length = strlen(word);
@@ -586,8 +586,9 @@ static int read_station(const char *word, uint64_t *station)
             barrier_help_mm_of_text(word, length, station) == BARRIER_HELP_OK);
 }
 
-/* A word that is no option: the file, where it is the first and no station, or
-   a boundary of the lots, which do not fall; 0, and said, where it is neither. */
+/* A word that is not an option: the file, where it is the first and not a
+   station, or a boundary of the lots, which do not fall; 0, and said, where it
+   is neither. */
 static int read_word(const char *word, int in_lots)
 {
     struct lots *lots = &asked.lots;
@@ -620,7 +621,7 @@ static int is_table(const char *word)
     return 0;
 }
 
-/* An option with a value; 0, and said, where it has none that is one. */
+/* An option with a value; 0, and said, where its value is not one. */
 static int read_value(const char *option, const char *value)
 {
     if (strcmp(option, "--csv") == 0 && value != NULL && is_table(value))
@@ -648,7 +649,7 @@ static int agree(void)
     else if (asked.lots.count > 0 && asked.csv != NULL && strcmp(asked.csv, "quantities") != 0)
         job_misused(usage, "lots are for quantities and do not go together with", asked.csv);
     else if (asked.lots.count == 1)
-        job_misused(usage, "lots are 2 to 65 stations, and one alone is", "none");
+        job_misused(usage, "lots are 2 to 65 stations, and not", "1");
     else
         return 1;
     return 0;

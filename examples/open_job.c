@@ -1,8 +1,8 @@
 /*
  * An open job: the header of the sample job of barrier.h, to which hazards
  * come as a controller meets them; then a variant, tried and taken back; then
- * hazards by the road's begin.  It ends with 1 where a call does not do what it
- * should.
+ * hazards near the road's begin.  It ends with 1 where a call does not do what
+ * it should.
  *
  *     cc open_job.c $(pkg-config --cflags --libs barrier_engine) -o open_job
  */
@@ -23,20 +23,20 @@ static const barrier_help_header header = {
     15, 1,           /* a, b: flare, 1 across for 15 along */
     13340,           /* T: straight barrier before the flare */
     0,               /* G: continuity limit */
-    0                /* panel length: of kind 2 alone */
+    0                /* panel length: only of kind 2 */
 };
 
 /* The names under which the hazards stand: their drawing numbers. */
 enum { HEADWALL = 7, POLE = 20, CULVERT = 1030, PIER = 1031 };
 
-/* The state number under which a state is kept, and one of which none is. */
+/* The state number under which a state is kept, and one under which none is. */
 enum { BEFORE = 0, NEVER_KEPT = 1 };
 
 /* Each on the right side: first and end station, offsets, level. */
 static const barrier_hazard headwall = {BARRIER_RIGHT, 200000, 210000, 5000, 9000, BARRIER_NC_3};
 static const barrier_hazard pole = {BARRIER_RIGHT, 600000, 600300, 5000, 9000, BARRIER_NC_2};
 static const barrier_hazard moved_pole = {BARRIER_RIGHT, 700000, 700300, 5000, 9000, BARRIER_NC_2};
-/* Two by the road's begin, whose approaches of 44,227 do not fit before them. */
+/* Two near the road's begin, whose approaches of 44,227 do not fit before them. */
 static const barrier_hazard culvert = {BARRIER_RIGHT, 30000, 31000, 5000, 9000, BARRIER_NC_3};
 static const barrier_hazard pier = {BARRIER_RIGHT, 40000, 42000, 5000, 9000, BARRIER_NC_4};
 
@@ -74,7 +74,7 @@ static int print_runs(const barrier_open_job *job)
         return 0;
     /* Not in the runs: it stands in the neighbouring contract. */
     if (planned.before > 0 || planned.after > 0)
-        printf("    overhang: %" PRIu64 " mm before the road, %" PRIu64 " mm behind it\n",
+        printf("    overhang: %" PRIu64 " mm before the road, %" PRIu64 " mm after it\n",
                planned.before, planned.after);
     return 1;
 }
@@ -107,7 +107,7 @@ static int show_variant(barrier_open_job *job)
            ends_with("return 1", barrier_return(job, NEVER_KEPT), BARRIER_STATE);
 }
 
-/* By the boundary; 0 where a call does not do what it should. */
+/* Near the boundary; 0 where a call does not do what it should. */
 static int show_overhang(barrier_open_job *job)
 {
     printf("By the neighbouring contract\n");

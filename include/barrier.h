@@ -25,8 +25,8 @@
  * This file is the manual.  barrier_help.h, beside it, has what a program
  * writes around the calls: jobs to bytes and back, schedules run by run,
  * refusals in words, metres.  examples/first.c is a first program,
- * examples/day.c a controller's day; examples/README.md lists the others, in
- * Rust and Python too.  Paths are those of the repository.
+ * examples/day.c is a controller's day; examples/README.md lists the others,
+ * also those in Rust and Python.  Paths are those of the repository.
  *
  * CONTENTS
  *
@@ -40,7 +40,7 @@
  *     Corner points                Constants
  *     Panels for one run           The calls
  *
- * Three things that no refusal warns of: where traffic drives on the left the
+ * No refusal warns of these three things: where traffic drives on the left the
  * sides are handed over swapped ("Sides and traffic"); a curve is planned as if
  * it were straight ("The job"); barrier that has to stand beyond the ends of
  * the road is in no schedule ("Overhangs").
@@ -51,20 +51,20 @@
  * Lengths, offsets and stations are whole millimetres.  The engine rounds
  * nothing that it is given.  Where a reading is finer than that, round a hazard
  * outwards: first station and near offset down, end station and far offset up,
- * so that the hazard that is planned is never the smaller one.
- * barrier_help_mm_of_text_down and barrier_help_mm_of_text_up do it.
+ * so that the hazard that is planned is never smaller than the one that was
+ * measured.  barrier_help_mm_of_text_down and barrier_help_mm_of_text_up do it.
  *
  * Station t names the millimetre from t to t + 1.  A range [s, e) has the
  * millimetres s to e - 1: its end station is not in it.  So two lots that share
  * a boundary have no millimetre in common, and a run that begins on the
- * boundary is in the second lot alone.
+ * boundary is only in the second lot.
  *
  * Stations may be counted from a datum far away: a road can end at station
  * 1000000000000, a million kilometres from it.  So a station takes 64 bits.
  *
- * No station is below 0.  Where a road has such stations, add one number to all
- * stations of the job and subtract it from those that come back; lengths,
- * offsets, overhangs and quantities stay as they are.
+ * No station of a job is below 0.  Where a road has stations below 0, add the
+ * same number to all stations of the job and subtract it from those that come
+ * back; lengths, offsets, overhangs and quantities stay as they are.
  *
  *     a road from -250000 on, moved by 250000: the hazard [-50000, -40000) is
  *     handed over as [200000, 210000), and its run [155773, 210000) is
@@ -74,9 +74,9 @@
  * SIDES AND TRAFFIC
  *
  * Forward traffic travels towards rising stations, opposite traffic towards
- * falling ones.  Right and left are those of one who looks towards rising
- * stations.  For each side, the traffic that drives beside it is adjacent to
- * it, and the other one is the far traffic:
+ * falling ones.  Right and left are as seen by a person who looks towards
+ * rising stations.  For each side, the traffic that drives beside it is
+ * adjacent to it, and the other one is the far traffic:
  *
  *     side             adjacent    far
  *     BARRIER_RIGHT    forward     opposite
@@ -84,9 +84,9 @@
  *
  * That is so where traffic drives on the right.  WHERE IT DRIVES ON THE LEFT,
  * SWAP THE SIDES: hand over a hazard on the left as BARRIER_RIGHT and one on
- * the right as BARRIER_LEFT, and ask for them so too; the schedule of
- * BARRIER_RIGHT is then that of the left side.  LF and LO stay as they are.
- * barrier_help_swap_side does it.
+ * the right as BARRIER_LEFT, and ask for the sides in the same way: the
+ * schedule of BARRIER_RIGHT is then that of the left side.  LF and LO stay as
+ * they are.  barrier_help_swap_side does it.
  *
  *     A two-way road, LF and LO 101000, C 9000, W 3500, M 3000, D 1000, no
  *     flare, and one hazard [200000, 210000), n 5000, f 9000:
@@ -97,18 +97,19 @@
  *     on the left      the left     BARRIER_RIGHT    [132666, 238056)
  *     on the left      the right    BARRIER_LEFT     [171944, 277334)
  *
- * With its sides not swapped, the third of these gets the fourth's run: its
- * barrier begins 39278 mm too late, and nothing shows it.
+ * If its sides are not swapped, the third of these gets the run of the fourth:
+ * its barrier begins 39278 mm too late, and nothing shows it.
  *
  * With LO = 0 the road is one-way, or one carriageway of a separated road.
  * Forward traffic is then adjacent to both sides and there is no far traffic,
- * so that swapping alters no length.  But it still travels towards rising
- * stations.  A CARRIAGEWAY WHOSE TRAFFIC TRAVELS TOWARDS FALLING STATIONS IS
- * TURNED ROUND BY THE CALLER: a hazard or a range [s, e) is handed over as
- * [A + B - e, A + B - s), a station t that is asked for as A + B - 1 - t, left
- * for right.  Runs are turned back as ranges are, a corner's station x is
- * A + B - x, and the overhangs before and after change places.
- * barrier_help_turn_hazard, _run, _station, _corner and _overhangs do it.
+ * so swapping changes no length.  But forward traffic still travels towards
+ * rising stations.  A CARRIAGEWAY WHOSE TRAFFIC TRAVELS TOWARDS FALLING
+ * STATIONS IS TURNED ROUND BY THE CALLER: a hazard or a range [s, e) is handed
+ * over as [A + B - e, A + B - s), a station t that is asked for as
+ * A + B - 1 - t, and left and right are exchanged.  Runs are turned back
+ * in the same way as ranges, a corner's station x is A + B - x, and the
+ * overhangs before and after change places.  barrier_help_turn_hazard, _run,
+ * _station, _corner and _overhangs do it.
  *
  *     The sample job's hazard [200000, 210000) is handed over as
  *     [790000, 800000), and its run [745773, 800000) is [200000, 254227) of the
@@ -120,8 +121,8 @@
  * Jobs and schedules are rows of numbers.  A number is cut into groups of
  * seven bits, lowest group first, one group a byte; the top bit is set on all
  * but the last byte.  Only the shortest form is a number: as many groups as
- * the bits of the value need, and 0 takes one.  At most six bytes, which hold
- * values to 4398046511103.
+ * the bits of the value need, and 0 takes one.  A number has at most six bytes,
+ * which hold values up to 4398046511103.
  *
  *     0       00            155773          FD C0 09
  *     127     7F            999000155773    FD CC B2 C8 89 1D
@@ -174,7 +175,7 @@
  *            f     far offset, from the same edge           n to 60000
  *                  containment level, NC-1 to NC-6          1 to 6
  *
- * and nothing behind them.  The hazards may stand in any order.
+ * and nothing after them.  The hazards may be in any order.
  *
  * The sample job of this manual, which examples/first.c plans, is a one-way
  * road of 1 km with one hazard, a culvert headwall:
@@ -185,27 +186,28 @@
  *     01 00 C0 84 3D 88 95 06 00 A8 46 00 B8 17 E8 07 0F 01 9C 68 00 01
  *     00 C0 9A 0C D0 E8 0C 88 27 A8 46 03
  *
- *   - The runout length is how far along the road a vehicle that leaves it goes
- *     before it comes to rest.  Runout lengths, clear-zone widths and flares
- *     are in the tables of road norms, by speed and traffic; the engine has no
- *     such table, and chooses no level.
+ *   - The runout length is the distance that a vehicle which leaves the road
+ *     goes along it before it comes to rest.  Runout lengths, clear-zone widths
+ *     and flares are in the tables of road norms, by speed and traffic; the
+ *     engine has no such table and does not choose a level.
  *   - NC-1 to NC-6 are the containment levels of the Mexican draft norm
- *     PROY-NOM-037-SICT2-2025, 5.1.1 and Table 2.  Of a level the engine uses
- *     the number alone, and takes the greater one for the stronger barrier.
+ *     PROY-NOM-037-SICT2-2025, 5.1.1 and Table 2.  The engine uses only the
+ *     number of a level, and takes the greater number for the stronger barrier.
  *     Levels of another norm are handed over as 1 to 6 in rising strength.
  *   - M and D are those of the one barrier type that the job is planned with,
  *     on both sides and at every level.  For a barrier of another type, or at
  *     another offset, plan another job: schedules of two jobs are not joined,
  *     and no gap between them is closed.
- *   - A point, a tree or a pole, is a hazard of one millimetre: e = s + 1 (a
+ *   - A point (a tree or a pole) is a hazard of one millimetre: e = s + 1 (a
  *     hazard with e = s is refused 4).  Its near and far offset may be equal.
  *   - A gap of exactly G stays open.  Where a norm joins barriers that are
- *     80 m apart or nearer, G is 80001; nearer than 50 m, 50000.
+ *     80 m apart or less, G is 80001; where it joins those that are less than
+ *     50 m apart, G is 50000.
  *   - The road is straight.  Curves are outside the engine: it is not told of
- *     them, so that it refuses none, and what it replies for one is wrong
- *     where the norm has another construction for it.  The norm named above
- *     has one for radii of 900 m and less (5.4.4.2).
- *   - Runs are the length of need alone.  Terminals, transitions between
+ *     them, so it refuses none, and its reply for a curve is wrong where the
+ *     norm has another construction for curves.  The norm named above has one
+ *     for radii of 900 m and less (5.4.4.2).
+ *   - Runs are only the length of need.  Terminals, transitions between
  *     barriers and the least length of a barrier system are not in them.
  *
  * ---------------------------------------------------------------------------
@@ -223,20 +225,20 @@
  *
  *     L * (a * R + b * T - a * m) / (b * L + a * R)
  *
- * rounded up to the next whole millimetre if not whole.  Where the same with
+ * rounded up to the next whole millimetre if not whole.  Where the length with
  * b = 0 is at most T, the barrier ends in its straight part, before the flare
- * begins, and that is the approach length: it is tested for each traffic with
- * its own L, R and m.  So this length is at most the runout length.
- * docs/figures/flare.svg shows where all of these lie.
+ * begins, and that length is the approach length: this is tested for each
+ * traffic with its own L, R and m.  So the approach length is at most the
+ * runout length.  docs/figures/flare.svg shows where all of these are.
  *
  *     L 101000, R 9000, m 3000, flare 1 across for 15 along:
  *     without flare 67334; with T = 13340 the barrier flares, length 44227;
  *     with T = 67334 or more it does not, length 67334
  *
  * Last, each approach length is raised to the least multiple of the panel
- * length that is not smaller, each traffic's by itself.  It can then be above
- * the runout length, by less than a panel.  Kind 1 acts as panel length 1,
- * which raises nothing.
+ * length that is not smaller, for each traffic separately.  It can then be
+ * above the runout length, by less than a panel.  Kind 1 acts as panel length
+ * 1, which raises nothing.
  *
  *     panel length 4000: 44227 is raised to 48000, twelve panels, and 67334 to
  *     68000, seventeen; 44000 is eleven panels and stays
@@ -248,33 +250,33 @@
  *     [200000, 210000) approached from lower stations: with 44227 the envelope
  *     is [155773, 210000), with 48000 it is [152000, 210000)
  *
- * An envelope that begins before A or ends behind B is cut there: what is left
- * of it lies on the road [A, B), and what is cut off is its overhang, of which
- * the next part speaks.
+ * An envelope that begins before A or ends after B is cut there: what is left
+ * of it is on the road [A, B), and what is cut off is its overhang
+ * ("Overhangs").
  *
  * For each side and level v, take the millimetres in envelopes of level v or
- * higher, as cut, and add every gap between them that is shorter than G.  The
- * required level of a millimetre is the highest v whose set, gaps added, has
- * it, else 0; outside the road it is 0.  A run is a longest stretch of one
+ * higher, after cutting, and add every gap between them that is shorter than G.
+ * The required level of a millimetre is the highest v whose set, gaps added,
+ * has it, else 0; outside the road it is 0.  A run is a longest stretch of one
  * required level above 0.
  *
  * ---------------------------------------------------------------------------
  * OVERHANGS
  *
- * Roads are let in sections.  The approach to a hazard by the boundary can run
- * into the neighbouring contract, and the job is planned all the same.  Its
- * schedule is that of this road: no run begins before A or ends behind B.  How
- * far the envelopes of the asked side hang over is said beside it, for each end
- * of the road by itself (barrier_plan_reply):
+ * Roads are contracted in sections.  The approach to a hazard near the boundary
+ * can run into the neighbouring contract, and the job is still planned.  Its
+ * schedule is that of this road: no run begins before A or ends after B.  The
+ * reply also says how far the envelopes of the asked side hang over, separately
+ * for each end of the road (barrier_plan_reply):
  *
- *     before    A less the start of the envelope that begins first, where that
+ *     before    A minus the start of the envelope that begins first, where that
  *               is before A; else 0
- *     after     the end of the envelope that ends last, less B, where that is
- *               behind B; else 0
+ *     after     the end of the envelope that ends last, minus B, where that is
+ *               after B; else 0
  *
  * These are the envelopes as raised to whole panels, and before they are cut.
  * So each is the greatest overhang among the reached hazards of that side, in
- * millimetres, and the two may be of different hazards.  A hazard that nobody
+ * millimetres; the two may belong to different hazards.  A hazard that nobody
  * reaches has no envelope and does not count.  No overhang is above 209979: the
  * greatest runout length, 200000, in panels of 9999.
  *
@@ -283,23 +285,23 @@
  *     run [0, 210000), before 1, after 0.
  *     With the hazard from 67334 on: the same run, before 0, after 0.
  *
- * An overhang is no refusal, and the schedule is complete for this road.  The
- * hazard is not protected, though, until barrier stands along the overhang too:
- * from A - before to A, or from B to B + after.  (A - before may be below 0:
- * reckon it in signed numbers.)  That stretch is the neighbouring contract's.
- * Nothing of it is in the schedule, nor in any quantity or price taken from it,
- * so tell the neighbour's office: which side, which end of the road, how many
- * millimetres.  The level there is that of the hazards which hang over; the
- * reply does not have it.
+ * An overhang is not a refusal, and the schedule is complete for this road.
+ * The hazard is not protected, though, until barrier stands along the overhang
+ * too: from A - before to A, or from B to B + after.  (A - before may be below
+ * 0: calculate it in signed numbers.)  That stretch belongs to the neighbouring
+ * contract.  Nothing of it is in the schedule, nor in any quantity or price
+ * taken from the schedule, so tell the neighbour's office: which side, which
+ * end of the road, how many millimetres.  The level there is that of the
+ * hazards whose envelopes hang over; the reply does not have it.
  *
  * ---------------------------------------------------------------------------
  * THE SCHEDULE
  *
- * The run count, 0 to 511; then for each run, with rising stations, the three
- * numbers of its record:
+ * A schedule is the run count, 0 to 511; then for each run, with rising
+ * stations, the three numbers of its record:
  *
- *     distance    the run's start less the end of the run before it
- *                 (less 0 for the first run)
+ *     distance    the run's start minus the end of the run before it
+ *                 (minus 0 for the first run)
  *     length      in millimetres, 1 or more
  *     level       1 to 6
  *
@@ -310,7 +312,7 @@
  * each run.  A side without runs has the schedule 00, one byte.  Two runs may
  * touch (distance 0) where their levels differ.  No run ends above
  * 1000000000000.  Two jobs that require the same levels on a side have equal
- * schedules of that side, byte for byte; so schedules can be compared with
+ * schedules for that side, byte for byte; so schedules can be compared with
  * memcmp.  Their overhangs may differ: nothing outside the road is in a
  * schedule.
  *
@@ -332,26 +334,28 @@
  * each: it stands along M from its start to its end, and approaches that begin
  * inside it are not built.  It bends only at an end that touches no other run
  * and is the upstream end of an approach: there it is drawn through the
- * upstream and the flare corner of that hazard, the run's upstream one.
+ * upstream and the flare corner of that hazard, which is the run's upstream
+ * one.
  *
  * With a flare (b above 0) look at such a run before it is built.  The approach
  * length of each of its hazards is worked out with a flare of its own, and only
  * one of these is there: a vehicle on its way to a hazard farther on may pass
- * behind the run's end, or another hazard may lie in the way of the flare.  No
+ * behind the run's end, or another hazard may be in the way of the flare.  No
  * call tests that.  Planned without a flare (b 0), each approach is worked out
  * along M, and a run along M shields all of its hazards.
  *
- * It is the approach of the adjacent traffic alone; there are no corners of the
- * far traffic's.  Forward traffic comes from lower stations and has the first
- * of each two; opposite traffic comes from higher ones and has the second.  l
- * is the approach length, as raised to whole panels.  The flare takes the
- * upstream end away from the road, to the offset
+ * The corners are only those of the adjacent traffic's approach; there are none
+ * of the far traffic's.  Forward traffic comes from lower stations and has the
+ * first of the two stations in each row; opposite traffic comes from higher
+ * ones and has the second.  l is the approach length, as raised to whole
+ * panels.  The flare takes the upstream end away from the road, to the offset
  *
  *     M + b * (l - T) / a, rounded down
  *
  * where it is entered, that is, where b is above 0 and the approach length is
  * above T before it is raised.  Otherwise the barrier does not bend: the
- * upstream end is at offset M, and the flare's corner is the same as that one.
+ * upstream end is at offset M, and the flare's corner is the same as the
+ * upstream one.
  *
  *     The sample job: length 44227, above T = 13340 (docs/figures/flare.svg).
  *
@@ -365,49 +369,49 @@
  *
  *     3000 + 1 * (44227 - 13340) / 15 is 5059.1, down to 5059.
  *
- * The corners are counted from a sheet corner, a station and an offset of
- * yours, which are subtracted.  The subtraction is done in floats and loses
+ * The corners are counted from a sheet corner, a station and an offset that you
+ * give, which are subtracted.  The subtraction is done in floats and loses
  * nothing: each of the six numbers is exactly a whole count of millimetres, and
  * no zero is negative.  (That is in the rounding mode that C starts with, to
- * nearest.  A program that has set another gets the same numbers, but a zero is
- * -0.0 where it rounds downward.)  Corners are not cut at A and B: where an
- * approach hangs over they show how far.  So a station may be negative, and an
- * offset too.
+ * nearest.  A program that has set another mode gets the same numbers, but a
+ * zero is -0.0 where that mode rounds downward.)  Corners are not cut at A and
+ * B: where an approach hangs over, they show how far.  So a station may be
+ * negative, and so may an offset.
  *
  *     sheet corner      upstream          flare             hazard
  *     (0, 0)            (155773, 5059)    (186660, 3000)    (200000, 3000)
  *     (160000, 4000)    (-4227, 1059)     (26660, -1000)    (40000, -1000)
  *
  * Offsets are measured from the travelled-way edge of the hazard's own side and
- * grow away from the road, on the left side as on the right: it is for the
- * drawing to turn one side over, as examples/corners.c does.
+ * grow away from the road, on the left side as on the right: the drawing has to
+ * turn one side over, as examples/corners.c does.
  *
  * ---------------------------------------------------------------------------
  * PANELS FOR ONE RUN
  *
  * A yard stocks panels of up to four lengths, each 1 to 20000, and a run of
- * barrier is to be laid from them.  The run is given by its length alone: where
+ * barrier is to be laid from them.  Only the length of the run is given: where
  * it stands, its level and the panel length of its job play no part.  A length
- * of 0 is allowed, and none is too great.
+ * of 0 is allowed, and no length is too great.
  *
  * A layout is a count from 0 to 15 of each length.  It covers the run if its
- * panels together are at least as long; what they are longer is its overrun.
- * One length has 16 layouts, two have 256, three 4096, four 65536.
+ * panels together are at least as long; how much longer they are is its
+ * overrun.  One length has 16 layouts, two have 256, three 4096, four 65536.
  *
  * barrier_layout tries them in rising order of their counts, the last length's
- * changing fastest, of two lengths
+ * count changing fastest, for two lengths
  *
  *     (0, 0), (0, 1) and so on to (0, 15), then (1, 0), (1, 1) and so on
  *
  * and makes as many tries as its limit allows, or as there are layouts where
- * these are fewer.  It does not stop before, at one that fits.  The reply has
+ * these are fewer.  It does not stop earlier, at one that fits.  The reply has
  * the smallest overrun among those tried, the first layout with this overrun,
  * the tries made, and the floor.
  *
  * The floor is the distance from the run's length up to the least multiple, not
  * below it, of the lengths' greatest common divisor.  No covering layout, tried
  * or not, overruns by less.  So where the overrun is the floor, more tries are
- * of no use.  The floor may be out of reach, though.
+ * of no use.  But it may be that no layout reaches the floor.
  *
  *     Lengths 2500 and 4000, run 54227, that of the sample job: the divisor
  *     is 500, its multiple 54500, the floor 273.
@@ -418,9 +422,9 @@
  *     30 to 256       (1, 13)    273        the limit
  *     257 to 65536    (1, 13)    273        256
  *
- * PUT THE SHORTEST LENGTH FIRST.  Of layouts with one overrun the first is
- * replied, in which the first length's count is the smallest; so the longest
- * length first gives many short panels.
+ * PUT THE SHORTEST LENGTH FIRST.  Among layouts with the same overrun the first
+ * is replied, in which the first length's count is the smallest; so putting the
+ * longest length first gives many short panels.
  *
  *     run      lengths                     layout            panels   overrun
  *     54227    2500, 4000                  (1, 13)           14       273
@@ -428,28 +432,28 @@
  *     68500    1500, 2000, 3000, 4000      (1, 0, 5, 13)     19       0
  *     68500    4000, 3000, 2000, 1500      (0, 6, 14, 15)    35       0
  *
- * A LONG RUN, which 15 panels of each length do not cover or barely do: lay
- * panels of the longest length first, until about half of what 15 of each cover
- * is left, and ask for the layout of that rest.  The overrun of the rest is
- * that of the run, and the floor is the same: where the overrun is the floor,
- * no layout of the whole run has less.
+ * FOR A LONG RUN, which 15 panels of each length do not cover or only just
+ * cover, lay panels of the longest length first, until about half of what 15 of
+ * each cover is left, and ask for the layout of that rest.  The overrun of the
+ * rest is that of the run, and the floor is the same: where the overrun is the
+ * floor, no layout of the whole run has a smaller one.
  *
  *     Lengths 2500 and 4000 cover 97500: of the run 212000 lay 41 panels of
  *     4000, and the rest, 48000, is (0, 12), overrun 0
  *
  *     Lengths 4000 and 6000, run 1000: the floor is 1000, but the least overrun
- *     is 3000, of one panel of 4000.
+ *     is 3000, with one panel of 4000.
  *
  * More tries never give a greater overrun, and as many tries as there are
- * layouts give the least that there is.  None is said exactly if no layout that
- * was tried covers the run; the reply has the tries and the floor all the same.
+ * layouts give the least that there is.  The reply is none exactly if no layout
+ * that was tried covers the run; it still has the tries and the floor.
  *
  * ---------------------------------------------------------------------------
  * OPEN JOBS
  *
- * A controller meets the hazards one by one, as the rod reaches them.  For it
+ * A controller meets the hazards one by one, as the rod reaches them.  For this
  * a job can stay open: a header, and up to 256 hazards that come and go, each
- * under a name from 0 to 65535: the number of its drawing, say.
+ * under a name from 0 to 65535, for example the number of its drawing.
  *
  *     barrier_open_job job;                         55544 bytes
  *     barrier_open(&job, bytes, bytes_len);         a header, no hazard
@@ -458,37 +462,37 @@
  *     barrier_withdraw(&job, 7);                    7 is free again
  *     barrier_open_schedule(&job, BARRIER_RIGHT, out, out_len);
  *
- * (each of them with its reply looked at).  Opening takes the bytes of a job,
- * of either kind, with hazard count 0.  After whatever list of calls, the
- * schedule is, byte for byte, the one that barrier_plan writes for a job of the
- * same header and the hazards added and not withdrawn since, in any order, and
- * the overhangs are those of that job.  After a return, those that stood when
+ * (look at the reply of each call).  Opening takes the bytes of a job, of
+ * either kind, with hazard count 0.  After any list of calls, the schedule is,
+ * byte for byte, the one that barrier_plan writes for a job of the same header
+ * and the hazards added and not withdrawn since, in any order, and the
+ * overhangs are those of that job.  After a return, the hazards that stood when
  * its state was last kept count as added and not withdrawn.
  *
- *   - A name stands once.  A withdrawn name can be added again, with the same
- *     hazard or another.  One hazard may stand under two names.
+ *   - One hazard stands under a name.  A withdrawn name can be added again,
+ *     with the same hazard or another.  One hazard may stand under two names.
  *   - A hazard is tested when it is added, so that what stands is always an
  *     accepted job.
- *   - 256 hazards stand together at the most.  With so many, an add under a
- *     name that does not stand is refused 15, whatever its hazard.  Room left
- *     by a withdrawal is used again, under whichever name.
- *   - A refused call alters nothing, neither the open job nor the output.
- *   - Opening memory that has an open job already starts anew.
- *   - What stands comes back with barrier_help_standing, under its names;
- *     written with barrier_help_write_job it is the job for barrier_level,
- *     barrier_corners and barrier_offset.
+ *   - At most 256 hazards stand together.  When 256 stand, an add under a name
+ *     that does not stand is refused 15, whatever its hazard is.  Room left by
+ *     a withdrawal is used again, under any name.
+ *   - A refused call changes nothing, neither the open job nor the output.
+ *   - Opening memory that already has an open job starts a new one.
+ *   - barrier_help_standing gives what stands, with its names; written with
+ *     barrier_help_write_job it is the job for barrier_level, barrier_corners
+ *     and barrier_offset.
  *
- * A hazard that is withdrawn, or left out of a job, alters levels near it
- * alone: on its own side, from G millimetres before its envelope to G
- * millimetres behind it.  The envelope is taken with its approaches in whole
- * panels and cut at the ends of the road: it is the one run that barrier_plan
- * writes for a job of the same header with this hazard alone.  G before it may
- * lie below station 0: reckon in signed numbers, or stop there.  At every
- * other millimetre the level is as before, so that a sheet without a
- * millimetre of that stretch shows the same barrier.  The overhangs of that
- * side may alter, and the records of runs that are partly in the stretch.  On
- * the other side, and on both where nobody reaches the hazard, schedule and
- * overhangs stay byte for byte.
+ * A hazard that is withdrawn, or left out of a job, changes levels only near
+ * it: on its own side, from G millimetres before its envelope to G millimetres
+ * after it.  The envelope is taken with its approaches in whole panels and cut
+ * at the ends of the road: it is the one run that barrier_plan writes for a job
+ * of the same header with only this hazard.  The stretch may begin below
+ * station 0: calculate in signed numbers, or begin at 0.  At every other
+ * millimetre the level is as before, so a sheet without a millimetre of that
+ * stretch shows the same barrier.  The overhangs of that side may change, and
+ * so may the records of runs that are partly in the stretch.  On the other
+ * side, and on both where nobody reaches the hazard, schedule and overhangs
+ * stay the same, byte for byte.
  *
  * A designer tries a variant and returns.  For this, up to eight states of an
  * open job can be kept in it, under the numbers 0 to 7: what stands, with its
@@ -501,15 +505,15 @@
  *   - After a return, what stands is what stood when that state was last kept,
  *     whatever was added and withdrawn since.
  *   - Keeping under a used number replaces what was kept there.
- *   - A return leaves every kept state as it is, its own too.
+ *   - A return leaves every kept state as it is, also its own.
  *   - An open job without hazards can be kept.
  *   - Opening empties all eight.
  *
- * An open job lies in memory of yours, a barrier_open_job.  It has unsigned
- * integers alone, no padding and no pointer: it may be copied, moved and
- * compared with memcmp.  Two open jobs are equal, byte for byte, exactly if
- * their headers are equal, the same hazards stand under the same names, and
- * the same states are kept under the same numbers, however they came there.
+ * An open job is in your own memory, a barrier_open_job.  It has only unsigned
+ * integers, no padding and no pointer: it may be copied, moved and compared
+ * with memcmp.  Two open jobs are equal, byte for byte, exactly if their
+ * headers are equal, the same hazards stand under the same names, and the same
+ * states are kept under the same numbers, however they came there.
  *
  * The memory may hold anything when a call gets it.  barrier_open does not
  * look at what it held.  Every other call tests all of it first, and refuses
@@ -517,8 +521,8 @@
  * range, a panel length other than 1 in kind 1, more than 256 hazards, a name
  * twice or out of order, a hazard that an add would refuse with 4 or 5, or
  * anything but 0 in a place where no hazard stands.  The names and hazards of
- * kept states go by the same rules, and where nothing is kept, all is 0.  So
- * memory that was never opened, or written over since, is refused; or it
+ * kept states follow the same rules, and where nothing is kept, all is 0.  So
+ * memory that was never opened, or was written over since, is refused; or it
  * happens to be what some calls would have left, and is taken for that.
  *
  * ---------------------------------------------------------------------------
@@ -540,7 +544,7 @@
  *                                       barrier has no room to deflect
  *      6                                no longer given, and not used again;
  *                                       what it was for is an overhang now
- *      7      index of the first        bytes behind the last hazard
+ *      7      index of the first        bytes after the last hazard
  *             byte left over
  *      8      0                         side above 1, level not 1 to 6, p > q
  *                                       in any range, a p without its q, or a
@@ -577,7 +581,7 @@
  *     barrier_lookup         8, then 10, of the asked side's schedule
  *     barrier_layout         16, then 17
  *     barrier_open           the header's numbers as barrier_plan reads them,
- *                            the hazard count's range being 0 alone; then 7
+ *                            but the hazard count's range is only 0; then 7
  *     barrier_add            3 with 0, then 12, then 15, then the hazard for 4
  *                            and for 5
  *     barrier_withdraw       3 with 0, then 12
@@ -588,20 +592,20 @@
  * A job to which none of 1 to 5 and 7 applies is accepted, on both sides alike.
  *
  * barrier_help_refusal says a refusal in words, barrier_help_remedy what can be
- * done about it.  Beside that:
+ * done about it.  In addition:
  *
- *   - Only the first fault of a job is returned, and no others: mend it and
- *     call again.  To have the faults of all hazards at once, open the header
- *     and add them one by one: each add answers for its own.
- *   - 1, 2, 7 and 10 are of bytes, and so of the program that wrote or kept
- *     them; a user can do nothing about them.
+ *   - Only the first fault of a job is returned, and no others: correct it and
+ *     call again.  To get the faults of all hazards at once, open the header
+ *     and add the hazards one by one: each add answers for its own.
+ *   - 1, 2, 7 and 10 are faults of bytes, and so of the program that wrote or
+ *     stored them; a user can do nothing about them.
  *   - 3 names the header's number: barrier_help_header_name and
  *     barrier_help_header_range have the words.
  *   - 4 names the hazard and not the field.  To show which, test the six ranges
  *     in the table's order: barrier_help_hazard_fault does it.
  *   - 5: measure n again, or plan with a smaller M or with a barrier that
  *     deflects less; M and D are those of the whole job.
- *   - 10 is for any fault anywhere in the schedule, also behind the record that
+ *   - 10 is for any fault anywhere in the schedule, also after the record that
  *     is wanted: a count above 511 or not that of the records, a number not in
  *     shortest form, bytes left over, a length of 0, a level outside 1 to 6, an
  *     end above 1000000000000, touching runs of one level.  It never means that
@@ -617,31 +621,33 @@
  * else is written:
  *
  *   - Done: the complete schedule stands from the output's first byte on, and
- *     the bytes behind it stay as they were; or the open job is changed.
+ *     the bytes after it stay as they were; or the open job is changed.
  *   - Refused: every byte of the output and of the open job stays as it was.
  *
- * Each pointer has to be good for as many bytes as its length says, or
- * numbers for ranges and panel lengths, also where they are too many, and the
- * output for writing too.  A pointer may be NULL where its length is 0.  A
- * pointer to an open job is never NULL; it is good for a whole
- * barrier_open_job, for writing too but in barrier_open_schedule.
+ * Each pointer has to be good for as many bytes as its length says (for ranges
+ * and panel lengths, as many numbers), also where they are too many; the output
+ * has to be good for writing too.  A pointer may be NULL where its length is 0.
+ * A pointer to an open job is never NULL; it has to be good for a whole
+ * barrier_open_job, and for writing too, except in barrier_open_schedule.
  * The output and an open job may overlap nothing else that is lent to the
  * call; buffers that are only read may overlap.  Ranges, panel lengths and an
  * open job are aligned as C aligns their types; bytes need no alignment.  The
- * engine keeps no pointer behind a call.
+ * engine keeps no pointer after a call.
  *
  * ---------------------------------------------------------------------------
  * THREADS
  *
  * The engine has no state, allocates nothing, opens nothing, prints nothing
  * and sets no errno.  Every call returns, whatever bytes it is given.  Any
- * call may run on any thread at any time, several at once too, as long as no
+ * call may run on any thread at any time, also several at once, as long as no
  * thread changes a buffer that another call is using.  So on one open job only
  * one call at a time may open, add, withdraw, keep or return, and no other call
- * with it; calls on different open jobs do not touch each other.  One call of
- * barrier_plan, barrier_level, barrier_corners or barrier_offset takes at most
- * 40 KiB of stack, each of those on an open job at most 64 KiB, without the
- * open job itself, and each of the others less than 2 KiB.
+ * may run with it; calls on different open jobs do not touch each other.  One
+ * call of barrier_plan, barrier_level, barrier_corners or barrier_offset takes
+ * at most 40 KiB of stack, each of those on an open job at most 64 KiB, not
+ * counting the open job itself, and each of the others less than 4 KiB.  The C
+ * keeps to that from -O2 on; without optimisation compilers take more
+ * (docs/PLATFORMS.md).
  *
  * ---------------------------------------------------------------------------
  * PLATFORM AND LINKING
@@ -654,25 +660,28 @@
  *     memset and memmove, and nothing else of a C library.
  *     docs/PLATFORMS.md lists the machines on which it was run.
  *   - libbarrier_engine.a, machine code for x86-64, with the System V calling
- *     convention, in ELF files: Linux on PCs and servers.  The back end of the
- *     toolchain that makes it makes this one alone.
+ *     convention, in ELF files: Linux on PCs and servers.  The toolchain's back
+ *     end, which makes it, makes code for no other platform.
  *
  * Jobs and schedules are bytes that do not depend on the machine.
  *
  * `pkg-config --cflags --libs barrier_engine` prints the flags; they name this
  * header's folder and the archive libbarrier_engine.a.  The archive is position
- * independent, so that it links into programs and shared libraries alike,
- * exports the fifteen calls alone, and asks the C library for nothing but block
- * copies and fills (memcpy, memset and their kin).
+ * independent, so it links into programs and into shared libraries.  It exports
+ * only the fifteen calls, and needs nothing from the C library but block copies
+ * and fills (memcpy, memset and the like).
  *
  * The same engine is installed as a shared library too, libbarrier_engine.so.3,
  * where 3 is the version's first number: `pkg-config --cflags --libs
  * barrier_engine_shared` names it, and so does -lbarrier_engine, because
- * linkers prefer a shared library to an archive of the same name.  In CMake,
- * find_package(barrier_engine 3.2) gives the targets barrier_engine::static
- * and barrier_engine::shared.
+ * linkers prefer a shared library to an archive of the same name.
  *
- * A plug-in links the archive, and keeps its calls to itself:
+ * In CMake, find_package(barrier_engine 3.2) gives the targets
+ * barrier_engine::barrier_engine, which is the archive, and
+ * barrier_engine::shared.  Without an installation, add_subdirectory of the
+ * repository gives barrier_engine::barrier_engine, compiled from the C.
+ *
+ * A plug-in links the archive and does not export its calls:
  *
  *     cc -shared -fPIC plugin.c -o plugin.so \
  *         $(pkg-config --cflags --libs barrier_engine) \
@@ -685,51 +694,52 @@
  * ---------------------------------------------------------------------------
  * VERSIONS
  *
- * A program is compiled with the header of the engine that it links: the linker
+ * Compile a program with the header of the engine that it links: the linker
  * does not see where they differ.  barrier_version says at run time which
  * engine is there, and barrier_help_version_fits(barrier_version()) whether it
- * is one for this header.  What stays and what changes, for programs already
+ * fits this header.  What stays and what changes, for programs already
  * compiled:
  *
- *   - The third number goes up: the header says more, and no call is another.
- *     What is compiled goes on.
+ *   - The third number goes up: the header says more, and no call changes.
+ *     Compiled programs go on working.
  *   - The second number goes up: calls are added, with their constants and
- *     refusals.  What is compiled goes on with the later archive or shared
- *     library as it is.  The other way about it need not: a program compiled
- *     with a later header may ask for calls that an earlier engine lacks.
- *   - The first number goes up: a call that was there takes or replies
- *     something else, or a struct has another size.  Every object that was
- *     compiled with the older header has to be compiled anew; with the archive
- *     it still links, and then hands over other arguments or writes over
- *     memory.  The shared library has another name then, so that a program
- *     finds the one it was linked with or none.
+ *     refusals.  Compiled programs go on working, as they are, with the later
+ *     archive or shared library.  The other way round they may not: a program
+ *     compiled with a later header may ask for calls that an earlier engine
+ *     lacks.
+ *   - The first number goes up: an existing call takes or replies something
+ *     else, or a struct has another size.  Every object that was compiled with
+ *     the older header has to be compiled again; with the archive it still
+ *     links, and then hands over other arguments than the engine takes, or
+ *     writes over memory.  The shared library then has another name, so a
+ *     program finds the one that it was linked with, or none.
  *
  * Structs, the values of constants, and the form of jobs and schedules stay
- * while the first number stays.  What is stored between runs is best a job or a
- * schedule: the fields of an open job may be others in a later version.  A job
- * has no names and no kept states: store the names beside it.  CHANGELOG.md has
- * what a program notices, by version.
+ * while the first number stays.  To store between two starts of a program, take
+ * a job or a schedule: the fields of an open job may be different in a later
+ * version.  A job has no names and no kept states: store the names beside it.
+ * CHANGELOG.md lists by version what a program notices.
  *
  * ---------------------------------------------------------------------------
  * WHAT HAS TO BE BELIEVED
  *
- * That each call replies what its definition says, for every input, is proved;
- * docs/PROMISES.md lists the definitions.  Beside them has to be believed: the
- * toolchain that read the source, its prover, kernel and logic; memcpy and its
- * kin of the C library; the machine; and that the caller keeps to "Memory".
- * Then, by what is linked:
+ * It is proved that each call replies what its definition says, for every
+ * input; docs/PROMISES.md lists the definitions.  Besides them, these have to
+ * be believed: the toolchain that read the source, its prover, kernel and
+ * logic; memcpy and the like of the C library; the machine; and that the caller
+ * keeps to "Memory".  Then, depending on what is linked:
  *
  *   - the archive: the toolchain's back end, the assembler and the linker;
  *   - the C: portable/translator, which wrote it from what is proved, and your
  *     own compiler.  The C itself is not proved.  portable/README.md says how
  *     it is tied to the proofs and how it is tested.
  *
- * That the structs and calls of this header are the engine's is tested, leaf by
- * leaf, and that both agree on the calling convention.  What the stack takes is
- * measured.  barrier_help.h, the examples and the code for Rust and Python are
- * tested and not proved.
+ * It is tested, leaf by leaf, that the structs and calls of this header are the
+ * engine's, and that both agree on the calling convention.  What the stack
+ * takes is measured.  barrier_help.h, the examples and the code for Rust and
+ * Python are tested and not proved.
  *
- * No licence is granted by this file or with it: that is the owner's to give.
+ * No licence is granted by this file or with it: that is for the owner to give.
  */
 #ifndef BARRIER_H
 #define BARRIER_H
@@ -743,21 +753,21 @@ extern "C" {
 
 /*
  * The version of the engine that this header belongs to ("Versions").  All
- * calls but two are there from 3.0.0 on: barrier_layout from 3.1.0,
- * barrier_version from 3.2.0.
+ * calls are there from 3.0.0 on, except two: barrier_layout from 3.1.0 on,
+ * barrier_version from 3.2.0 on.
  */
-#define BARRIER_VERSION "3.2.1"
+#define BARRIER_VERSION "3.2.2"
 #define BARRIER_VERSION_MAJOR 3
 #define BARRIER_VERSION_MINOR 2
-#define BARRIER_VERSION_PATCH 1
+#define BARRIER_VERSION_PATCH 2
 
 /*
  * CONSTANTS
  *
- * BARRIER_SCHEDULE_MAX bytes take the schedule of every job, so that a plan
- * into an output of this size is never refused 9: two bytes for the count, at
- * most twelve for the first record, which has the distance from station 0, and
- * at most eleven for each of 510 more.
+ * BARRIER_SCHEDULE_MAX bytes hold the schedule of every job, so a plan into an
+ * output of this size is never refused 9: two bytes for the count, at most
+ * twelve for the first record, which has the distance from station 0, and at
+ * most eleven for each of 510 more.
  *
  * BARRIER_JOB_MAX is how much of its input the program `barrier` passes on.
  * No accepted job is that long: by the ranges above, the header takes at most
@@ -777,16 +787,16 @@ extern "C" {
  * BARRIER_LENGTHS_MAX is how many panel lengths a layout may have,
  * BARRIER_STOCK_PANEL_MAX the greatest of them, BARRIER_PANELS_EACH_MAX the
  * greatest count of each, and BARRIER_TRIES_MAX the greatest limit on tries,
- * which suffices for every layout of four lengths.
+ * which is enough for every layout of four lengths.
  *
  * BARRIER_RUNS_MAX is the greatest run count of a schedule, BARRIER_RANGES_MAX
  * how many ranges barrier_quantities takes, and BARRIER_STATES how many states
  * an open job keeps, under 0 to BARRIER_STATES - 1.
  *
- * BARRIER_OPEN_STACK_MAX bytes of stack suffice for each call on an open job,
- * BARRIER_STACK_MAX for each of the others.  This is measured and not proved:
- * of the archive as part of its test, and of the C, compiled with -O2 or more,
- * in docs/PLATFORMS.md, which names what takes more.
+ * BARRIER_OPEN_STACK_MAX bytes of stack are enough for each call on an open
+ * job, BARRIER_STACK_MAX for each of the others.  This is measured and not
+ * proved: for the archive as part of its test, and for the C, compiled with -O2
+ * or more, in docs/PLATFORMS.md, which names what takes more.
  */
 #define BARRIER_SCHEDULE_MAX 5624
 #define BARRIER_JOB_MAX 8192
@@ -806,9 +816,9 @@ extern "C" {
 #define BARRIER_OPEN_STACK_MAX 65536
 
 /*
- * The sides of the road, of one who looks towards rising stations, where
- * traffic drives on the right.  Where it drives on the left they are handed
- * over swapped: forward traffic drives beside BARRIER_RIGHT ("Sides and
+ * The sides of the road, as seen by a person who looks towards rising stations,
+ * where traffic drives on the right.  Where it drives on the left they are
+ * handed over swapped: forward traffic drives beside BARRIER_RIGHT ("Sides and
  * traffic").
  */
 enum barrier_side {
@@ -860,7 +870,7 @@ enum barrier_number {
 
 /*
  * What barrier_level, barrier_quantity and the calls on an open job reply,
- * but for its schedule.
+ * except for its schedule.
  *
  *     number    BARRIER_DONE, or the refusal's number
  *     value     done: the level (level), millimetres (quantity) or 0 (open,
@@ -879,7 +889,7 @@ typedef struct {
  *     value     done: bytes written; refused: the refusal's value
  *     before    done: the greatest overhang before A, in millimetres, among the
  *               asked side's hazards, 0 where there is none; refused: 0
- *     after     done: the greatest overhang behind B, likewise; refused: 0
+ *     after     done: the greatest overhang after B, likewise; refused: 0
  */
 typedef struct {
     uint64_t number;
@@ -897,7 +907,7 @@ typedef struct {
  *     records       done: the records read, which are the schedule's runs;
  *                   refused: 0
  *     quantities    done: the millimetres of each range, in the ranges' order,
- *                   and 0 behind them; refused: 0 everywhere
+ *                   and 0 after them; refused: 0 everywhere
  */
 typedef struct {
     uint64_t number;
@@ -1031,13 +1041,14 @@ typedef struct {
  *
  * The approach length is the one that is planned with this M: by the rule for
  * the straight part, raised to whole panels, and not cut at A and B.  It never
- * grows with M, so every greater offset that leaves the barrier its room is
- * short enough too.  The job's own M plays no part in it, but the job has to be
- * accepted with it: one that is refused 5 for its own M can be asked with M 0
- * in its header.  Where the offset found is not above the job's own, the job's
- * own is short enough already.
+ * grows with M, so it is short enough too with every greater offset that leaves
+ * the barrier its room.  The job's own M plays no part in it, but the job has
+ * to be accepted with it: for a job that is refused 5 for its own M, ask with M
+ * 0 in its header.  Where the offset found is not above the job's own, the
+ * approach is short enough already with the job's own.
  * The job's other hazards do not count: an offset that is put into the header
- * is that of all of them, and one that stands nearer may then be refused 5.
+ * is that of all of them, and a hazard that stands nearer may then be refused
+ * 5.
  *
  *     The sample job: n 5000 and D 1000, so M is at most 4000.
  *
@@ -1082,10 +1093,10 @@ barrier_reply barrier_quantity(const uint8_t *schedule, size_t schedule_len,
  * records is the schedule's run count.
  * Refused: 8, 11 or 10.
  *
- * The ranges may overlap, repeat, be empty and stand in any order.  They are
- * tested all, also behind the 64th: where one has p > q, or the last p has no
- * q, the call is refused 8 and not 11.  With no range at all (NULL, 0) level
- * and schedule are tested, and records counted, all the same.
+ * The ranges may overlap, repeat, be empty and stand in any order.  All of them
+ * are tested, also those after the 64th: where one has p > q, or the last p has
+ * no q, the call is refused 8 and not 11.  With no range at all (NULL, 0) level
+ * and schedule are still tested, and records counted.
  *
  * The quantities of the lots of a road add up to that of the road, as those of
  * single calls do.
@@ -1124,10 +1135,10 @@ barrier_record barrier_lookup(const uint8_t *right, size_t right_len,
  *                when refused
  *     overrun    found: the smallest overrun among those tried; else 0
  *     counts     found: the first layout that has it, a count for each length
- *                in their order, and 0 behind them; else 0 everywhere
+ *                in their order, and 0 after them; else 0 everywhere
  *     tries      done, found or not: the tries made; refused: 0
- *     floor      done, found or not: what no covering layout overruns by less
- *                than; refused: 0
+ *     floor      done, found or not: no covering layout overruns by less than
+ *                this; refused: 0
  */
 typedef struct {
     uint64_t number;
@@ -1151,13 +1162,14 @@ typedef struct {
  *     limit                   the most tries, 1 to BARRIER_TRIES_MAX
  *
  * Done: found is 1, with the overrun and the layout; or found is 0, and no
- * layout that was tried covers the run.  tries and floor stand in both.
+ * layout that was tried covers the run.  tries and floor are given in both
+ * cases.
  * Refused: 16 or 17, with 0.
  *
  * A run of 0 is covered by the first try, which has no panels.  Where found is
- * 0, a greater limit may find a layout; but none covers the run if every
- * layout was tried (tries is then 16, 256, 4096 or 65536, by the number of
- * lengths), as with BARRIER_TRIES_MAX it always is.
+ * 0, a greater limit may find a layout; but none covers the run if every layout
+ * was tried (tries is then 16, 256, 4096 or 65536, depending on the number of
+ * lengths), which is always so with BARRIER_TRIES_MAX.
  */
 barrier_layout_reply barrier_layout(const uint64_t *lengths, size_t lengths_len,
                                     uint64_t run, uint64_t limit);
@@ -1177,7 +1189,7 @@ typedef struct {
 
 /*
  * A place of an open job.  Its fields are the engine's: they are declared so
- * that room can be made for them, and may be others in a later version.
+ * that room can be made for them, and may be different in a later version.
  */
 typedef struct {
     uint64_t start;
@@ -1190,7 +1202,7 @@ typedef struct {
 } barrier_place;
 
 /*
- * What is kept under one state number, the engine's too.  Where a state is
+ * What is kept under one state number, also the engine's.  Where a state is
  * kept, `used` is 1 and the rest as in an open job; where none is, all is 0.
  */
 typedef struct {
@@ -1236,7 +1248,7 @@ typedef struct {
  * Refused: 1, 2, 3 or 7.  The open job stays as it was.
  *
  * A hazard count above 0 is refused 3 with its header number (14, for kind 2
- * 15), at that number: nothing behind it is read.
+ * 15), at that number: nothing after it is read.
  */
 barrier_reply barrier_open(barrier_open_job *job, const uint8_t *bytes, size_t bytes_len);
 
@@ -1265,7 +1277,7 @@ barrier_reply barrier_add(barrier_open_job *job, uint16_t name, barrier_hazard h
  *     job     the open job
  *     name    the name under which the hazard stands, 0 to BARRIER_NAME_MAX
  *
- * Done: value is 0, and the name can be added again; or another one, in the
+ * Done: value is 0, and the name can be added again, or another one, in the
  * room that is left.
  * Refused: 3 with 0, or 12 with the name.  The open job stays as it was.
  */
@@ -1313,7 +1325,7 @@ barrier_reply barrier_return(barrier_open_job *job, uint64_t state);
 
 /*
  * Version: that of the engine which is linked, or loaded, as one number:
- * MAJOR * 1000000 + MINOR * 1000 + PATCH, 3002001 for 3.2.1.  The macros
+ * MAJOR * 1000000 + MINOR * 1000 + PATCH, 3002002 for 3.2.2.  The macros
  * BARRIER_VERSION_MAJOR, BARRIER_VERSION_MINOR and BARRIER_VERSION_PATCH are
  * this header's; where the two differ, "Versions" says what may be done.
  */

@@ -6,7 +6,7 @@
  *     barrier_help_standing          what stands in an open job, as structs
  *     barrier_help_walk_of           a schedule run by run, with stations:
  *     barrier_help_next_run          start, end and level
- *     barrier_help_refusal           a refusal in words, by the call it is of
+ *     barrier_help_refusal           a refusal in words, by its call
  *     barrier_help_remedy            what can be done about it
  *     barrier_help_call_name         the name of a call in C
  *     barrier_help_header_name       what a header's numbers are called, and
@@ -19,10 +19,10 @@
  *     barrier_help_mm_of_text        and to the nearest
  *     barrier_help_mm_of_double      from a double, to the nearest
  *     barrier_help_metres            millimetres to a text of metres
- *     barrier_help_metres_signed     the same below 0 too
+ *     barrier_help_metres_signed     the same, also below 0
  *     barrier_help_mm_of_kilometres  a station like 1+250.000 to millimetres,
  *     barrier_help_kilometres        and back,
- *     barrier_help_kilometres_signed below 0 too
+ *     barrier_help_kilometres_signed also below 0
  *     barrier_help_swap_side         where traffic drives on the left
  *     barrier_help_turn_hazard       where it travels towards falling stations:
  *     barrier_help_turn_run          a hazard, a run,
@@ -34,23 +34,24 @@
  *     barrier_help_put_number        bytes it takes, written
  *     barrier_help_get_number        and read
  *
- * All of it is in this file, in C99 that is C++11 and later too: nothing has to
- * be linked for it.  It takes no heap, prints nothing and keeps no pointer but
- * the one in a walk.  Memory is the caller's, and each function stays within
- * the lengths that it is given.  A pointer may be NULL where its length is 0.
+ * All of it is in this file, in C99 that is also C++11 and later: nothing has
+ * to be linked for it.  It takes no heap, prints nothing and keeps no pointer
+ * but the one in a walk.  Memory is the caller's, and each function stays
+ * within the lengths that it is given.  A pointer may be NULL where its length
+ * is 0.
  *
  * Nothing here judges a job or a schedule: ranges and all other rules are for
  * the engine to test.  barrier.h is the manual; examples/first.c is a first
  * program.
  *
- * TEXTS.  A function that writes a text takes its room in bytes, the closing
- * zero counted.  It writes the whole text or, where the room does not suffice,
- * an empty one (nothing at all into a room of 0), because a number cut short is
+ * TEXTS.  A function that writes a text takes its room in bytes, including the
+ * closing zero.  It writes the whole text or, where the room is too small, an
+ * empty one (nothing at all into a room of 0), because a number cut short is
  * another number.  It gives the text's length, 0 where it did not fit.
- * BARRIER_HELP_TEXT_MAX bytes take each of the texts.  Texts are English, in
+ * BARRIER_HELP_TEXT_MAX bytes hold each of the texts.  Texts are English, in
  * ASCII, without a line end.
  *
- * Names that begin with barrier_help_p_ are private: they may be others in a
+ * Names that begin with barrier_help_p_ are private: they may be different in a
  * later version.
  */
 #ifndef BARRIER_HELP_H
@@ -100,7 +101,7 @@ enum barrier_help_call {
 };
 
 /*
- * The header of a job, with barrier.h's letters.  Lengths and stations are
+ * The header of a job, with the letters of barrier.h.  Lengths and stations are
  * millimetres.  The hazard count is not in it: it goes with the hazards.
  */
 typedef struct {
@@ -136,8 +137,8 @@ static inline size_t barrier_help_number_length(uint64_t value)
 
 /*
  * Writes a number in its form; gives its bytes, or 0 and writes nothing where
- * the room does not suffice.  Any 64-bit number is written.  The engine takes
- * six bytes at the most, and refuses a longer number with 2.
+ * the room is too small.  Any 64-bit number is written.  The engine takes at
+ * most six bytes, and refuses a longer number with 2.
  */
 static inline size_t barrier_help_put_number(uint64_t value, uint8_t *out, size_t room)
 {
@@ -154,7 +155,7 @@ static inline size_t barrier_help_put_number(uint64_t value, uint8_t *out, size_
 }
 
 /*
- * Reads the number at *at and moves *at behind it.  Gives BARRIER_HELP_OK; or
+ * Reads the number at *at and moves *at past it.  Gives BARRIER_HELP_OK; or
  * ENDS_EARLY, or NO_NUMBER where it is not in shortest form or 64 bits do not
  * hold it, and then *at and *value stay as they were.
  */
@@ -169,7 +170,7 @@ static inline enum barrier_help_result barrier_help_get_number(const uint8_t *by
         if (i >= length)
             return BARRIER_HELP_ENDS_EARLY;
         group = bytes[i] & 0x7FU;
-        /* Of the tenth group one bit is left. */
+        /* The tenth group has one bit left. */
         if (shift == 63 && group > 1)
             return BARRIER_HELP_NO_NUMBER;
         gathered |= group << shift;
@@ -186,7 +187,7 @@ static inline enum barrier_help_result barrier_help_get_number(const uint8_t *by
 
 /* ---- Jobs --------------------------------------------------------------- */
 
-/* Writes numbers behind *length bytes, or only counts them where out is NULL. */
+/* Writes numbers after *length bytes, or only counts them where out is NULL. */
 static inline int barrier_help_p_put(const uint64_t *numbers, size_t count, uint8_t *out,
                                      size_t room, size_t *length)
 {
@@ -202,7 +203,7 @@ static inline int barrier_help_p_put(const uint64_t *numbers, size_t count, uint
     return 1;
 }
 
-/* The kind that is written: 0 goes by the panel length. */
+/* The kind that is written: for 0 it follows from the panel length. */
 static inline uint64_t barrier_help_p_kind(const barrier_help_header *header)
 {
     if (header->kind != 0)
@@ -246,7 +247,7 @@ static inline void barrier_help_p_hazard(const barrier_hazard *hazard, uint64_t 
     numbers[5] = hazard->level;
 }
 
-/* The job's length, or 0 where the room does not suffice; see barrier_help_p_put. */
+/* The job's length, or 0 where the room is too small; see barrier_help_p_put. */
 static inline size_t barrier_help_p_job(const barrier_help_header *header,
                                         const barrier_hazard *hazards, size_t count, uint8_t *out,
                                         size_t room)
@@ -267,14 +268,14 @@ static inline size_t barrier_help_p_job(const barrier_help_header *header,
 
 /*
  * Writes a job: the header, the hazard count, the hazards in their order.
- * Gives its length, or 0 and writes nothing where the room does not suffice.
- * BARRIER_JOB_LONGEST bytes take each job that the engine accepts.  With out
- * NULL and room SIZE_MAX it gives the length alone.
+ * Gives its length, or 0 and writes nothing where the room is too small.
+ * BARRIER_JOB_LONGEST bytes hold each job that the engine accepts.  With out
+ * NULL and room SIZE_MAX it only gives the length.
  *
  * Ranges are not tested: whatever the numbers are, they are written, and the
- * engine says what is wrong with them.  Leave the kind 0, and it is 2 where
+ * engine says what is wrong with them.  If the kind is left 0, it is 2 where
  * there is a panel length and 1 where there is none.  A kind that is given is
- * written: with 2 the panel length too, with every other without it.  For
+ * written: kind 2 with the panel length, every other kind without it.  For
  * barrier_open the count is 0, and the hazards may be NULL.
  */
 static inline size_t barrier_help_write_job(const barrier_help_header *header,
@@ -285,7 +286,7 @@ static inline size_t barrier_help_write_job(const barrier_help_header *header,
     return length == 0 ? 0 : barrier_help_p_job(header, hazards, count, out, room);
 }
 
-/* Reads so many numbers. */
+/* Reads that many numbers. */
 static inline enum barrier_help_result barrier_help_p_get(const uint8_t *bytes, size_t length,
                                                           size_t *at, uint64_t *numbers,
                                                           size_t count)
@@ -297,7 +298,7 @@ static inline enum barrier_help_result barrier_help_p_get(const uint8_t *bytes, 
     return result;
 }
 
-/* Reads a header and the hazard count behind it. */
+/* Reads a header and the hazard count after it. */
 static inline enum barrier_help_result barrier_help_p_get_header(const uint8_t *bytes,
                                                                  size_t length, size_t *at,
                                                                  barrier_help_header *header,
@@ -351,9 +352,9 @@ static inline enum barrier_help_result barrier_help_p_get_hazard(const uint8_t *
 
 /*
  * Reads a job of kind 1 or 2 back: its header, and its hazards into a room for
- * so many of them; BARRIER_HAZARDS_MAX take each job that the engine accepts.
- * *count is how many they are, 0 unless the result is BARRIER_HELP_OK.  A header
- * of kind 1 gets panel 0.
+ * that many of them; BARRIER_HAZARDS_MAX hold each job that the engine accepts.
+ * *count is how many they are, 0 unless the result is BARRIER_HELP_OK.  A
+ * header of kind 1 gets panel 0.
  *
  * The numbers may be out of their ranges: that these bytes can be read does not
  * say that the engine accepts them.  Where the result is not BARRIER_HELP_OK,
@@ -386,11 +387,11 @@ static inline enum barrier_help_result barrier_help_read_job(const uint8_t *job,
 
 /*
  * What stands in an open job: its header, and the hazards with their names into
- * a room for so many of each; BARRIER_HAZARDS_MAX always suffice.  *count is how
- * many they are, 0 unless the result is BARRIER_HELP_OK.  They stand in rising
- * order of their names.  Written with barrier_help_write_job they are the job
- * for barrier_level, barrier_corners and barrier_offset, in which the index of
- * a hazard is its index here.
+ * a room for that many of each; BARRIER_HAZARDS_MAX are always enough.  *count
+ * is how many they are, 0 unless the result is BARRIER_HELP_OK.  They stand in
+ * rising order of their names.  Written with barrier_help_write_job they are
+ * the job for barrier_level, barrier_corners and barrier_offset, in which the
+ * index of a hazard is its index here.
  *
  * Only for memory that a call has just taken for an open job: it is not tested.
  */
@@ -442,20 +443,20 @@ typedef struct {
 
 /*
  * A walk over a schedule, whose bytes stay the caller's and have to stay there
- * until the walk is over.  `result` is the one field to look at, behind the
- * last run: BARRIER_HELP_OK says that all runs were given and the bytes end
- * with them; any other, that these bytes are no schedule and the runs given may
- * not be all.
+ * until the walk is over.  `result` is the one field to look at, after the last
+ * run: BARRIER_HELP_OK says that all runs were given and the bytes end with
+ * them; any other result says that these bytes are not a schedule and that the
+ * runs given may not be all.
  *
  *     ENDS_EARLY      the bytes end before or inside a number
  *     NO_NUMBER       a number that is not in its form
  *     OUT_OF_RANGE    a run without length, one that ends above
  *                     BARRIER_STATION_MAX, a level that is not 1 to 6, or more
  *                     than BARRIER_RUNS_MAX runs
- *     LEFT_OVER       bytes behind the last run
+ *     LEFT_OVER       bytes after the last run
  *
- * Whether bytes are a schedule, in all its rules, barrier_quantity says, asked
- * for any level over [0, 0): done or refused 10.
+ * barrier_quantity says whether bytes are a schedule by all its rules, if it is
+ * asked for any level over [0, 0): done or refused 10.
  */
 typedef struct {
     const uint8_t *bytes;
@@ -552,7 +553,7 @@ static inline void barrier_help_p_words(barrier_help_p_text *into, const char *w
         barrier_help_p_letter(into, *words);
 }
 
-/* In at least so many digits. */
+/* In at least that many digits. */
 static inline void barrier_help_p_digits(barrier_help_p_text *into, uint64_t value, int least)
 {
     char digits[20];
@@ -662,7 +663,7 @@ static inline const char *barrier_help_hazard_range(size_t place)
  * The place, 0 to 5, of the first of a hazard's numbers that is out of its
  * range on the road [begin, end); BARRIER_HELP_HAZARD_NUMBERS where none is.
  * Refusal 4 names the hazard and not the number: this is to show which.  The
- * engine is the judge all the same.
+ * engine is still the judge.
  */
 static inline size_t barrier_help_hazard_fault(uint64_t begin, uint64_t end,
                                                const barrier_hazard *hazard)
@@ -928,7 +929,7 @@ static inline size_t barrier_help_p_fill(const char *words, uint64_t value, char
  * because number and value mean different things: 3 with 0 comes of the memory
  * of an open job, 3 with another value of a header; 4 and 5 carry the index of
  * a hazard in a job, but the name from barrier_add; 12 always carries a name.
- * Number 0 is "done"; what a call never replies is said to be that.
+ * Number 0 is "done"; for what a call never replies, the text says so.
  */
 static inline size_t barrier_help_refusal(enum barrier_help_call call, uint64_t number,
                                           uint64_t value, char *text, size_t room)
@@ -974,10 +975,10 @@ static inline enum barrier_help_result barrier_help_p_mm_of_text(const char *met
     const int negative = sign && metres[0] == '-';
     uint64_t count = 0;
     int digits = 0;
-    int decimals = -1; /* behind the point; -1 before it */
+    int decimals = -1; /* after the point; -1 before it */
     int missing;
     int half = 0; /* the part below a millimetre is half of one or more, */
-    int part = 0; /* or there is one at all */
+    int part = 0; /* or there is such a part at all */
     int raised;
     size_t i;
     for (i = sign ? 1 : 0; i < length; i++) {
@@ -1010,15 +1011,15 @@ static inline enum barrier_help_result barrier_help_p_mm_of_text(const char *met
 }
 
 /*
- * Metres, as decimal text of so many bytes, to millimetres: to the nearest,
+ * Metres, as decimal text of that many bytes, to millimetres: to the nearest,
  * halves away from zero, exactly.  "155.7725" is 155773, "155.7724999" is
  * 155772.  The text is digits with a point among them or at either end, or
- * without one, behind + or - if wanted, and nothing else: no comma, no space,
- * no exponent, no unit.
+ * without one, after + or - if wanted, and nothing else: no comma, no space, no
+ * exponent, no unit.
  *
  * FOR A HAZARD ROUND OUTWARDS: its first station and near offset down, its end
- * station and far offset up.  So the hazard that is planned is never the smaller
- * one.  The two functions below do it.
+ * station and far offset up.  So the hazard that is planned is never smaller
+ * than the one that was measured.  The two functions below do it.
  *
  * Gives BARRIER_HELP_OK; NO_NUMBER where the text is something else; or
  * OUT_OF_RANGE where the millimetres are below 0 or above BARRIER_STATION_MAX,
@@ -1047,8 +1048,8 @@ static inline enum barrier_help_result barrier_help_mm_of_text_up(const char *me
 /*
  * Metres in a double to millimetres: the product with 1000, which is a double
  * again, to the nearest, halves away from zero.  A double holds most decimals
- * only nearly, so that a half millimetre may go either way: where it matters,
- * take text.  Results as for text; a NaN is NO_NUMBER, infinities are
+ * only approximately, so a half millimetre may go either way: where it matters,
+ * use text.  Results as for text; a NaN is NO_NUMBER, infinities are
  * OUT_OF_RANGE.
  */
 static inline enum barrier_help_result barrier_help_mm_of_double(double metres, uint64_t *mm)
@@ -1079,13 +1080,13 @@ static inline size_t barrier_help_metres(uint64_t mm, char *text, size_t room)
     return barrier_help_p_close(&into);
 }
 
-/* The same below 0 too, for a corner's station or A - before: -4227 is "-4.227". */
+/* The same, also below 0, for a corner's station or A - before: -4227 is "-4.227". */
 static inline size_t barrier_help_metres_signed(int64_t mm, char *text, size_t room)
 {
     size_t length;
     if (mm >= 0)
         return barrier_help_metres((uint64_t)mm, text, room);
-    /* 0 less the number, in unsigned numbers: the least one has no opposite. */
+    /* 0 minus the number, in unsigned numbers: the least one has no opposite. */
     length = room == 0 ? 0 : barrier_help_metres(0 - (uint64_t)mm, text + 1, room - 1);
     if (room > 0)
         text[0] = length == 0 ? '\0' : '-';
@@ -1137,7 +1138,7 @@ static inline size_t barrier_help_kilometres(uint64_t mm, char *text, size_t roo
     return barrier_help_p_close(&into);
 }
 
-/* The same below 0 too: -4227 is "-0+004.227". */
+/* The same, also below 0: -4227 is "-0+004.227". */
 static inline size_t barrier_help_kilometres_signed(int64_t mm, char *text, size_t room)
 {
     size_t length;
@@ -1152,9 +1153,9 @@ static inline size_t barrier_help_kilometres_signed(int64_t mm, char *text, size
 /* ---- Roads that are not driven as the engine has it --------------------- */
 
 /*
- * The other side, for a road whose traffic drives on the left: of a hazard
- * before it is handed over, of the side that is asked for, and of what is said
- * of the answer.  What is no side stays as it is.
+ * The other side, for a road whose traffic drives on the left: for a hazard
+ * before it is handed over, for the side that is asked for, and for what is
+ * said about the answer.  A number that is not a side stays as it is.
  */
 static inline uint64_t barrier_help_swap_side(uint64_t side)
 {
@@ -1167,8 +1168,8 @@ static inline uint64_t barrier_help_swap_side(uint64_t side)
  * turned, ask for the other side at the turned station, and turn back what is
  * replied: each of these undoes itself.  On a two-way road turn nothing.
  *
- * What lies on the road stays on it, and what lies outside stays outside, where
- * the engine refuses it: no number is tested here.
+ * What is on the road stays on it, and what is outside stays outside, where the
+ * engine refuses it: no number is tested here.
  */
 static inline barrier_hazard barrier_help_turn_hazard(uint64_t begin, uint64_t end,
                                                       barrier_hazard hazard)
@@ -1180,7 +1181,7 @@ static inline barrier_hazard barrier_help_turn_hazard(uint64_t begin, uint64_t e
     return hazard;
 }
 
-/* A run; the runs of a schedule then fall, so take them from the last on. */
+/* A run; the runs of a schedule then fall, so take them from the last one on. */
 static inline barrier_help_run barrier_help_turn_run(uint64_t begin, uint64_t end,
                                                      barrier_help_run run)
 {
@@ -1190,7 +1191,7 @@ static inline barrier_help_run barrier_help_turn_run(uint64_t begin, uint64_t en
     return run;
 }
 
-/* A station that is asked for, the millimetre from it to the next. */
+/* A station that is asked for: the millimetre from it to the next. */
 static inline uint64_t barrier_help_turn_station(uint64_t begin, uint64_t end, uint64_t station)
 {
     return begin + end - 1 - station;
@@ -1218,7 +1219,7 @@ static inline barrier_plan_reply barrier_help_turn_overhangs(barrier_plan_reply 
 /*
  * Whether a program compiled with this header may use an engine of that
  * version, as barrier_version replies it: the same first number, and a second
- * one that is not smaller.  The third alters no call.
+ * one that is not smaller.  The third changes no call.
  */
 static inline int barrier_help_version_fits(uint32_t linked)
 {

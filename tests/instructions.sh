@@ -4,7 +4,7 @@
 set -eu
 cd "$(dirname "$0")"
 command -v valgrind >/dev/null || { echo "instructions: valgrind is wanted, and is not on this machine" >&2; exit 1; }
-cargo build --quiet --release --locked -p bench
+BARRIER_LIB_DIR=${BARRIER_LIB_DIR:-$(cd .. && pwd)/target/staticlib} cargo build --quiet --release --locked -p bench
 
 tmp=$(mktemp -d)
 trap 'rm -rf "$tmp"' EXIT

@@ -3,7 +3,8 @@
 is refused, a variant is tried and taken back, and the office gets its schedule,
 quantities, panels and corner points.
 
-    BARRIER_LIBRARY=/path/to/libbarrier_engine.so python3 day.py
+    pip install ./bindings/python
+    python3 examples/python/day.py
 
 The rod reads metres; the engine takes whole millimetres.  A hazard's first
 station and near offset are rounded down, its end station and far offset up, so
@@ -14,6 +15,7 @@ from __future__ import annotations
 import sys
 from typing import List, Sequence, Tuple
 
+import needs_package  # noqa: F401
 import barrier_engine as engine
 from barrier_engine import Hazard, Header, OpenJob, Refused, Rounding, Schedule, Side
 

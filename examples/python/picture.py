@@ -18,7 +18,7 @@ hazards, runs and approaches as lines for a CAD program, and no picture unless
 
 Ends with 0; with 1 where the engine refuses the job, which is said on standard
 error, and nothing is written; with 2 where the words are wrong, the job cannot
-be read or the output not be written.
+be read, the output not be written, or the package barrier_engine is not found.
 """
 from __future__ import annotations
 
@@ -29,6 +29,7 @@ import stat
 import sys
 from typing import List, Optional, Tuple
 
+import needs_package  # noqa: F401
 from barrier_engine import (
     HAZARD_NUMBERS, Job, LibraryError, Malformed, Number, Refused, Rounding, TextJob,
     hazard_fault, millimetres, read_job, station_of_kilometres,

@@ -58,7 +58,7 @@ refused offset example '  offset: refused 14 with 0, no such hazard, or adjacent
 refused quantities example '  lots: refused 10 with 0, these bytes are not a schedule'
 refused quantity example '  road: refused 10 with 0, these bytes are not a schedule'
 refused nothing example '  near offset 3999: done, but it should be refused'
-grep -qx '  overhang on the right: 2 mm before the road, 3 mm behind it' "$tmp/nothing/c" || fail "the overhangs of plan"
+grep -qx '  overhang on the right: 2 mm before the road, 3 mm after it' "$tmp/nothing/c" || fail "the overhangs of plan"
 grep -qx '  approach of at most 37807 mm: offset 7' "$tmp/nothing/c" || fail "the offset"
 grep -qx '  approach of at most 37806 mm: none' "$tmp/nothing/c" || fail "no offset"
 for corner in 'upstream (-1, 2)' 'flare    (3, -4)' 'hazard   (5, 6)'; do
@@ -70,7 +70,7 @@ refused withdraw open_job '  withdraw 7: refused 12 with 7'
 refused open_schedule open_job '  schedule: refused 3 with 0'
 refused keep open_job '  keep 0: refused 13 with 0'
 refused return_to open_job '  return 0: refused 13 with 0'
-grep -qx '    overhang: 4 mm before the road, 5 mm behind it' "$tmp/keep/c" || fail "the overhangs of an open job"
+grep -qx '    overhang: 4 mm before the road, 5 mm after it' "$tmp/keep/c" || fail "the overhangs of an open job"
 refused nothing open_job '  add 7: done'
 refused layout layout '  run 54227, at most 14 tries: refused 17 with 0'
 refused nothing layout '  no length: done, but it should be refused'

@@ -33,13 +33,13 @@ grep -q "^ \*     barrier_open_job job;  *$size bytes\$" include/barrier.h || {
     exit 1
 }
 $CC -std=c99 $warnings -Wpadded -x c include/barrier.h
-rust_size=$(sed -n 's/.*size_of::<OpenJob>() == \([0-9_]*\).*/\1/p' examples/rust/src/barrier.rs | tr -d _)
+rust_size=$(sed -n 's/.*size_of::<OpenJob>() == \([0-9_]*\).*/\1/p' bindings/rust/src/c.rs | tr -d _)
 [ "$rust_size" = "$size" ] || {
     echo "header: in Rust an open job has $rust_size bytes, not $size" >&2
     exit 1
 }
 schedule=$(sed -n 's/^#define BARRIER_SCHEDULE_MAX \([0-9]*\)$/\1/p' include/barrier.h)
-grep -qx "pub const SCHEDULE_MAX: usize = $schedule;" examples/rust/src/barrier.rs || {
+grep -qx "pub const SCHEDULE_MAX: usize = $schedule;" bindings/rust/src/constants.rs || {
     echo "header: in Rust the longest schedule has not $schedule bytes" >&2
     exit 1
 }
@@ -49,7 +49,7 @@ echo "header: an open job has $size bytes, as named, without padding; this and t
 tmp=$(mktemp -d)
 trap 'rm -rf "$tmp"' EXIT
 sed -n '/^enum barrier_number {/,/^}/s/^    BARRIER_\([A-Z_]*\) = \([0-9]*\),*$/\1 \2/p' include/barrier.h >"$tmp/header"
-sed -n '/The numbers of the refusal table/,/^$/s/^pub const \([A-Z_]*\): u64 = \([0-9]*\);$/\1 \2/p' examples/rust/src/barrier.rs >"$tmp/rust"
+sed -n '/The numbers of the refusal table/,/^$/s/^pub const \([A-Z_]*\): u64 = \([0-9]*\);$/\1 \2/p' bindings/rust/src/constants.rs >"$tmp/rust"
 diff "$tmp/header" "$tmp/rust"
 awk 'BEGIN { print 0 }
     /^ \*     number  value/ { table = 1 }

@@ -7,7 +7,7 @@ tmp=$(mktemp -d)
 trap 'rm -rf "$tmp"' EXIT
 # What the caller's make was told (PREFIX, say) is not for this one.
 install_to() {
-    MAKEFLAGS='' make -s -f Makefile.vendor install LIBDIR="$LIBDIR" CC="$CC" "$@"
+    MAKEFLAGS='' make -s -f Makefile.vendor install LIBDIR="$LIBDIR" CC="$CC" "$@" >"$tmp/install"
 }
 uninstall_from() {
     MAKEFLAGS='' make -s -f Makefile.vendor uninstall LIBDIR="$LIBDIR" "$@"
@@ -19,6 +19,8 @@ tree() {
 
 # Staged, as packagers do: the files lie below DESTDIR and name PREFIX.
 install_to PREFIX=/opt/barrier DESTDIR="$tmp/stage"
+grep -qx "installing the archive $LIBDIR/libbarrier_engine.a" "$tmp/install"
+cmp "$LIBDIR/libbarrier_engine.a" "$tmp/stage/opt/barrier/lib/libbarrier_engine.a"
 major=$(sed -n 's/^#define BARRIER_VERSION_MAJOR //p' include/barrier.h)
 printf '%s\n' include/barrier.h include/barrier_help.h \
     lib/cmake/barrier_engine/barrier_engineConfig.cmake lib/cmake/barrier_engine/barrier_engineConfigVersion.cmake \
@@ -38,17 +40,47 @@ if grep -rlIF "$tmp" "$tmp/stage"; then
 fi
 grep -qx 'prefix=/opt/barrier' "$tmp/stage/opt/barrier/lib/pkgconfig/barrier_engine.pc"
 
-# Without the archive: what is missing and what to name, and nothing is built.
-mkdir "$tmp/fresh"
+# A folder that is named and has no archive: what is missing and what to name, and
+# nothing is built.
+mkdir -p "$tmp/fresh/portable"
 cp -r Makefile.vendor include cmake barrier_engine.pc.in "$tmp/fresh"
+cp portable/barrier_engine.c "$tmp/fresh/portable"
 for folder in target/staticlib "$tmp/none"; do
     if (cd "$tmp/fresh" && MAKEFLAGS='' make -s -f Makefile.vendor install LIBDIR="$folder" CC="$CC" PREFIX="$tmp/nothing") >"$tmp/said" 2>&1; then
         echo "install: it installs without an archive" >&2
         exit 1
     fi
     grep -qx "there is no $folder/libbarrier_engine.a: name the folder that has the archive, LIBDIR=FOLDER" "$tmp/said"
+    # The same where the environment names it.
+    if (cd "$tmp/fresh" && LIBDIR="$folder" MAKEFLAGS='' make -s -f Makefile.vendor install CC="$CC" PREFIX="$tmp/nothing") >"$tmp/said" 2>&1; then
+        echo "install: it installs without an archive" >&2
+        exit 1
+    fi
 done
 [ ! -e "$tmp/nothing" ] && [ ! -e "$tmp/fresh/target" ]
+
+# No folder named: the engine compiled from the C, with another compiler each time
+# that one is named; or the proved archive, where it is built.
+install_fresh() {
+    (cd "$tmp/fresh" && unset LIBDIR && MAKEFLAGS='' make -s -f Makefile.vendor install PREFIX="$tmp/from_c" CC="$1") >"$tmp/install"
+}
+for compiler in "$CC" "$CC -fno-inline"; do
+    install_fresh "$compiler"
+    grep -qx "installing the engine compiled from portable/barrier_engine.c by $compiler" "$tmp/install"
+    $compiler -std=c99 -O2 -fPIC -Iinclude -c portable/barrier_engine.c -o "$tmp/barrier_engine.o"
+    ar p "$tmp/from_c/lib/libbarrier_engine.a" barrier_engine.o | cmp - "$tmp/barrier_engine.o"
+done
+$CC -std=c99 examples/first.c -I"$tmp/from_c/include" "$tmp/from_c/lib/libbarrier_engine.a" -o "$tmp/first"
+"$tmp/first" | diff examples/first.out -
+(cd "$tmp/from_c" && find . ! -type d) | sed 's|^\./||' | LC_ALL=C sort | diff "$tmp/wanted" -
+mkdir -p "$tmp/fresh/target/staticlib"
+cp "$LIBDIR/libbarrier_engine.a" "$tmp/fresh/target/staticlib"
+install_fresh "$CC"
+grep -qx 'installing the archive target/staticlib/libbarrier_engine.a' "$tmp/install"
+cmp "$LIBDIR/libbarrier_engine.a" "$tmp/from_c/lib/libbarrier_engine.a"
+(cd "$tmp/fresh" && unset LIBDIR && MAKEFLAGS='' make -s -f Makefile.vendor uninstall PREFIX="$tmp/from_c")
+[ -z "$(find "$tmp/from_c" ! -type d)" ]
+echo "install: without an archive the engine is compiled from the C, and it is said which was taken"
 
 # A prefix that pkg-config's flags could not name.
 for prefix in relative "$tmp/a b" "$tmp/a&b"; do

@@ -135,7 +135,7 @@ header='\001\000\002\001\000\001\000\000\001\001\000\000\000'
 unreadable 'the bytes end inside the job' ''
 unreadable 'the bytes end inside the job' "$header"
 unreadable 'the bytes end inside the job' "$header\001\000\000\001\000\000"
-unreadable 'bytes are left over behind the job' "$header\000\000"
+unreadable 'bytes are left over after the job' "$header\000\000"
 unreadable 'the job has more than 256 hazards' "$header\201\002"
 unreadable 'a number is not in its form' '\001\200\000'
 unreadable 'the job is neither of kind 1 nor of kind 2' '\003'

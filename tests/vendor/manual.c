@@ -1,8 +1,7 @@
 /*
- * The worked cases of the manual, reckoned by the engine.  Prints each as the
- * manual has it, behind the name of the text that has to have it: `both` for
- * barrier.h and README.md, `header` for barrier.h alone.  Ends with 1 where a
- * call is refused that should not be, or the other way about.
+ * The worked cases of the manual, barrier.h, calculated by the engine.  Prints
+ * each on a line, as the manual has it.  Ends with 1 where a call is refused
+ * that should not be, or is not refused where it should be.
  */
 #include <barrier_help.h>
 #include <inttypes.h>
@@ -68,9 +67,8 @@ static barrier_hazard with_stations(uint64_t start, uint64_t end)
 static void bytes(const uint8_t *row, size_t length)
 {
     size_t i;
-    printf("header");
     for (i = 0; i < length; i++)
-        printf(" %02X", row[i]);
+        printf("%s%02X", i == 0 ? "" : " ", row[i]);
     printf("\n");
 }
 
@@ -86,12 +84,12 @@ static void driving_side(void)
         for (handed = 0; handed < 2; handed++) {
             side = handed ^ left_hand;
             run = run_of(&two_way, with_side(handed));
-            printf("both %s %s %s [%" PRIu64 ", %" PRIu64 ")\n", drives[left_hand], stands[side],
+            printf("%s %s %s [%" PRIu64 ", %" PRIu64 ")\n", drives[left_hand], stands[side],
                    names[handed], run.start, run.end);
         }
     run = run_of(&two_way, with_side(BARRIER_RIGHT));
     unswapped = run_of(&two_way, with_side(BARRIER_LEFT));
-    printf("both begins %" PRIu64 " mm too late\n", unswapped.start - run.start);
+    printf("begins %" PRIu64 " mm too late\n", unswapped.start - run.start);
     /* One-way, swapping alters no length. */
     run = run_of(&sample, with_side(BARRIER_RIGHT));
     unswapped = run_of(&sample, with_side(BARRIER_LEFT));
@@ -105,7 +103,7 @@ static void turned_round(void)
     const uint64_t sum = sample.begin + sample.end;
     const uint64_t start = sum - headwall.end, end = sum - headwall.start;
     const barrier_help_run run = run_of(&sample, with_stations(start, end));
-    printf("both [%" PRIu64 ", %" PRIu64 ") is handed over as [%" PRIu64 ", %" PRIu64
+    printf("[%" PRIu64 ", %" PRIu64 ") is handed over as [%" PRIu64 ", %" PRIu64
            "), and its run [%" PRIu64 ", %" PRIu64 ") is [%" PRIu64 ", %" PRIu64 ") of the road\n",
            headwall.start, headwall.end, start, end, run.start, run.end, sum - run.end,
            sum - run.start);
@@ -131,7 +129,7 @@ static void below_zero(void)
     const barrier_help_run run = moved_by(0), farther = moved_by(750000);
     if (run.start != farther.start || run.end != farther.end)
         stop("a run depends on how far the road is moved");
-    printf("both a road from %" PRId64 " on, moved by %" PRId64 ": the hazard [%" PRId64 ", %" PRId64
+    printf("a road from %" PRId64 " on, moved by %" PRId64 ": the hazard [%" PRId64 ", %" PRId64
            ") is handed over as [%" PRIu64 ", %" PRIu64 "), and its run [%" PRIu64 ", %" PRIu64
            ") is [%" PRId64 ", %" PRId64 ") of the road\n",
            -by, by, (int64_t)headwall.start - by, (int64_t)headwall.end - by, headwall.start,
@@ -149,8 +147,8 @@ static void point(void)
     if (reply.number != BARRIER_HAZARD_RANGE ||
         barrier_help_hazard_fault(sample.begin, sample.end, &none) != 2)
         stop("a hazard without length is not refused 4 for its end");
-    printf("both e = s + 1\n");
-    printf("both e = s is refused 4\n");
+    printf("e = s + 1\n");
+    printf("e = s is refused 4\n");
 }
 
 /* Only the first fault is replied; an open job answers for each hazard by itself. */
@@ -199,7 +197,7 @@ static void ordered(uint64_t run, const uint64_t *lengths, size_t count)
     size_t i;
     if (reply.number != BARRIER_DONE || !reply.found || reply.overrun != reply.floor)
         stop("a run is not laid with the floor's overrun");
-    printf("header %" PRIu64, run);
+    printf("%" PRIu64, run);
     for (i = 0; i < count; i++)
         printf("%s %" PRIu64, i == 0 ? "" : ",", lengths[i]);
     printf(" ");
@@ -220,7 +218,7 @@ static void limits(const uint64_t *lengths, uint64_t run)
             stop("the tries made are not the limit, or all");
         if (same && limit < 257)
             continue;
-        printf("header %" PRIu64 " to %" PRIu64 " ", first, limit - 1);
+        printf("%" PRIu64 " to %" PRIu64 " ", first, limit - 1);
         if (before.found) {
             print_counts(&before, 2);
             printf(" %" PRIu64 " the limit\n", before.overrun);
@@ -230,7 +228,7 @@ static void limits(const uint64_t *lengths, uint64_t run)
         first = limit;
         before = reply;
     }
-    printf("header 257 to 65536 ");
+    printf("257 to 65536 ");
     print_counts(&before, 2);
     printf(" %" PRIu64 " 256\n", before.overrun);
 }
@@ -243,7 +241,7 @@ static void long_run(const uint64_t *lengths, uint64_t run, uint64_t first)
     const barrier_layout_reply reply = barrier_layout(lengths, 2, rest, BARRIER_TRIES_MAX);
     if (whole.found || !reply.found || whole.floor != reply.floor)
         stop("a long run is covered, or its rest is not");
-    printf("header of the run %" PRIu64 " lay %" PRIu64 " panels of %" PRIu64 ", and the rest, %" PRIu64
+    printf("of the run %" PRIu64 " lay %" PRIu64 " panels of %" PRIu64 ", and the rest, %" PRIu64
            ", is ",
            run, first, lengths[1], rest);
     print_counts(&reply, 2);

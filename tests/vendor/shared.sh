@@ -31,7 +31,7 @@ MAKEFLAGS='' make -s -f Makefile.vendor vendor-shared LIBDIR="$tmp/more" CC="$CC
 nm -D --defined-only "$tmp/more/built/libbarrier_engine.so" | awk '{ print $3 }' | sort -u | diff "$tmp/calls" - || fail "it exports a name that the header does not have"
 
 # Linked as installed, found by its name, the same printed.
-MAKEFLAGS='' make -s -f Makefile.vendor install LIBDIR="$LIBDIR" CC="$CC" PREFIX="$tmp/prefix"
+MAKEFLAGS='' make -s -f Makefile.vendor install LIBDIR="$LIBDIR" CC="$CC" PREFIX="$tmp/prefix" >"$tmp/said"
 PKG_CONFIG_PATH=$tmp/prefix/lib/pkgconfig
 export PKG_CONFIG_PATH
 flags=$(pkg-config --cflags --libs barrier_engine_shared)
@@ -42,7 +42,7 @@ for name in example open_job layout day; do
     LD_LIBRARY_PATH=$tmp/prefix/lib "$tmp/$name" >"$tmp/printed"
     diff "examples/$name.out" "$tmp/printed" || fail "$name prints something else with it"
 done
-echo "shared: libbarrier_engine.so.$major exports the header's $(wc -l <"$tmp/calls") calls alone and needs the C library alone; four examples print the same with it"
+echo "shared: libbarrier_engine.so.$major exports the header's $(wc -l <"$tmp/calls") calls only and needs the C library only; four examples print the same with it"
 
 # A plug-in, by the recipe that stands in the header, word for word.
 cat >"$tmp/plugin.c" <<'END'

@@ -71,6 +71,6 @@ unfoldable pub layoutOf : Answer Panels → LayoutReply
 layoutOf (accepted p) = bestOf (p .best) (p .tries) (p .floor)
 layoutOf (refused number value) = record { number = number; value = value; found = 0; overrun = 0; counts = layout.placesOf []; tries = 0; floor = 0 }
 
--- Version 3.2.1, as one number.
+-- Version 3.2.2, as one number.
 abbrev pub version : ℕ
-version = 3 * 1000000 + 2 * 1000 + 1
+version = 3 * 1000000 + 2 * 1000 + 2

@@ -126,7 +126,7 @@ def _figures(scene: Scene, frame: Frame, paper: bool) -> List[str]:
     """The header in words, and how it is drawn."""
     h = scene.header
     opposite = f"opposite {metres(h.runout_opposite)}" if scene.two_way else "no opposite traffic"
-    flare = (f"flare {h.flare_across} across for {h.flare_along} along behind "
+    flare = (f"flare {h.flare_across} across for {h.flare_along} along after "
              f"{metres(h.straight)} straight") if h.flare_across else "no flare"
     gaps = f"gaps below {metres(h.continuity)} closed" if h.continuity else "no gaps closed"
     panel = f"; whole panels of {metres(h.panel)}" if h.panel is not None else ""

@@ -6,7 +6,7 @@ A label takes its width in DejaVu Sans, from 0.78 of its size above the line to
 import re
 import xml.etree.ElementTree as tree
 
-import support  # noqa: F401
+import programs  # noqa: F401
 from barrier_picture.svg import text_width
 
 NAMES = "{http://www.w3.org/2000/svg}"

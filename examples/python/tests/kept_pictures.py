@@ -2,11 +2,12 @@
 
     BARRIER_LIBRARY=... python3 examples/python/tests/kept_pictures.py
 
-draws them anew; a test holds them against what the program draws.
+draws them again; a test holds them against what the program draws.
 """
 import os
 import tempfile
 
+import programs
 import support
 import picture as program
 from barrier_engine import metres, text_of_job
@@ -31,4 +32,4 @@ def draw(count, out):
 
 if __name__ == "__main__":
     for hazards in KEPT:
-        draw(hazards, os.path.join(support.FIGURES, f"job-{hazards}.svg"))
+        draw(hazards, os.path.join(programs.FIGURES, f"job-{hazards}.svg"))

@@ -4,7 +4,7 @@ import io
 import os
 import unittest
 
-import support
+import programs
 import day
 
 
@@ -15,7 +15,7 @@ class Day(unittest.TestCase):
         printed = io.StringIO()
         with contextlib.redirect_stdout(printed):
             self.assertEqual(day.main(), 0)
-        with open(os.path.join(support.PYTHON, "day.out"), encoding="utf-8") as file:
+        with open(os.path.join(programs.FOLDER, "day.out"), encoding="utf-8") as file:
             self.assertEqual(printed.getvalue(), file.read())
 
 

@@ -4,6 +4,7 @@ import tempfile
 import unittest
 from dataclasses import replace
 
+import programs  # noqa: F401
 import support
 import picture as program
 from barrier_engine import Job, Side, read_text, text_of_job

@@ -7,12 +7,13 @@ import sys
 import tempfile
 import unittest
 
+import programs
 import hostile
 import support
 import picture as program
 from barrier_engine import Malformed, Refused, plan, read_job, text_of_job
 
-PROGRAM = os.path.join(support.PYTHON, "picture.py")
+PROGRAM = os.path.join(programs.FOLDER, "picture.py")
 
 
 def wanted_status(data):

@@ -2,7 +2,7 @@
 import random
 import unittest
 
-import support  # noqa: F401
+import programs  # noqa: F401
 from barrier_picture.labels import in_rows, lanes, spread, thinned
 from barrier_picture.svg import text_width
 

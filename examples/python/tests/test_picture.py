@@ -8,6 +8,7 @@ import tempfile
 import unittest
 import xml.etree.ElementTree as tree
 
+import programs
 import boxes
 import kept_pictures
 import support
@@ -263,7 +264,7 @@ class TheProgram(unittest.TestCase):
         for count in kept_pictures.KEPT:
             out = self.path("kept.svg")
             self.assertEqual(kept_pictures.draw(count, out), 0)
-            kept = os.path.join(support.FIGURES, f"job-{count}.svg")
+            kept = os.path.join(programs.FIGURES, f"job-{count}.svg")
             self.assertEqual(self.content(out), self.content(kept))
             self.assertEqual(boxes.faults(self.content(kept)), [])
 
@@ -288,7 +289,7 @@ class TheProgram(unittest.TestCase):
 
     def test_from_standard_input(self):
         found = subprocess.run(
-            [sys.executable, os.path.join(support.PYTHON, "picture.py"), "--from", "100", "--to", "300"],
+            [sys.executable, os.path.join(programs.FOLDER, "picture.py"), "--from", "100", "--to", "300"],
             input=support.PRINTED.to_bytes(), stdout=subprocess.PIPE, check=True).stdout
         self.assertEqual(found.decode(), drawn(support.PRINTED, window=(100000, 300000)))
 

@@ -7,6 +7,7 @@ import unittest
 import xml.etree.ElementTree as tree
 from dataclasses import replace
 
+import programs  # noqa: F401
 import boxes
 import support
 import picture as program

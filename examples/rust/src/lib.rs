@@ -1,6 +1,4 @@
-//! What the programs in here share. `barrier` is the file to copy; `printed` and
-//! `show` are of use to these programs alone.
+//! What the programs in here share.
 
-pub mod barrier;
 pub mod printed;
 pub mod show;

@@ -12,9 +12,7 @@ use std::io::{self, Write};
 use std::ops::Range;
 use std::process::ExitCode;
 
-use example::barrier::{
-    self, Corner, Corners, PlannedSide, Refusal, LEFT, NC_3, RIGHT, SCHEDULE_MAX,
-};
+use barrier_engine::{Corner, Corners, PlannedSide, Refusal, LEFT, NC_3, RIGHT, SCHEDULE_MAX};
 use example::printed;
 use example::show::{self, in_words, Stop};
 
@@ -36,7 +34,7 @@ fn done<T>(out: &mut impl Write, what: &str, answer: Result<T, Refusal>) -> Resu
 /// What stands on the right side at a station.
 fn print_station(out: &mut impl Write, right: &[u8], station: u64) -> Result<(), Stop> {
     // A refusal is not the same as "no barrier": these bytes could not be read.
-    let answer = barrier::lookup(right, &[], RIGHT, station);
+    let answer = barrier_engine::lookup(right, &[], RIGHT, station);
     match done(out, "lookup", answer)? {
         Some(record) => print_record(out, right, station, record)?,
         None => writeln!(out, "  station {station}: no barrier")?,
@@ -51,7 +49,7 @@ fn print_record(
     record: Range<usize>,
 ) -> Result<(), Stop> {
     let Range { start, end } = record;
-    let [distance, length, level] = barrier::decode_record(&right[start..end])?;
+    let [distance, length, level] = barrier_engine::decode_record(&right[start..end])?;
     write!(out, "  station {station}: bytes [{start}, {end}): ")?;
     writeln!(out, "{distance} mm free, then {length} mm at NC-{level}")?;
     Ok(())
@@ -65,9 +63,9 @@ fn print_stations(out: &mut impl Write, right: &[u8]) -> Result<(), Stop> {
     Ok(())
 }
 
-/// The level at a station, of the job alone.
+/// The level at a station, from the job only.
 fn print_level(out: &mut impl Write, job: &[u8], station: u64) -> Result<(), Stop> {
-    let answer = barrier::level(job, RIGHT, station);
+    let answer = barrier_engine::level(job, RIGHT, station);
     match done(out, "level", answer)? {
         0 => writeln!(out, "  station {station}: no barrier")?,
         level => writeln!(out, "  station {station}: NC-{level}")?,
@@ -98,7 +96,7 @@ fn print_range(out: &mut impl Write, (p, q): (u64, u64), millimetres: u64) -> io
 /// refused there are no millimetres to add, so there is no sum.
 fn print_lots(out: &mut impl Write, right: &[u8], boundary: u64) -> Result<(), Stop> {
     let lots = [(0, boundary), (boundary, ROAD_END)];
-    let answer = barrier::quantities(right, NC_3, &lots);
+    let answer = barrier_engine::quantities(right, NC_3, &lots);
     let quantities = done(out, "lots", answer)?.quantities;
     for (lot, millimetres) in lots.into_iter().zip(&quantities) {
         print_range(out, lot, *millimetres)?;
@@ -109,7 +107,7 @@ fn print_lots(out: &mut impl Write, right: &[u8], boundary: u64) -> Result<(), S
 
 /// The road in one lot.
 fn print_road(out: &mut impl Write, right: &[u8]) -> Result<(), Stop> {
-    let answer = barrier::quantity(right, NC_3, 0, ROAD_END);
+    let answer = barrier_engine::quantity(right, NC_3, 0, ROAD_END);
     let millimetres = done(out, "road", answer)?;
     print_range(out, (0, ROAD_END), millimetres)?;
     Ok(())
@@ -124,7 +122,7 @@ fn print_prices(out: &mut impl Write, right: &[u8]) -> Result<(), Stop> {
     print_road(out, right)
 }
 
-/// Whole millimetres: nothing behind the point is left out.
+/// Whole millimetres: nothing after the point is left out.
 fn print_corner(out: &mut impl Write, name: &str, corner: Corner) -> io::Result<()> {
     let Corner { station, offset } = corner;
     writeln!(out, "    {name:<8} ({station:.0}, {offset:.0})")
@@ -132,7 +130,7 @@ fn print_corner(out: &mut impl Write, name: &str, corner: Corner) -> io::Result<
 
 /// The headwall's approach, to be drawn on that sheet.
 fn print_sheet(out: &mut impl Write, job: &[u8], station: u64, offset: u64) -> Result<(), Stop> {
-    let answer = barrier::corners(job, 0, station, offset);
+    let answer = barrier_engine::corners(job, 0, station, offset);
     let corners = done(out, "corners", answer)?;
     let Corners {
         upstream,
@@ -154,7 +152,7 @@ fn print_corners(out: &mut impl Write, job: &[u8]) -> Result<(), Stop> {
 
 /// The offset that keeps the approach that short.
 fn print_offset(out: &mut impl Write, job: &[u8], longest: u64) -> Result<(), Stop> {
-    let answer = barrier::offset(job, 0, longest);
+    let answer = barrier_engine::offset(job, 0, longest);
     let found = done(out, "offset", answer)?;
     write!(out, "  approach of at most {longest} mm: ")?;
     match found {
@@ -181,7 +179,7 @@ fn print_overhang(out: &mut impl Write) -> Result<(), Stop> {
     let mut job = printed::job();
     job.header.flare_across = 0;
     job.hazards[0].start = 67_333;
-    let answer = barrier::plan_side(&job.encode(), RIGHT);
+    let answer = barrier_engine::plan_side(&job.encode(), RIGHT);
     let PlannedSide {
         schedule,
         before,
@@ -193,7 +191,7 @@ fn print_overhang(out: &mut impl Write) -> Result<(), Stop> {
         out,
         "  overhang on the right: {before} mm before the road, "
     )?;
-    writeln!(out, "{after} mm behind it")?;
+    writeln!(out, "{after} mm after it")?;
     Ok(())
 }
 
@@ -203,17 +201,17 @@ fn print_refusals(out: &mut impl Write, job: &[u8]) -> Result<(), Stop> {
     near_job.hazards[0].near_offset = 3_999;
     let mut room = [0; SCHEDULE_MAX];
     writeln!(out, "Refusals")?;
-    let answer = barrier::plan(&near_job.encode(), RIGHT, &mut room);
+    let answer = barrier_engine::plan(&near_job.encode(), RIGHT, &mut room);
     show::refused(out, "near offset 3999", answer, in_words)?;
-    let answer = barrier::plan(job, RIGHT, &mut room[..7]);
+    let answer = barrier_engine::plan(job, RIGHT, &mut room[..7]);
     show::refused(out, "room for 7 bytes", answer, in_words)
 }
 
 /// Everything in turn.
 fn print_all(out: &mut impl Write) -> Result<(), Stop> {
     let job = printed::job().encode();
-    let right = done(out, "plan", barrier::plan_side(&job, RIGHT))?.schedule;
-    let left = done(out, "plan", barrier::plan_side(&job, LEFT))?.schedule;
+    let right = done(out, "plan", barrier_engine::plan_side(&job, RIGHT))?.schedule;
+    let left = done(out, "plan", barrier_engine::plan_side(&job, LEFT))?.schedule;
 
     writeln!(out, "The sample job")?;
     print_bytes(out, "job", &job)?;

@@ -1,8 +1,8 @@
 //! The sample job of barrier.h, from which the programs begin.
 
-use crate::barrier::{Hazard, Header, Job, NC_3, RIGHT};
+use barrier_engine::{Hazard, Header, Job, NC_3, RIGHT};
 
-/// One kilometre of road with forward traffic alone.
+/// One kilometre of road with forward traffic only.
 pub const HEADER: Header = Header {
     begin: 0,
     end: 1_000_000,

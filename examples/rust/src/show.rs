@@ -4,7 +4,7 @@
 use std::io::{self, StdoutLock, Write};
 use std::process::ExitCode;
 
-use crate::barrier::{Fault, Refusal};
+use barrier_engine::{Fault, Refusal};
 
 /// Why a program ends before everything is shown.
 pub enum Stop {

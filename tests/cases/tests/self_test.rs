@@ -26,7 +26,7 @@ fn the_reference_passes_and_every_row_is_seen() {
 /// Each is found, and the case found shows the difference when tried alone.
 #[test]
 fn every_wrong_engine_is_found() {
-    // As many as README.md says.
+    // As many as docs/PROOFS.md says.
     assert_eq!(wrong::all().len(), 827);
     // A slip is often found where the one before it was: that saves time.
     let mut first = 0;

@@ -1,9 +1,10 @@
 //! The engine's calls for the tests: through the pointers of the C interface,
-//! and through the file that is shipped for Rust.
+//! and through the crate that is shipped for Rust.
 
 use std::mem::{offset_of, size_of};
 use std::ops::Range;
 
+use barrier_engine::{self as barrier, Refusal, c};
 use cases::{
     Calls, Contract, CornersReply, LayoutReply, Memory, OffsetReply, PlanReply, Record, Reply,
 };
@@ -12,13 +13,14 @@ use reference::job::Hazard;
 use reference::memory::BYTES;
 use reference::open::Name;
 
-/// The shipped file itself, so that it is tested too.
-#[path = "../../../examples/rust/src/barrier.rs"]
-pub mod barrier;
+// Declared as the header has them, beside the shipped crate, of which only the
+// open job's memory is taken.
 
-use barrier::{Refusal, c};
-
-// Declared as the header has them, beside the shipped file.
+#[repr(C)]
+struct CReply {
+    number: u64,
+    value: u64,
+}
 
 #[repr(C)]
 struct CPlanReply {
@@ -61,6 +63,32 @@ struct CLayoutReply {
     floor: u64,
 }
 
+#[repr(C)]
+struct CRecord {
+    number: u64,
+    found: u64,
+    start: u64,
+    end: u64,
+}
+
+#[repr(C)]
+struct CQuantitiesReply {
+    number: u64,
+    value: u64,
+    records: u64,
+    quantities: [u64; 64],
+}
+
+#[repr(C)]
+struct CHazard {
+    side: u64,
+    start: u64,
+    end: u64,
+    near_offset: u64,
+    far_offset: u64,
+    level: u64,
+}
+
 unsafe extern "C" {
     fn barrier_plan(
         job: *const u8,
@@ -75,7 +103,7 @@ unsafe extern "C" {
         out: *mut u8,
         out_len: usize,
     ) -> CPlanReply;
-    fn barrier_level(job: *const u8, job_len: usize, side: u64, station: u64) -> c::Reply;
+    fn barrier_level(job: *const u8, job_len: usize, side: u64, station: u64) -> CReply;
     fn barrier_corners(
         job: *const u8,
         job_len: usize,
@@ -90,15 +118,38 @@ unsafe extern "C" {
         run: u64,
         limit: u64,
     ) -> CLayoutReply;
-    fn barrier_add(job: *mut c::OpenJob, name: Name, hazard: c::Hazard) -> c::Reply;
-    fn barrier_withdraw(job: *mut c::OpenJob, name: Name) -> c::Reply;
-    fn barrier_keep(job: *mut c::OpenJob, state: u64) -> c::Reply;
-    fn barrier_return(job: *mut c::OpenJob, state: u64) -> c::Reply;
+    fn barrier_quantity(
+        schedule: *const u8,
+        schedule_len: usize,
+        level: u64,
+        p: u64,
+        q: u64,
+    ) -> CReply;
+    fn barrier_quantities(
+        schedule: *const u8,
+        schedule_len: usize,
+        level: u64,
+        ranges: *const u64,
+        ranges_len: usize,
+    ) -> CQuantitiesReply;
+    fn barrier_lookup(
+        right: *const u8,
+        right_len: usize,
+        left: *const u8,
+        left_len: usize,
+        side: u64,
+        station: u64,
+    ) -> CRecord;
+    fn barrier_open(job: *mut c::OpenJob, bytes: *const u8, bytes_len: usize) -> CReply;
+    fn barrier_add(job: *mut c::OpenJob, name: Name, hazard: CHazard) -> CReply;
+    fn barrier_withdraw(job: *mut c::OpenJob, name: Name) -> CReply;
+    fn barrier_keep(job: *mut c::OpenJob, state: u64) -> CReply;
+    fn barrier_return(job: *mut c::OpenJob, state: u64) -> CReply;
 }
 
-impl From<c::Reply> for Reply {
-    fn from(reply: c::Reply) -> Reply {
-        let c::Reply { number, value } = reply;
+impl From<CReply> for Reply {
+    fn from(reply: CReply) -> Reply {
+        let CReply { number, value } = reply;
         Reply { number, value }
     }
 }
@@ -149,8 +200,8 @@ impl From<CLayoutReply> for LayoutReply {
     }
 }
 
-impl From<c::Record> for Record {
-    fn from(record: c::Record) -> Record {
+impl From<CRecord> for Record {
+    fn from(record: CRecord) -> Record {
         Record {
             number: record.number,
             found: record.found,
@@ -160,8 +211,8 @@ impl From<c::Record> for Record {
     }
 }
 
-impl From<c::QuantitiesReply> for Contract {
-    fn from(reply: c::QuantitiesReply) -> Contract {
+impl From<CQuantitiesReply> for Contract {
+    fn from(reply: CQuantitiesReply) -> Contract {
         Contract {
             number: reply.number,
             value: reply.value,
@@ -171,9 +222,9 @@ impl From<c::QuantitiesReply> for Contract {
     }
 }
 
-impl From<Hazard> for c::Hazard {
-    fn from(hazard: Hazard) -> c::Hazard {
-        c::Hazard {
+impl From<Hazard> for CHazard {
+    fn from(hazard: Hazard) -> CHazard {
+        CHazard {
             side: hazard.side,
             start: hazard.start,
             end: hazard.end,
@@ -196,10 +247,10 @@ fn open_job(memory: &mut Memory) -> *mut c::OpenJob {
 }
 
 pub fn open(memory: &mut Memory, bytes: &[u8]) -> Reply {
-    // SAFETY: the open job lies in the memory, which this call alone holds and
+    // SAFETY: the open job lies in the memory, which only this call holds and
     // which may have any content; the other pointer is good for as many bytes
     // as are named with it.
-    unsafe { c::barrier_open(open_job(memory), bytes.as_ptr(), bytes.len()).into() }
+    unsafe { barrier_open(open_job(memory), bytes.as_ptr(), bytes.len()).into() }
 }
 
 pub fn add(memory: &mut Memory, name: Name, hazard: Hazard) -> Reply {
@@ -224,13 +275,13 @@ pub fn return_to(memory: &mut Memory, state: u64) -> Reply {
 
 pub fn open_schedule(memory: &mut Memory, side: u64, out: &mut [u8]) -> PlanReply {
     let job = open_job(memory);
-    // SAFETY: as in `open`, and `out` is lent to this call alone.
+    // SAFETY: as in `open`, and `out` is lent to this call only.
     unsafe { barrier_open_schedule(job, side, out.as_mut_ptr(), out.len()).into() }
 }
 
 pub fn plan(job: &[u8], side: u64, out: &mut [u8]) -> PlanReply {
     // SAFETY: both pointers are good for as many bytes as are named with them,
-    // and `out` is lent to this call alone.
+    // and `out` is lent to this call only.
     unsafe { barrier_plan(job.as_ptr(), job.len(), side, out.as_mut_ptr(), out.len()).into() }
 }
 
@@ -257,7 +308,7 @@ pub fn layout(lengths: &[u64], run: u64, limit: u64) -> LayoutReply {
 
 pub fn quantity(schedule: &[u8], level: u64, p: u64, q: u64) -> Reply {
     // SAFETY: the pointer is good for as many bytes as are named with it.
-    unsafe { c::barrier_quantity(schedule.as_ptr(), schedule.len(), level, p, q).into() }
+    unsafe { barrier_quantity(schedule.as_ptr(), schedule.len(), level, p, q).into() }
 }
 
 /// The ranges are p, q, p, q and so on.
@@ -266,13 +317,13 @@ pub fn quantities(schedule: &[u8], level: u64, ranges: &[u64]) -> Contract {
     let (schedule, ranges) = (schedule.as_ptr(), ranges.as_ptr());
     // SAFETY: both pointers are good for as many bytes and numbers as are named
     // with them.
-    unsafe { c::barrier_quantities(schedule, schedule_len, level, ranges, ranges_len).into() }
+    unsafe { barrier_quantities(schedule, schedule_len, level, ranges, ranges_len).into() }
 }
 
 pub fn lookup(right: &[u8], left: &[u8], side: u64, station: u64) -> Record {
     // SAFETY: both pointers are good for as many bytes as are named with them.
     unsafe {
-        c::barrier_lookup(
+        barrier_lookup(
             right.as_ptr(),
             right.len(),
             left.as_ptr(),
@@ -313,26 +364,24 @@ pub fn calls() -> Calls {
         quantity: Box::new(|schedule, level, p, q| {
             let schedule_len = schedule.len();
             // SAFETY: as in `quantity`.
-            unsafe { c::barrier_quantity(schedule.as_mut_ptr(), schedule_len, level, p, q).into() }
+            unsafe { barrier_quantity(schedule.as_mut_ptr(), schedule_len, level, p, q).into() }
         }),
         quantities: Box::new(|schedule, level, ranges| {
             let (schedule_len, ranges_len) = (schedule.len(), ranges.len());
             let (schedule, ranges) = (schedule.as_mut_ptr(), ranges.as_mut_ptr());
             // SAFETY: as in `quantities`.
-            unsafe {
-                c::barrier_quantities(schedule, schedule_len, level, ranges, ranges_len).into()
-            }
+            unsafe { barrier_quantities(schedule, schedule_len, level, ranges, ranges_len).into() }
         }),
         lookup: Box::new(|right, left, side, station| {
             let (right_len, left_len) = (right.len(), left.len());
             let (right, left) = (right.as_mut_ptr(), left.as_mut_ptr());
             // SAFETY: as in `lookup`.
-            unsafe { c::barrier_lookup(right, right_len, left, left_len, side, station).into() }
+            unsafe { barrier_lookup(right, right_len, left, left_len, side, station).into() }
         }),
         open: Box::new(|memory, bytes| {
             let bytes_len = bytes.len();
             // SAFETY: as in `open`.
-            unsafe { c::barrier_open(open_job(memory), bytes.as_mut_ptr(), bytes_len).into() }
+            unsafe { barrier_open(open_job(memory), bytes.as_mut_ptr(), bytes_len).into() }
         }),
         add: Box::new(add),
         withdraw: Box::new(withdraw),
@@ -341,8 +390,8 @@ pub fn calls() -> Calls {
         open_schedule: Box::new(|memory, side, room, lent| {
             assert!(lent.start <= lent.end && lent.end <= room.len());
             let job = open_job(memory);
-            // SAFETY: as in `open`; the lent part lies in the room, which this
-            // call alone holds.
+            // SAFETY: as in `open`; the lent part lies in the room, which only
+            // this call holds.
             unsafe {
                 let out = room.as_mut_ptr().add(lent.start);
                 barrier_open_schedule(job, side, out, lent.len()).into()
@@ -354,7 +403,7 @@ pub fn calls() -> Calls {
 fn plan_in_room(job: &mut [u8], side: u64, room: &mut [u8], lent: Range<usize>) -> PlanReply {
     assert!(lent.start <= lent.end && lent.end <= room.len());
     let job_len = job.len();
-    // SAFETY: the lent part lies in the room, which this call alone holds.
+    // SAFETY: the lent part lies in the room, which only this call holds.
     unsafe {
         let out = room.as_mut_ptr().add(lent.start);
         barrier_plan(job.as_mut_ptr(), job_len, side, out, lent.len()).into()
@@ -379,7 +428,9 @@ pub fn shipped_calls() -> Calls {
         }),
         layout: Box::new(|lengths, run, limit| laid(barrier::layout(lengths, run, limit))),
         open: Box::new(|memory, bytes| done(shipped_job(memory).open(bytes))),
-        add: Box::new(|memory, name, hazard| done(shipped_job(memory).add(name, hazard.into()))),
+        add: Box::new(|memory, name, hazard| {
+            done(shipped_job(memory).add(name, shipped_hazard(hazard)))
+        }),
         withdraw: Box::new(|memory, name| done(shipped_job(memory).withdraw(name))),
         keep: Box::new(|memory, state| done(shipped_job(memory).keep(state))),
         return_to: Box::new(|memory, state| done(shipped_job(memory).return_to(state))),
@@ -392,9 +443,20 @@ pub fn shipped_calls() -> Calls {
 /// The shipped open job in this memory, of which it is all.
 fn shipped_job(memory: &mut Memory) -> &mut barrier::OpenJob {
     let job = open_job(memory).cast::<barrier::OpenJob>();
-    // SAFETY: the open job lies in the memory, aligned, which this reference alone
-    // holds; it has integers alone, so that any content is one.
+    // SAFETY: the open job lies in the memory, aligned, which only this
+    // reference holds; it has integers only, so that any content is one.
     unsafe { &mut *job }
+}
+
+fn shipped_hazard(hazard: Hazard) -> barrier::Hazard {
+    barrier::Hazard {
+        side: hazard.side,
+        start: hazard.start,
+        end: hazard.end,
+        near_offset: hazard.near,
+        far_offset: hazard.far,
+        level: hazard.level,
+    }
 }
 
 fn planned(answer: Result<barrier::Planned, Refusal>) -> PlanReply {

@@ -78,7 +78,7 @@ fn run(command: &mut Command, input: &Input) -> Output {
 }
 
 /// Waits for the program's end. Its status is 0, whatever it was given, and
-/// also where it cannot write, as README.md says. A text that fills the pipe
+/// also where it cannot write, as docs/PROOFS.md says. A text that fills the pipe
 /// would have to be read first; no schedule is that long.
 fn end(name: &str, mut child: Child) -> Output {
     let begin = Instant::now();

@@ -10,7 +10,7 @@ use std::error::Error;
 use std::io::{self, Write};
 use std::process::ExitCode;
 
-use example::barrier::{
+use barrier_engine::{
     corners, decode_schedule, layout, level, metres, millimetres_of_text, offset, quantities,
     quantity, version, Corner, Hazard, Header, Layout, OpenJob, Rounding, Run, LEFT, NC_1, NC_2,
     NC_3, NC_4, NC_6, RIGHT, TRIES_MAX, VERSION,
@@ -89,7 +89,7 @@ fn print_schedule(out: &mut impl Write, job: &OpenJob) -> Done {
             writeln!(out, "  NC-{level}  {length:>8} m")?;
         }
         // What stands in the neighbouring contract is in no run.
-        for (overhang, place) in [(planned.before, "before"), (planned.after, "behind")] {
+        for (overhang, place) in [(planned.before, "before"), (planned.after, "after")] {
             if overhang > 0 {
                 write!(out, "    {name:5} {} m {place} the road", metres(overhang))?;
                 writeln!(out, ", in the neighbouring contract")?;

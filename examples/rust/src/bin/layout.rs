@@ -9,7 +9,7 @@
 use std::io::Write;
 use std::process::ExitCode;
 
-use example::barrier::{layout, Covering, Layout, TRIES_MAX};
+use barrier_engine::{layout, Covering, Layout, TRIES_MAX};
 use example::show::{self, in_numbers, Stop};
 
 /// In the order in which their counts rise: the last one's changes fastest, so

@@ -8,7 +8,8 @@
 use std::io::Write;
 use std::process::ExitCode;
 
-use example::barrier::{self, Hazard, OpenJob, PlannedSide, Refusal, NC_2, NC_3, NC_4, RIGHT};
+use barrier_engine::{decode_schedule, Hazard, OpenJob, PlannedSide, Refusal};
+use barrier_engine::{DONE, NAME, NC_2, NC_3, NC_4, RIGHT, STATE};
 use example::printed;
 use example::show::{self, in_numbers, Stop};
 
@@ -49,7 +50,7 @@ fn refused(
     let number = match answer {
         Ok(()) => {
             writeln!(out, "  {what}: done")?;
-            barrier::DONE
+            DONE
         }
         Err(refusal) => {
             writeln!(out, "  {what}: {}", in_numbers(&refusal))?;
@@ -70,13 +71,13 @@ fn print_runs(out: &mut impl Write, job: &OpenJob) -> Result<(), Stop> {
         before,
         after,
     } = done(out, "schedule", job.plan_side(RIGHT))?;
-    for run in barrier::decode_schedule(&schedule)? {
+    for run in decode_schedule(&schedule)? {
         writeln!(out, "    [{}, {}) at NC-{}", run.start, run.end, run.level)?;
     }
     // Not in the runs: it stands in the neighbouring contract.
     if before > 0 || after > 0 {
         write!(out, "    overhang: {before} mm before the road, ")?;
-        writeln!(out, "{after} mm behind it")?;
+        writeln!(out, "{after} mm after it")?;
     }
     Ok(())
 }
@@ -91,7 +92,7 @@ fn show_hazards(out: &mut impl Write) -> Result<OpenJob, Stop> {
     let mut job = done(out, "open", answer)?;
     done(out, "add 7", job.add(HEADWALL, headwall))?;
     done(out, "add 20", job.add(POLE, pole))?;
-    refused(out, "add 7", job.add(HEADWALL, pole), barrier::NAME)?;
+    refused(out, "add 7", job.add(HEADWALL, pole), NAME)?;
     print_runs(out, &job)?;
     done(out, "withdraw 7", job.withdraw(HEADWALL))?;
     print_runs(out, &job)?;
@@ -111,7 +112,7 @@ fn show_variant(out: &mut impl Write, job: &mut OpenJob) -> Result<(), Stop> {
     print_runs(out, job)?;
     done(out, "return 0", job.return_to(BEFORE))?;
     print_runs(out, job)?;
-    refused(out, "return 1", job.return_to(NEVER_KEPT), barrier::STATE)?;
+    refused(out, "return 1", job.return_to(NEVER_KEPT), STATE)?;
     Ok(())
 }
 
