@@ -26,7 +26,7 @@ CALLS = {
     "station_level/src/level.rt": ["level"],
     "corners/src/call.rt": ["corners"],
     "clear_offset/src/offset.rt": ["smallest_offset"],
-    "open_job/src/calls.rt": ["open", "add", "withdraw", "schedule"],
+    "open_job/src/calls.rt": ["open", "add", "withdraw", "schedule", "test_state", "return_to"],
     "panels/src/layout.rt": ["layout"],
     "barrier_engine/src/lib.rt": [],
     "barrier_engine/src/open.rt": [],
@@ -36,8 +36,8 @@ CALLS = {
 
 # The papers' order: document 01, then document 02's requests.
 ORDER = (
-    "refusal number job approach planning runs schedule queries demands report barrier "
-    "open_memory open_job kept_states open_promises station_level exact corners "
+    "base refusal number job approach planning runs schedule queries demands report barrier "
+    "open_memory open_job open_promises station_level corners "
     "clear_offset panels replies as_before"
 ).split()
 

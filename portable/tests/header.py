@@ -9,7 +9,7 @@ import sys
 ROOT = pathlib.Path(__file__).resolve().parent.parent.parent
 sys.path.insert(0, str(ROOT / 'portable/translator'))
 from header import Header  # noqa: E402
-from program import Program, read_crates  # noqa: E402
+from program import Program, exported, read_crates
 from refused import Refused  # noqa: E402
 
 
@@ -38,7 +38,7 @@ def changes(text):
 
 def main():
     functions, _ = read_crates(sys.argv[1:], 'barrier_engine')
-    exports = {name: name.split('::')[-1] for name in functions if name.startswith('barrier_engine::')}
+    exports = exported(functions, 'barrier_engine')
     text = (ROOT / 'include/barrier.h').read_text(encoding='utf-8')
     program = Program(functions, exports, None, str(ROOT / 'crates'))
 

@@ -9,7 +9,7 @@ import pathlib
 import sys
 
 from head import head
-from program import Program, read_crates
+from program import Program, exported, read_crates
 from refused import Refused
 
 
@@ -25,7 +25,7 @@ def main():
     header = pathlib.Path(args.header)
     try:
         functions, sums = read_crates(args.rlibs, args.crate)
-        exports = {name: name.split('::')[-1] for name in functions if name.split('::')[0] == args.crate}
+        exports = exported(functions, args.crate)
         text = header.read_text(encoding='utf-8')
         program = Program(functions, exports, text, args.sources, args.plain)
         print(program.write(head(text, sums, program, args.toolchain), header.name), end='')

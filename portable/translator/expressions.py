@@ -49,6 +49,8 @@ class Expressions:
         return text[2:-1] + '->' if re.match(r'\(\*\w+\)$', text) else text + '.'
 
     def address(self, place):
+        if place[0] == 'deref':
+            return self.text(place[1])      # the address of what a pointer points to is the pointer; so the header's struct is lent on whole
         text = self.place(place)
         if self.f.type_of(place)[0] == 'array':
             return text

@@ -64,6 +64,12 @@ def read_crates(folders, crate):
     return functions, sums
 
 
+def exported(functions, crate):
+    """The functions of a crate that C calls, name -> its name in C: those with the header's prefix. What else the crate has is reached from them."""
+    last = {name: name.split('::')[-1] for name in functions if name.split('::')[0] == crate}
+    return {name: call for name, call in last.items() if call.startswith('barrier_')}
+
+
 def called(mir):
     calls = [x['Call'][0] for x in mir['body'] if isinstance(x, dict) and 'Call' in x]
     need(all('Direct' in call for call in calls), 'a call through a pointer')

@@ -9,11 +9,11 @@ use mathlib.Core.Logic.{_↔_, _⊎_, inl, inr, ⊎-elim}
 use mathlib.Core.Bool.{Bool, true, false}
 use lib.Dec.{leb}
 use borrow.Author.Tests.{le-leb, lt-leb, leb-true, leb-false}
-use Rattle.refusal.specs.Choice.{if_then_else_}
+use Rattle.base.specs.Choice.{if_then_else_}
 use Rattle.approach.specs.Approach.{formulaLength, approachLength, BelowFormula, BelowRule, Domain}
 use Rattle.approach.specs.Steps.{flareAcross}
 use Rattle.approach.proofs.FormulaLaws.{formula-below, flare-adds, flare-shortens, unflared-exactly}
-use Rattle.refusal.proofs.OrderLaws.{not-lt}
+use Rattle.base.proofs.OrderLaws.{le-of-not-lt}
 
 -- The rule.
 -- Its two cases.
@@ -60,7 +60,7 @@ module _ (a b T L R m : ℕ) (some : 0 < a * R) where
   pub approach-exactly : (n : ℕ) → (approachLength a b T L R m ≤ n) ↔ (BelowRule a b T L R m n → ⊥)
   approach-exactly n = (
     λ l h. omega (arith, approach-below n .1 h),
-    λ h. not-lt (λ l. h (approach-below n .0 l)),
+    λ h. le-of-not-lt (λ l. h (approach-below n .0 l)),
   )
 
 module _ (a b T L R m : ℕ) (some : 0 < a * R) (uncut : a * m ≤ a * R) where

@@ -5,7 +5,7 @@ use native.Mathlib.Omega.{arith}
 use native.Mathlib.Nat.{mul-le-mul-left}
 use native.Mathlib.Decide.{decLe}
 use Rattle.approach.specs.Approach.{formulaLength, approachLength}
-use Rattle.approach.specs.Panel.{raisedLength, Falling}
+use Rattle.approach.specs.Panel.{raisedLength, LengthFalls}
 use Rattle.approach.proofs.FormulaLaws.{formula-exactly, flare-shortens}
 use Rattle.approach.proofs.ApproachLaws.{approach-unflared, approach-flared, nothing-cut-off, divisor-some}
 use Rattle.approach.proofs.PanelLaws.{raised-monotone}
@@ -33,7 +33,7 @@ module _ (a b T L R m k : ℕ) (some : 0 < a * R) (uncut : a * m ≤ a * R) (l :
       go (no p) (no q) =
           omega (arith, approach-flared a b T L R m (omega arith), approach-flared a b T L R k (omega arith), formula-falls a b T L R m k some l)
 
-pub length-falls : Falling
+pub length-falls : LengthFalls
 unfolding raisedLength
 length-falls p a b T L R m k panel d l =
     raised-monotone p _ _ panel

@@ -1,67 +1,55 @@
 -- Raising to whole panels: one law over every panel length and every length, and what follows for approach lengths.
 -- Assumes nothing.
-use Prim.Native.Nat.{ℕ, zero, suc, _+_, _*_, _≤_, _<_}
+use Prim.Native.Nat.{ℕ, _+_, _-_, _*_, _/_, _≤_, _<_}
 use native.Mathlib.Omega.{arith}
-use native.Mathlib.Nat.{mul-le-mul-right, lt-of-not-le}
-use mathlib.Core.Path.{_≡_, refl}
+use native.Mathlib.Nat.{div-mul-cancel, div-mul-le-self, dvd-mul-left, lt-of-not-le, one-dvd}
+use mathlib.Core.Path.{_≡_}
 use mathlib.Core.Logic.{_↔_}
-use Rattle.approach.specs.Approach.{ceilDiv, approachLength, Domain}
-use Rattle.approach.specs.Panel.{LeastMultiple, raised, Raising, raisedLength, BelowRaised}
-use Rattle.approach.proofs.FormulaLaws.{ceil-covers, ceil-least}
+use Rattle.base.specs.Least.{LeastMultiple, nextMultiple}
+use Rattle.base.proofs.LeastLaws.{least-only, next-multiple}
+use Rattle.approach.specs.Approach.{approachLength, Domain}
+use Rattle.approach.specs.Panel.{Raising, raisedLength, BelowRaised}
 use Rattle.approach.proofs.ApproachLaws.{approach-below, length-some, length-fits}
 
 -- The raising.
 
 -- For every panel length and every length: the least multiple that is not smaller.
 pub raised-least : Raising
-unfolding raised
-raised-least p x h =
-    record {
-      multiple = record { times = ceilDiv x p; product = refl };
-      not-smaller = ceil-covers x p h;
-      least = λ z w l. let e = w .product in rw e (mul-le-mul-right p (ceil-least x p (w .times) h (rw e at l)));
-    }
+raised-least = next-multiple
 
 -- There is no other.
-pub raised-only : (p x y : ℕ) → 1 ≤ p → LeastMultiple p x y → y ≡ raised p x
-raised-only p x y h w =
-    let r = raised-least p x h in
-    let down = w .least (raised p x) (r .multiple) (r .not-smaller) in
-    let up = r .least y (w .multiple) (w .not-smaller) in
-    omega arith
+pub raised-only : (p x y : ℕ) → 1 ≤ p → LeastMultiple p x y → y ≡ nextMultiple p x
+raised-only p x y h w = least-only w (raised-least p x h)
 
 -- Panel length 1 raises nothing.
-pub raised-one : (x : ℕ) → raised 1 x ≡ x
+pub raised-one : (x : ℕ) → nextMultiple 1 x ≡ x
 raised-one x =
     let r = raised-least 1 x (omega arith) in
-    omega (arith, r .not-smaller, r .least x (record { times = x; product = omega arith }) (omega arith))
+    omega (arith, r .holds .not-smaller, r .least x (record { multiple = one-dvd x; not-smaller = omega arith }))
 
 -- A longer length is raised no less.
-pub raised-monotone : (p x y : ℕ) → 1 ≤ p → x ≤ y → raised p x ≤ raised p y
-raised-monotone p x y h l = let r = raised-least p y h in raised-least p x h .least (raised p y) (r .multiple) (omega (arith, r .not-smaller))
+pub raised-monotone : (p x y : ℕ) → 1 ≤ p → x ≤ y → nextMultiple p x ≤ nextMultiple p y
+raised-monotone p x y h l =
+    let r = raised-least p y h .holds in
+    raised-least p x h .least (nextMultiple p y) (record { multiple = r .multiple; not-smaller = omega (arith, r .not-smaller) })
 
 -- Raising adds less than a panel.
-pub raised-less : (p x : ℕ) → 1 ≤ p → raised p x < x + p
-unfolding raised
-raised-less p x h =
-    lt-of-not-le (λ l. omega (arith, lower l))
-  where
-    lower : x + p ≤ ceilDiv x p * p → ⊥
-    lower l = below (ceilDiv x p) (λ n. ceil-least x p n h) l
-      where
-        below : (c : ℕ) → ((n : ℕ) → x ≤ n * p → c ≤ n) → x + p ≤ c * p → ⊥
-        below zero f q = omega arith
-        below (suc c) f q = omega (arith, f c (omega arith))
+pub raised-less : (p x : ℕ) → 1 ≤ p → nextMultiple p x < x + p
+unfolding nextMultiple
+raised-less p x h = omega (arith, div-mul-le-self (x + (p - 1)) p)
 
 -- The numbers below the raised length: no multiple up to them reaches the length.
-pub raised-below : (p x d : ℕ) → 1 ≤ p → (d < raised p x) ↔ ((k : ℕ) → k * p ≤ d → k * p < x)
-raised-below p x d h = (λ l k q. lt-of-not-le (λ z. omega (arith, r .least (k * p) (record { times = k; product = refl }) z)), λ f. lt-of-not-le (λ l. back f l))
+pub raised-below : (p x d : ℕ) → 1 ≤ p → (d < nextMultiple p x) ↔ ((k : ℕ) → k * p ≤ d → k * p < x)
+raised-below p x d h =
+    (λ l k q. lt-of-not-le (λ z. omega (arith, r .least (k * p) (record { multiple = dvd-mul-left p k; not-smaller = z }))), λ f. lt-of-not-le (λ l. back f l))
   where
-    r : LeastMultiple p x (raised p x)
+    r : LeastMultiple p x (nextMultiple p x)
     r = raised-least p x h
 
-    back : ((k : ℕ) → k * p ≤ d → k * p < x) → raised p x ≤ d → ⊥
-    back f l = let e = r .multiple .product in omega (arith, f (r .multiple .times) (rw e at l), r .not-smaller)
+    back : ((k : ℕ) → k * p ≤ d → k * p < x) → nextMultiple p x ≤ d → ⊥
+    back f l =
+        let e : nextMultiple p x / p * p ≡ nextMultiple p x = div-mul-cancel p (r .holds .multiple) in
+        omega (arith, f (nextMultiple p x / p) (omega arith), r .holds .not-smaller)
 
 -- Approach lengths in panels.
 
@@ -82,7 +70,7 @@ raised-length-one a b T L R m = raised-one (approachLength a b T L R m)
 module _ (p a b T L R m : ℕ) (low : 1 ≤ p) (d : Domain a b T L R m) where
   pub raised-length-some : 1 ≤ raisedLength p a b T L R m
   unfolding raisedLength
-  raised-length-some = omega (arith, raised-least p (approachLength a b T L R m) low .not-smaller, length-some a b T L R m d)
+  raised-length-some = omega (arith, raised-least p (approachLength a b T L R m) low .holds .not-smaller, length-some a b T L R m d)
 
   pub raised-length-fits : p ≤ 10000 → raisedLength p a b T L R m < 210000
   unfolding raisedLength

@@ -3,7 +3,7 @@
 use Prim.Native.Nat.{ℕ, _+_, _-_, _*_, _/_, _≤_, _<_}
 use mathlib.Core.Logic.{_⊎_}
 use lib.Dec.{leb}
-use Rattle.refusal.specs.Choice.{if_then_else_}
+use Rattle.base.specs.Choice.{if_then_else_}
 
 -- x / y, rounded up to the next whole number if not whole.
 unfoldable pub ceilDiv : (x y : ℕ) → ℕ

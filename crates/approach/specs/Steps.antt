@@ -2,7 +2,7 @@
 -- Assumes nothing.
 use Prim.Native.Nat.{ℕ, _-_, _*_}
 use lib.Dec.{leb}
-use Rattle.refusal.specs.Choice.{if_then_else_}
+use Rattle.base.specs.Choice.{if_then_else_}
 
 -- 0 where the length without flare, L × (R − m) / R, is at most T; else b.
 unfoldable pub flareAcross : (b T L R m : ℕ) → ℕ

@@ -1,8 +1,9 @@
 // The approach length in whole panels, exact over its whole domain: the promise that planning, schedule and program cite.
 ghost use mathlib.Core.Path.{_≡_};
 ghost use Prim.Native.Nat.{_≤_};
+ghost use Rattle.base.specs.Least.{nextMultiple};
 ghost use Rattle.approach.specs.Approach.{formulaLength, approachLength, Domain};
-ghost use Rattle.approach.specs.Panel.{raised, raisedLength};
+ghost use Rattle.approach.specs.Panel.{raisedLength};
 ghost use Rattle.approach.specs.Steps.{flareAcross};
 
 // The formula, rounded up; no step of it leaves 64 bits.
@@ -36,7 +37,7 @@ fn flare_across(along: u64, across: u64, straight: u64, runout: u64, reach: u64,
 }
 
 // The approach length before it is raised to panels: the formula, with flare or without.
-pub fn domain_length(
+pub fn approach_length(
     along: u64,
     across: u64,
     straight: u64,
@@ -56,7 +57,7 @@ fn raised_to(panel: u64, length: u64) -> u64
     requires { ⌜ 1 ≤ panel ⌝ }
     requires { ⌜ panel ≤ 10000 ⌝ }
     requires { ⌜ length ≤ 200000 ⌝ }
-    ensures { λ r. ⌜ r ≡ raised panel length ⌝ }
+    ensures { λ r. ⌜ r ≡ nextMultiple panel length ⌝ }
 {
     if panel <= 1 {
         return length;
@@ -80,6 +81,6 @@ pub fn raised_length(
     requires { ⌜ Domain along across straight runout reach offset ⌝ }
     ensures { λ r. ⌜ r ≡ raisedLength panel along across straight runout reach offset ⌝ }
 {
-    let length = domain_length(along, across, straight, runout, reach, offset);
+    let length = approach_length(along, across, straight, runout, reach, offset);
     raised_to(panel, length)
 }

@@ -7,9 +7,9 @@ use mathlib.Core.Bool.{true}
 use mathlib.Core.List.{List, [], _∷_, _++_, List·Memᴰ·not-nil}
 use lib.ListN.{length, getD}
 use borrow.Author.Tests.{le-leb}
-use Rattle.refusal.specs.Answer.{accepted}
-use Rattle.refusal.proofs.TestLaws.{and-intro}
-use Rattle.refusal.proofs.EachLaws.{cons-each}
+use Rattle.base.specs.Answer.{accepted}
+use Rattle.base.proofs.TestLaws.{and-intro}
+use Rattle.base.proofs.ListLaws.{cons-each}
 use Rattle.job.specs.declared.Header.{Header}
 use Rattle.job.specs.declared.Hazard.{Hazard}
 use Rattle.job.specs.declared.Bounds.{Bounds}

@@ -9,12 +9,12 @@ use mathlib.Core.List.{List, [], _∷_, _++_, List·Memᴰ, List·Memᴰ·head, 
 use lib.ListN.{length, length-append}
 use lib.Dec.{leb, ltb}
 use borrow.Author.Tests.{le-leb, lt-leb, leb-true, lt-ltb, le-ltb, ltb-true}
-use Rattle.refusal.specs.Choice.{if_then_else_}
-use Rattle.refusal.specs.Answer.{accepted}
-use Rattle.refusal.proofs.TestLaws.{and-intro}
+use Rattle.base.specs.Choice.{if_then_else_}
+use Rattle.base.specs.Answer.{accepted}
+use Rattle.base.proofs.TestLaws.{and-intro}
 use Rattle.number.specs.Number.{writeIn, writeNumber}
 use Rattle.number.proofs.WriteLaws.{write-five}
-use Rattle.job.specs.Job.{Job}
+use Rattle.job.specs.Job.{Job, madeFrom}
 use Rattle.job.specs.Writing.{writeJob}
 use Rattle.runs.specs.declared.Stretch.{Stretch}
 use Rattle.runs.specs.Level.{Has}
@@ -31,7 +31,6 @@ use Rattle.schedule.proofs.ScheduleLaws.{read-schedule}
 use Rattle.station_level.specs.Level.{levelAt}
 use Rattle.corners.specs.Corners.{sheetTop, onSheet, cornersOf}
 use Rattle.clear_offset.specs.Offset.{smallestOffset}
-use Rattle.open_memory.specs.Memory.{madeFrom}
 use Rattle.queries.specs.Quantity.{quantity}
 use Rattle.queries.specs.Ranges.{quantities}
 use Rattle.queries.specs.Lookup.{Found, found, nowhere, findRecord, placeIn, lookup}
@@ -39,7 +38,7 @@ use Rattle.open_promises.proofs.OpeningLaws.{opening-accepted}
 use Rattle.open_promises.proofs.ListLaws.{schedule-promise}
 use Rattle.report.specs.Text.{reported}
 use Rattle.as_before.specs.AcceptedBefore.{writtenBefore, RunsBefore, recordNumbers, allRecordNumbers, scheduleBefore}
-use Rattle.as_before.specs.Chainage.{planned, LookedUp, Jobs-before-11, Schedules-before-11}
+use Rattle.as_before.specs.Chainage.{plannedBefore, LookedUp, Jobs-before-11, Schedules-before-11}
 use Rattle.as_before.proofs.FiveByteLaws.{record-five, records-five, schedule-five}
 use Rattle.as_before.proofs.AcceptedLaws.{road-before, before-accepted}
 
@@ -55,7 +54,7 @@ module _ (s : List ℕ) (j : Job) (is : acceptJob s ≡ accepted j) (road : j .h
       let fits = accepted-fits s j is in
       record { run-list = job-run-list j side fits; ends = λ r m. omega (arith, runs-on-road j side fits r m .1, road) }
 
-  job-planned : (side room : ℕ) → plan s side room ≡ planned j side room
+  job-planned : (side room : ℕ) → plan s side room ≡ plannedBefore j side room
   unfolding plan
   job-planned side room = rw (is, written (jobRuns j side) (job-runs-before side))
 

@@ -7,7 +7,7 @@ use mathlib.Core.Bool.{Bool, true, false}
 use mathlib.Core.List.{List, [], _∷_, _++_, append-assoc, append-nil, List·Memᴰ, List·Memᴰ·head, List·Memᴰ·tail}
 use lib.ListN.{length, getD, take, drop}
 use lib.Dec.{leb, eqb}
-use Rattle.refusal.specs.Choice.{if_then_else_, allOf}
+use Rattle.base.specs.Choice.{if_then_else_, allOf}
 use Rattle.number.specs.Number.{writeIn, writeNumber}
 use Rattle.number.proofs.WriteLaws.{write-five}
 use Rattle.job.specs.declared.Header.{Header}

@@ -9,8 +9,8 @@ use mathlib.Core.Bool.{Bool, true, false, not}
 use mathlib.Core.List.{List, [], _∷_, _++_, List·Memᴰ, List·Memᴰ·head, List·Memᴰ·cases-cons, List·Memᴰ·not-nil, List·Memᴰ·append-cases, List·Memᴰ·eq-of-singleton}
 use lib.ListN.{length}
 use borrow.Author.Tests.{lt-leb}
-use Rattle.refusal.specs.Choice.{if_then_else_}
-use Rattle.refusal.specs.Answer.{_>>=_, isAccepted}
+use Rattle.base.specs.Choice.{if_then_else_}
+use Rattle.base.specs.Answer.{_>>=_, isAccepted, replied}
 use Rattle.refusal.specs.Refusal.{unless-refuse}
 use Rattle.refusal.specs.declared.Refusal.the-variants as Row
 use Rattle.job.specs.declared.Header.{Header}
@@ -18,9 +18,8 @@ use Rattle.job.specs.declared.Hazard.{Hazard}
 use Rattle.job.specs.declared.NamedHazard.{NamedHazard}
 use Rattle.job.specs.Job.{Job, named}
 use Rattle.open_memory.specs.Memory.{mostStanding, stands, isFull, without, admit}
-use Rattle.open_job.specs.Open.{testAdd, replied}
-use Rattle.kept_states.specs.declared.OpenStates.{OpenStates}
-use Rattle.kept_states.specs.States.{addIn}
+use Rattle.open_job.specs.Calls.{testAdd, addIn}
+use Rattle.open_job.specs.declared.OpenStates.{OpenStates}
 use Rattle.open_promises.specs.Lists.{Edit, add, withdraw, Call, edit, Kept, nothing, state, States, opened, standAfter, hazardsAfter, CallsFrom, SchedulesAs, Standing, testNameAndHazard}
 use Rattle.as_before.specs.Names.{ByteNamed, hazardsBefore, Names-before-12}
 use Rattle.open_promises.proofs.HazardLaws.{Distinct, distinct-more, distinct-less, without-cases, none-taken, one-less}

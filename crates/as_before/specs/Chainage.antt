@@ -8,11 +8,11 @@ use mathlib.Core.Bool.{_&&_}
 use mathlib.Core.List.{List, _∷_, _++_, map, List·Memᴰ}
 use lib.ListN.{length}
 use lib.Dec.{leb}
-use Rattle.refusal.specs.Answer.{Answer, accepted, _>>=_}
+use Rattle.base.specs.Answer.{Answer, accepted, _>>=_}
 use Rattle.refusal.specs.Refusal.{refusal, unless-refuse}
 use Rattle.refusal.specs.declared.Refusal.the-variants as Row
 use Rattle.job.specs.declared.Hazard.{Hazard}
-use Rattle.job.specs.Job.{Job, unnamed}
+use Rattle.job.specs.Job.{Job, unnamed, madeFrom}
 use Rattle.runs.specs.declared.Stretch.{Stretch}
 use Rattle.runs.specs.Level.{Has}
 use Rattle.runs.specs.RunList.{shownLevel, lastEnd}
@@ -23,9 +23,9 @@ use Rattle.schedule.specs.Plan.{PlannedSide, fitted, plan}
 use Rattle.station_level.specs.Level.{levelAt}
 use Rattle.corners.specs.Corners.{approachPoints, cornersOf}
 use Rattle.clear_offset.specs.Offset.{hazardOffset, smallestOffset}
-use Rattle.open_memory.specs.Memory.{mostStanding, madeFrom}
-use Rattle.kept_states.specs.declared.OpenStates.{OpenStates}
-use Rattle.kept_states.specs.States.{openStates, scheduleIn}
+use Rattle.open_memory.specs.Memory.{mostStanding}
+use Rattle.open_job.specs.declared.OpenStates.{OpenStates}
+use Rattle.open_job.specs.Calls.{openStates, scheduleIn}
 use Rattle.open_promises.specs.Opening.{openedFrom}
 use Rattle.open_promises.specs.Lists.{Call, addedSince, CallsFrom}
 use Rattle.queries.specs.Quantity.{millimetres, quantity}
@@ -35,12 +35,12 @@ use Rattle.report.specs.Text.{runsReport, reported}
 use Rattle.as_before.specs.AcceptedBefore.{writtenBefore, JobBefore, RunsBefore, recordNumbers, allRecordNumbers, scheduleBefore}
 
 -- Plan's reply for a job: 8 for a side above 1; the schedule of the side's runs, in numbers of at most five bytes, and its overhangs; or 9.
-abbrev pub planned : Job → (side room : ℕ) → Answer PlannedSide
-planned j side room = unless-refuse (leb side 1) Row.Argument >>= λ _. fitted (scheduleBefore (jobRuns j side)) (sideOverhangs j side) room
+abbrev pub plannedBefore : Job → (side room : ℕ) → Answer PlannedSide
+plannedBefore j side room = unless-refuse (leb side 1) Row.Argument >>= λ _. fitted (scheduleBefore (jobRuns j side)) (sideOverhangs j side) room
 
 -- What each call replies to the bytes of the job j. No right side reads the bytes, or has a limit that the request moved.
 pub record RepliesByJob (s : List ℕ) (j : Job) : Type 0 where
-  pub plans : (side room : ℕ) → plan s side room ≡ planned j side room
+  pub plans : (side room : ℕ) → plan s side room ≡ plannedBefore j side room
   pub levels : (side t : ℕ) → levelAt s side t ≡ (unless-refuse (leb side 1) Row.Argument >>= λ _. accepted (jobLevel j side t))
   -- "each 0 to 2,000,000,000"
   pub corners : (index x y : ℕ) → x ≤ 2000000000 → y ≤ 2000000000
@@ -53,7 +53,7 @@ pub record RepliesByJob (s : List ℕ) (j : Job) : Type 0 where
   -- after an opening with these bytes and any list of calls: the schedule of a job made from the hazards that stand
   pub schedules : (calls : List Call) (m : OpenStates) → CallsFrom s j calls m → (zs : List Hazard) → length zs ≤ mostStanding
       → ((z : Hazard) → List·Memᴰ z zs ↔ List·Memᴰ z (map unnamed (addedSince (j .header) calls))) → (side room : ℕ)
-      → scheduleIn m side room ≡ planned (madeFrom (j .header) zs) side room
+      → scheduleIn m side room ≡ plannedBefore (madeFrom (j .header) zs) side room
   -- the text of the program `barrier`
   pub prints : reported s ≡ runsReport (jobRuns j 0) (jobRuns j 1)
 

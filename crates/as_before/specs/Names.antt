@@ -7,9 +7,9 @@ use Rattle.job.specs.declared.Header.{Header}
 use Rattle.job.specs.declared.Hazard.{Hazard}
 use Rattle.job.specs.declared.NamedHazard.{NamedHazard}
 use Rattle.job.specs.Job.{Job}
-use Rattle.open_job.specs.Open.{replied}
-use Rattle.kept_states.specs.declared.OpenStates.{OpenStates}
-use Rattle.kept_states.specs.States.{addIn}
+use Rattle.base.specs.Answer.{replied}
+use Rattle.open_job.specs.Calls.{addIn}
+use Rattle.open_job.specs.declared.OpenStates.{OpenStates}
 use Rattle.open_promises.specs.Lists.{add, Call, edit, States, opened, statesAfter, standAfter, hazardsAfter, CallsFrom, SchedulesAs, Standing, testNameAndHazard}
 
 -- "Using only names to 255": a name was a byte. A withdrawal of a greater name is let in: none such stands, so it alters nothing.

@@ -5,8 +5,8 @@ use base.Fml.{fauth, fobor}
 use types.Kit.{Soaks}
 use denote.Slice.{sliceVal}
 use denote.Steps.{opens, closes}
-use Rattle.kept_states.specs.States.{keptStates, statesFrom}
-use Rattle.kept_states.specs.declared.OpenStates.{OpenStates}
+use Rattle.open_job.specs.States.{keptStates, statesFrom}
+use Rattle.open_job.specs.declared.OpenStates.{OpenStates}
 use Rattle.barrier_engine.proofs.Walks.{RefT, ptr, now, length, Val, _⊛_, ftrue}
 use Rattle.barrier_engine.proofs.Walks.{List, [], _∷_, _≡_, refl, ℕ, zero, URA, fullShare, Ty, deref, field, place, copy, rvOpd, Code, seq, assign, vptr, rawTy, GName, Lft, Share, fat, flft, fobs, fbor, Heap, Env, Calls, Loops, spotOf, Atoms}
 use Rattle.barrier_engine.proofs.Walks.{Given, Item, ‵, Post, runs, Goal, Seq, Step, step, _$_, move, use1, look, init, stop, fld, load, of-opd, assigns, all, sub, look-in, store-in, Body, Is, shows, mem, owned, facts, spelt}

@@ -5,11 +5,11 @@ use native.Mathlib.Omega.{arith}
 use lib.Dec.{ltb}
 use mir.Syntax.{int}
 use types.Run.{lit}
-use Rattle.kept_states.specs.Parts.{chosen, lookedFor, eachChosen}
-use Rattle.kept_states.specs.declared.KeptState.{KeptState}
-use Rattle.kept_states.specs.declared.OpenStates.{OpenStates}
-use Rattle.kept_states.proofs.states.choose.{Symbol.name as #choose, Symbol.routine as choose-routine, Met.met as choose-met}
-use Rattle.barrier_engine.proofs.Walks.{_≡_, refl, ℕ, zero, Bool, true, some, List, [], _∷_, URA, fullShare, Holds, Ty, w64, deref, field, place, opdTrue, copy, rvOpd, Code, seq, assign, call, Val, Vals, WT, hasTy, vptr, getV, setV, fat}
+use Rattle.open_job.specs.Parts.{chosen, lookedFor, eachChosen}
+use Rattle.open_job.specs.declared.KeptState.{KeptState}
+use Rattle.open_job.specs.declared.OpenStates.{OpenStates}
+use Rattle.open_job.proofs.kept.choose.{Symbol.name as #choose, Symbol.routine as choose-routine, Met.met as choose-met}
+use Rattle.barrier_engine.proofs.Walks.{_≡_, refl, ℕ, zero, Bool, true, some, List, [], _∷_, URA, fullShare, Holds, Ty, w64, deref, field, place, opdTrue, copy, rvOpd, Code, seq, assign, call, Vals, WT, hasTy, vptr, getV, setV, fat}
 use Rattle.barrier_engine.proofs.Walks.{fieldOf, Model, Routines, GhostRules, Running, tables, Heap, Env, Calls, Loops, spotOf, Atoms, FmC, Given, Item, ‵, Post, Seq, _$_, runs, Writes, look, init, store, load, true-lit, and-then, no-more}
 use Rattle.barrier_engine.proofs.Walks.{Denots, Triple, cited}
 use Rattle.barrier_engine.proofs.Data.{Data, Fits, rows, local, room, truth, uint}
@@ -45,24 +45,25 @@ module _ {M : Type 1} {𝓤 : URA M} {H : Heap 𝓤} {A : Atoms 𝓤} {K : Type 
     (t : K) (fm : FmC 𝓤 H (W .laws) C) (known : Triple 𝓤 (C #choose) (Gives 𝓤 H A Chosen kept choice)) (job state fresh done old new : ℕ)
     (at-job : spotOf 𝓤 H E job ≡ (ρ, lj, zero)) (at-state : spotOf 𝓤 H E state ≡ (uint w64 .ty, ls, zero)) (at-fresh : spotOf 𝓤 H E fresh ≡ (kept .ty, lx, zero)) (at-done : spotOf 𝓤 H E done ≡ (truth .ty, ld, zero))
     (at-old : spotOf 𝓤 H E old ≡ (kept .ty, lo, zero)) (at-new : spotOf 𝓤 H E new ≡ (kept .ty, ln, zero)) (n : ℕ) (n-fits : Fits (uint w64) n) (x : KeptState) (x-fits : Fits kept x) (d : Bool) where
-  keep-one : {vs : Vals} {i : Item 𝓤} {v : Val} {rest : Code} (k : ℕ) {δ : ℕ} → Holds (ltb k (2 ^ 64)) → Fits (uint w64) k → fieldOf (memory .ty) (suc k) ≡ some (kept .ty, δ) → (y : KeptState) → getV vs (suc k) ≡ kept .val y → Fits kept y
-      → (Holds (hasTy (kept .ty) (kept .val y)) × WT (kept .val y)
-      → Writes K W (Before b o vs ρ lj (‵ (fat fullShare (kept .ty) ln zero v)) i (From ls lx ld n x d Γ)) (kept .ty) lo zero (kept .val y) (Before b o vs ρ lj (‵ (fat fullShare (kept .ty) ln zero v)) (local kept lo y) (From ls lx ld n x d Γ)))
+  keep-one : {vs : Vals} {i j : Item 𝓤} {rest : Code} (k : ℕ) {δ : ℕ} → Holds (ltb k (2 ^ 64)) → Fits (uint w64) k → fieldOf (memory .ty) (suc k) ≡ some (kept .ty, δ) → (y : KeptState) → getV vs (suc k) ≡ kept .val y → Fits kept y
+      → (Holds (hasTy (kept .ty) (kept .val y)) × WT (kept .val y) → Writes K W (Before b o vs ρ lj j i (From ls lx ld n x d Γ)) (kept .ty) lo zero (kept .val y) (Before b o vs ρ lj j (local kept lo y) (From ls lx ld n x d Γ)))
+      → (Holds (hasTy (kept .ty) (kept .val (chosen d n k x y))) × WT (kept .val (chosen d n k x y))
+      → Writes K W (Before b o vs ρ lj j (local kept lo y) (From ls lx ld n x d Γ)) (kept .ty) ln zero (kept .val (chosen d n k x y)) (Before b o vs ρ lj (local kept ln (chosen d n k x y)) (local kept lo y) (From ls lx ld n x d Γ)))
       → (Fits kept (chosen d n k x y) → Seq K W (Before b o (setV vs (suc k) (kept .val (chosen d n k x y))) ρ lj (local kept ln (chosen d n k x y)) (local kept lo y) (From ls lx ld n x d Γ)) (runs C Λ E rest q))
-      → Seq K W (Before b o vs ρ lj (‵ (fat fullShare (kept .ty) ln zero v)) i (From ls lx ld n x d Γ)) (runs C Λ E (keepOf job state fresh done old new k rest) q)
-  keep-one k small k-fits e y is fits into r =
+      → Seq K W (Before b o vs ρ lj j i (From ls lx ld n x d Γ)) (runs C Λ E (keepOf job state fresh done old new k rest) q)
+  keep-one k small k-fits e y is fits into into-new r =
       replaces t fm job old new at-job at-old at-new Chosen choice known (d, (n, (k, (x, (y, tt))))) (refl, (n-fits, (k-fits, (x-fits, (fits, tt))))) (suc k) e y is fits into
       (and-then t (load t (here t at-done) (look t 6 refl)) (and-then t (load t (here t at-state) (look t 4 refl)) (and-then t (lit t small) (and-then t (load t (here t at-fresh) (look t 5 refl)) (and-then t (load t (here t at-old) (look t 3 refl)) (no-more t))))))
-      (store t 2 refl) r
+      into-new r
 
-  pub each-kept : {v : Val} {rest : Code} (m : OpenStates) → Parts m
+  pub each-kept : {rest : Code} (m : OpenStates) → Parts m
       → (Parts (eachChosen m d n x) → Seq K W (cellOf fullShare b o (eachChosen m d n x) ∷ ‵ (fat fullShare ρ lj zero (vptr b o)) ∷ local kept ln (chosen d n 7 x (m .kept7)) ∷ local kept lo (m .kept7) ∷ From ls lx ld n x d Γ) (runs C Λ E rest q))
-      → Seq K W (cellOf fullShare b o m ∷ ‵ (fat fullShare ρ lj zero (vptr b o)) ∷ ‵ (fat fullShare (kept .ty) ln zero v) ∷ room kept lo ∷ From ls lx ld n x d Γ) (runs C Λ E (keeps job state fresh done old new rest) q)
+      → Seq K W (cellOf fullShare b o m ∷ ‵ (fat fullShare ρ lj zero (vptr b o)) ∷ room kept ln ∷ room kept lo ∷ From ls lx ld n x d Γ) (runs C Λ E (keeps job state fresh done old new rest) q)
   each-kept m p r =
-      keep-one 0 tt (refl, omega arith) refl (m .kept0) refl (p .fits0) (init t 3 refl) (λ f0. keep-one 1 tt (refl, omega arith) refl (m .kept1) refl (p .fits1) (store t 3 refl) (λ f1.
-      keep-one 2 tt (refl, omega arith) refl (m .kept2) refl (p .fits2) (store t 3 refl) (λ f2. keep-one 3 tt (refl, omega arith) refl (m .kept3) refl (p .fits3) (store t 3 refl) (λ f3.
-      keep-one 4 tt (refl, omega arith) refl (m .kept4) refl (p .fits4) (store t 3 refl) (λ f4. keep-one 5 tt (refl, omega arith) refl (m .kept5) refl (p .fits5) (store t 3 refl) (λ f5.
-      keep-one 6 tt (refl, omega arith) refl (m .kept6) refl (p .fits6) (store t 3 refl) (λ f6. keep-one 7 tt (refl, omega arith) refl (m .kept7) refl (p .fits7) (store t 3 refl) (λ f7.
+      keep-one 0 tt (refl, omega arith) refl (m .kept0) refl (p .fits0) (init t 3 refl) (init t 2 refl) (λ f0. keep-one 1 tt (refl, omega arith) refl (m .kept1) refl (p .fits1) (store t 3 refl) (store t 2 refl) (λ f1.
+      keep-one 2 tt (refl, omega arith) refl (m .kept2) refl (p .fits2) (store t 3 refl) (store t 2 refl) (λ f2. keep-one 3 tt (refl, omega arith) refl (m .kept3) refl (p .fits3) (store t 3 refl) (store t 2 refl) (λ f3.
+      keep-one 4 tt (refl, omega arith) refl (m .kept4) refl (p .fits4) (store t 3 refl) (store t 2 refl) (λ f4. keep-one 5 tt (refl, omega arith) refl (m .kept5) refl (p .fits5) (store t 3 refl) (store t 2 refl) (λ f5.
+      keep-one 6 tt (refl, omega arith) refl (m .kept6) refl (p .fits6) (store t 3 refl) (store t 2 refl) (λ f6. keep-one 7 tt (refl, omega arith) refl (m .kept7) refl (p .fits7) (store t 3 refl) (store t 2 refl) (λ f7.
       r (record { present-fits = p .present-fits; fits0 = f0; fits1 = f1; fits2 = f2; fits3 = f3; fits4 = f4; fits5 = f5; fits6 = f6; fits7 = f7 })))))))))
 
 -- ---- returning: what is kept under a number is looked for
@@ -80,21 +81,23 @@ module _ {M : Type 1} {𝓤 : URA M} {H : Heap 𝓤} {A : Atoms 𝓤} {K : Type 
     (t : K) (fm : FmC 𝓤 H (W .laws) C) (known : Triple 𝓤 (C #choose) (Gives 𝓤 H A Chosen kept choice)) (job state slot found : ℕ)
     (at-job : spotOf 𝓤 H E job ≡ (ρ, lj, zero)) (at-state : spotOf 𝓤 H E state ≡ (uint w64 .ty, ls, zero)) (at-slot : spotOf 𝓤 H E slot ≡ (kept .ty, lk, zero)) (at-found : spotOf 𝓤 H E found ≡ (kept .ty, lf, zero))
     (n : ℕ) (n-fits : Fits (uint w64) n) where
-  find-one : {vs : Vals} {v : Val} {rest : Code} (y : KeptState) → Fits kept y → (k : ℕ) {δ : ℕ} → Holds (ltb k (2 ^ 64)) → Fits (uint w64) k → fieldOf (memory .ty) (suc k) ≡ some (kept .ty, δ) → (x : KeptState) → getV vs (suc k) ≡ kept .val x → Fits kept x
+  find-one : {vs : Vals} {j : Item 𝓤} {rest : Code} (y : KeptState) → Fits kept y → (k : ℕ) {δ : ℕ} → Holds (ltb k (2 ^ 64)) → Fits (uint w64) k → fieldOf (memory .ty) (suc k) ≡ some (kept .ty, δ) → (x : KeptState) → getV vs (suc k) ≡ kept .val x → Fits kept x
+      → (Holds (hasTy (kept .ty) (kept .val x)) × WT (kept .val x)
+      → Writes K W (Before b o vs ρ lj j (local kept lf y) (local (uint w64) ls n ∷ Γ)) (kept .ty) lk zero (kept .val x) (Before b o vs ρ lj (local kept lk x) (local kept lf y) (local (uint w64) ls n ∷ Γ)))
       → (Fits kept (chosen true n k x y) → Seq K W (Before b o vs ρ lj (local kept lk x) (local kept lf (chosen true n k x y)) (local (uint w64) ls n ∷ Γ)) (runs C Λ E rest q))
-      → Seq K W (Before b o vs ρ lj (‵ (fat fullShare (kept .ty) lk zero v)) (local kept lf y) (local (uint w64) ls n ∷ Γ)) (runs C Λ E (findOf job state slot found k rest) q)
-  find-one y y-fits k small k-fits e x is fits r =
-      copies t (suc k) refl e is at-job (look t 1 refl) at-slot (store t 2 refl (kept .typed 𝓤 H A W x fits)) $
+      → Seq K W (Before b o vs ρ lj j (local kept lf y) (local (uint w64) ls n ∷ Γ)) (runs C Λ E (findOf job state slot found k rest) q)
+  find-one y y-fits k small k-fits e x is fits into r =
+      copies t (suc k) refl e is at-job (look t 1 refl) at-slot (into (kept .typed 𝓤 H A W x fits)) $
       asks t fm Chosen kept choice known (true, (n, (k, (x, (y, tt))))) (refl, (n-fits, (k-fits, (fits, (y-fits, tt)))))
       (and-then t (true-lit t) (and-then t (load t (here t at-state) (look t 4 refl)) (and-then t (lit t small) (and-then t (load t (here t at-slot) (look t 2 refl)) (and-then t (load t (here t at-found) (look t 3 refl)) (no-more t))))))
       (here t at-found) (store t 3 refl) r
 
-  pub all-found : {v : Val} {rest : Code} (m : OpenStates) → Parts m
+  pub all-found : {rest : Code} (m : OpenStates) → Parts m
       → (Fits kept (lookedFor m n) → Seq K W (cellOf fullShare b o m ∷ ‵ (fat fullShare ρ lj zero (vptr b o)) ∷ local kept lk (m .kept7) ∷ local kept lf (lookedFor m n) ∷ local (uint w64) ls n ∷ Γ) (runs C Λ E rest q))
-      → Seq K W (cellOf fullShare b o m ∷ ‵ (fat fullShare ρ lj zero (vptr b o)) ∷ ‵ (fat fullShare (kept .ty) lk zero v) ∷ room kept lf ∷ local (uint w64) ls n ∷ Γ) (runs C Λ E (finds job state slot found rest) q)
+      → Seq K W (cellOf fullShare b o m ∷ ‵ (fat fullShare ρ lj zero (vptr b o)) ∷ room kept lk ∷ room kept lf ∷ local (uint w64) ls n ∷ Γ) (runs C Λ E (finds job state slot found rest) q)
   all-found m p r =
       copies t 1 refl refl refl at-job (look t 1 refl) at-found (init t 3 refl (kept .typed 𝓤 H A W (m .kept0) (p .fits0))) $
-      find-one _ (p .fits0) 1 tt (refl, omega arith) refl (m .kept1) refl (p .fits1) (λ f1. find-one _ f1 2 tt (refl, omega arith) refl (m .kept2) refl (p .fits2) (λ f2.
-      find-one _ f2 3 tt (refl, omega arith) refl (m .kept3) refl (p .fits3) (λ f3. find-one _ f3 4 tt (refl, omega arith) refl (m .kept4) refl (p .fits4) (λ f4.
-      find-one _ f4 5 tt (refl, omega arith) refl (m .kept5) refl (p .fits5) (λ f5. find-one _ f5 6 tt (refl, omega arith) refl (m .kept6) refl (p .fits6) (λ f6.
-      find-one _ f6 7 tt (refl, omega arith) refl (m .kept7) refl (p .fits7) r))))))
+      find-one _ (p .fits0) 1 tt (refl, omega arith) refl (m .kept1) refl (p .fits1) (init t 2 refl) (λ f1. find-one _ f1 2 tt (refl, omega arith) refl (m .kept2) refl (p .fits2) (store t 2 refl) (λ f2.
+      find-one _ f2 3 tt (refl, omega arith) refl (m .kept3) refl (p .fits3) (store t 2 refl) (λ f3. find-one _ f3 4 tt (refl, omega arith) refl (m .kept4) refl (p .fits4) (store t 2 refl) (λ f4.
+      find-one _ f4 5 tt (refl, omega arith) refl (m .kept5) refl (p .fits5) (store t 2 refl) (λ f5. find-one _ f5 6 tt (refl, omega arith) refl (m .kept6) refl (p .fits6) (store t 2 refl) (λ f6.
+      find-one _ f6 7 tt (refl, omega arith) refl (m .kept7) refl (p .fits7) (store t 2 refl) r))))))

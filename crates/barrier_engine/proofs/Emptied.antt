@@ -1,9 +1,9 @@
 -- An opening that was done empties each of the eight kept states.
 -- Assumes nothing.
-use Rattle.kept_states.specs.Parts.{emptied, eachEmptied}
-use Rattle.kept_states.specs.declared.KeptState.{KeptState}
-use Rattle.kept_states.specs.declared.OpenStates.{OpenStates}
-use Rattle.kept_states.proofs.states.empty.{Symbol.name as #empty, Symbol.routine as empty-routine, Met.met as empty-met}
+use Rattle.open_job.specs.Parts.{emptied, eachEmptied}
+use Rattle.open_job.specs.declared.KeptState.{KeptState}
+use Rattle.open_job.specs.declared.OpenStates.{OpenStates}
+use Rattle.open_job.proofs.kept.empty.{Symbol.name as #empty, Symbol.routine as empty-routine, Met.met as empty-met}
 use Rattle.barrier_engine.proofs.Walks.{_≡_, refl, ℕ, zero, Bool, some, List, [], _∷_, URA, fullShare, Holds, Ty, place, copy, Code, Vals, WT, hasTy, vptr, getV, setV, fat, fieldOf, Model, Routines, GhostRules, Running, tables, Heap, Env}
 use Rattle.barrier_engine.proofs.Walks.{Calls, Loops, spotOf, Atoms, FmC, Given, Item, ‵, Post, Seq, runs, Writes, look, init, store, load, and-then, no-more, Denots, Triple, cited}
 use Rattle.barrier_engine.proofs.Data.{Data, Fits, rows, local, room, truth}

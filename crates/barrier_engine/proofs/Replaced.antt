@@ -1,6 +1,6 @@
 -- One kept state is replaced by what a function by value makes of it: the code copies it into a local, calls, and stores the result back. Opening and keeping do so with each of the eight.
 -- Assumes nothing.
-use Rattle.kept_states.specs.declared.KeptState.{KeptState}
+use Rattle.open_job.specs.declared.KeptState.{KeptState}
 use Rattle.barrier_engine.proofs.Walks.{_≡_, refl, ℕ, zero, some, List, [], _∷_, URA, fullShare, Holds, Name, Ty, deref, field, place, Operand, copy, rvOpd, Code, seq, assign, call, Vals, WT, hasTy, vptr, vstruct, getV, setV, fat, fieldOf}
 use Rattle.barrier_engine.proofs.Walks.{Heap, Env, Calls, Loops, spotOf, Atoms, FmC, Given, Item, ‵, Post, Seq, _$_, runs, Writes, Opds, look, stop, fld, load, of-opd, assigns, all, sub, store-in, Denots, flat, Triple}
 use Rattle.barrier_engine.proofs.Data.{Data, Fits, AllFit, rows, machine, local}

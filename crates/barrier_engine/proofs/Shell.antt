@@ -12,7 +12,7 @@ use denote.Signature.{mutRefTo}
 use denote.Triple.End.{Fins}
 use denote.Triple.Clauses.{Ended, Clauses, closing}
 use denote.Triple.Walked.{fitsOf, hasOf, AllGo}
-use Rattle.kept_states.specs.declared.OpenStates.{OpenStates}
+use Rattle.open_job.specs.declared.OpenStates.{OpenStates}
 use Rattle.replies.specs.declared.Reply.{Reply}
 use Rattle.barrier_engine.proofs.Walks.{_≡_, refl, sym, subst, ℕ, List, [], _∷_, URA, Name, named, Val, vptr, SProp, ent, sep, emp, via, id⊢, emp∗, mono∗, monoL, fst∗, snd∗, GName, Lft, Share, ftrue, flft, fobs, fbor, Model, Routines, Heap}
 use Rattle.barrier_engine.proofs.Walks.{Calls, Loops, WpFn, Tables, Atoms, sem, fact, fact-use, Lfts, GhostRules, Running, givenOf, tables, Given, Item, ‵, ⋆, _⊛_, _$_, _∵_, !, qed, by, move, keep, drop, split, join, fsplit, fsplit3, fjoin}

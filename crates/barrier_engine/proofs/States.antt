@@ -8,12 +8,12 @@ use Rattle.job.proofs.Header.Laws as Header·t′
 use Rattle.job.specs.declared.StoredJob.{StoredJob}
 use Rattle.job.proofs.StoredJob as StoredJob·t
 use Rattle.job.proofs.StoredJob.Laws as StoredJob·t′
-use Rattle.kept_states.proofs.KeptState as KeptState·t
-use Rattle.kept_states.proofs.KeptState.Laws as KeptState·t′
-use Rattle.kept_states.specs.States.{keptStates, statesFrom}
-use Rattle.kept_states.specs.declared.OpenStates.{OpenStates}
-use Rattle.kept_states.proofs.OpenStates as OpenStates·t
-use Rattle.kept_states.proofs.OpenStates.Laws as OpenStates·t′
+use Rattle.open_job.proofs.KeptState as KeptState·t
+use Rattle.open_job.proofs.KeptState.Laws as KeptState·t′
+use Rattle.open_job.specs.States.{keptStates, statesFrom}
+use Rattle.open_job.specs.declared.OpenStates.{OpenStates}
+use Rattle.open_job.proofs.OpenStates as OpenStates·t
+use Rattle.open_job.proofs.OpenStates.Laws as OpenStates·t′
 use Rattle.replies.proofs.Reply as Reply·t
 use Rattle.replies.proofs.Reply.Laws as Reply·t′
 use Rattle.replies.specs.declared.open.Changed.{Changed}

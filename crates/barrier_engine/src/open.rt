@@ -1,10 +1,10 @@
 // The calls on an open job, which is changed in the caller's memory: thin shells over the calls by value. A shell takes the memory apart
 // field by field, so that two or three states are on its stack, and never all nine.
-use kept_states::OpenStates;
-use kept_states::states::also_sound;
-use kept_states::states::choose;
-use kept_states::states::empty;
-use kept_states::states::kept_from;
+use open_job::OpenStates;
+use open_job::kept::also_sound;
+use open_job::kept::choose;
+use open_job::kept::empty;
+use open_job::kept::kept_from;
 use open_memory::GivenHazard;
 use replies::PlanReply;
 use replies::Reply;
@@ -18,9 +18,26 @@ ghost use mathlib.Core.Path.{_≡_};
 ghost use lib.ListN.{length};
 ghost use Rattle.schedule.specs.Plan.{bytesWritten, outputAfter};
 ghost use Rattle.open_memory.specs.Memory.{hazardGiven};
-ghost use Rattle.open_job.specs.Open.{memoryAfter, replied};
-ghost use Rattle.kept_states.specs.States.{openStates, addIn, withdrawIn, scheduleIn, keepIn, returnIn};
+ghost use Rattle.open_job.specs.States.{allSound};
+ghost use Rattle.open_job.specs.Calls.{memoryAfter, openStates, addIn, withdrawIn, scheduleIn, keepIn, returnIn};
+ghost use Rattle.base.specs.Answer.{replied};
 ghost use Rattle.replies.specs.Interface.{replyOf, planReplyOf};
+
+// Is all that is kept sound. Every call but opening asks this first.
+fn all_sound(job: &OpenStates) -> bool
+    ensures { λ r. ⌜ r ≡ allSound (now (job .entry)) ⌝ }
+{
+    let header = (*job).present.header;
+    let mut sound = also_sound(true, header, (*job).kept0);
+    sound = also_sound(sound, header, (*job).kept1);
+    sound = also_sound(sound, header, (*job).kept2);
+    sound = also_sound(sound, header, (*job).kept3);
+    sound = also_sound(sound, header, (*job).kept4);
+    sound = also_sound(sound, header, (*job).kept5);
+    sound = also_sound(sound, header, (*job).kept6);
+    sound = also_sound(sound, header, (*job).kept7);
+    sound
+}
 
 #[no_mangle]
 pub extern "C" fn barrier_open(job: &mut OpenStates, bytes: &[u8]) -> Reply
@@ -44,15 +61,7 @@ pub extern "C" fn barrier_open(job: &mut OpenStates, bytes: &[u8]) -> Reply
 pub extern "C" fn barrier_add(job: &mut OpenStates, name: u16, hazard: GivenHazard) -> Reply
     ensures { λ r. ⌜ (now (job .exit) ≡ memoryAfter (addIn (now (job .entry)) name (hazardGiven hazard)) (now (job .entry))) × (r ≡ replyOf (replied (addIn (now (job .entry)) name (hazardGiven hazard)))) ⌝ }
 {
-    let header = (*job).present.header;
-    let mut sound = also_sound(true, header, (*job).kept0);
-    sound = also_sound(sound, header, (*job).kept1);
-    sound = also_sound(sound, header, (*job).kept2);
-    sound = also_sound(sound, header, (*job).kept3);
-    sound = also_sound(sound, header, (*job).kept4);
-    sound = also_sound(sound, header, (*job).kept5);
-    sound = also_sound(sound, header, (*job).kept6);
-    sound = also_sound(sound, header, (*job).kept7);
+    let sound = all_sound(&*job);
     let done = added(sound, (*job).present, name, hazard);
     (*job).present = done.next;
     done.reply
@@ -62,15 +71,7 @@ pub extern "C" fn barrier_add(job: &mut OpenStates, name: u16, hazard: GivenHaza
 pub extern "C" fn barrier_withdraw(job: &mut OpenStates, name: u16) -> Reply
     ensures { λ r. ⌜ (now (job .exit) ≡ memoryAfter (withdrawIn (now (job .entry)) name) (now (job .entry))) × (r ≡ replyOf (replied (withdrawIn (now (job .entry)) name))) ⌝ }
 {
-    let header = (*job).present.header;
-    let mut sound = also_sound(true, header, (*job).kept0);
-    sound = also_sound(sound, header, (*job).kept1);
-    sound = also_sound(sound, header, (*job).kept2);
-    sound = also_sound(sound, header, (*job).kept3);
-    sound = also_sound(sound, header, (*job).kept4);
-    sound = also_sound(sound, header, (*job).kept5);
-    sound = also_sound(sound, header, (*job).kept6);
-    sound = also_sound(sound, header, (*job).kept7);
+    let sound = all_sound(&*job);
     let done = withdrawn(sound, (*job).present, name);
     (*job).present = done.next;
     done.reply
@@ -80,15 +81,7 @@ pub extern "C" fn barrier_withdraw(job: &mut OpenStates, name: u16) -> Reply
 pub extern "C" fn barrier_keep(job: &mut OpenStates, state: u64) -> Reply
     ensures { λ r. ⌜ (now (job .exit) ≡ memoryAfter (keepIn (now (job .entry)) state) (now (job .entry))) × (r ≡ replyOf (replied (keepIn (now (job .entry)) state))) ⌝ }
 {
-    let header = (*job).present.header;
-    let mut sound = also_sound(true, header, (*job).kept0);
-    sound = also_sound(sound, header, (*job).kept1);
-    sound = also_sound(sound, header, (*job).kept2);
-    sound = also_sound(sound, header, (*job).kept3);
-    sound = also_sound(sound, header, (*job).kept4);
-    sound = also_sound(sound, header, (*job).kept5);
-    sound = also_sound(sound, header, (*job).kept6);
-    sound = also_sound(sound, header, (*job).kept7);
+    let sound = all_sound(&*job);
     let keeping = kept(sound, (*job).present, state);
     let new = kept_from((*job).present);
     let done = keeping.done;
@@ -107,15 +100,7 @@ pub extern "C" fn barrier_keep(job: &mut OpenStates, state: u64) -> Reply
 pub extern "C" fn barrier_return(job: &mut OpenStates, state: u64) -> Reply
     ensures { λ r. ⌜ (now (job .exit) ≡ memoryAfter (returnIn (now (job .entry)) state) (now (job .entry))) × (r ≡ replyOf (replied (returnIn (now (job .entry)) state))) ⌝ }
 {
-    let header = (*job).present.header;
-    let mut sound = also_sound(true, header, (*job).kept0);
-    sound = also_sound(sound, header, (*job).kept1);
-    sound = also_sound(sound, header, (*job).kept2);
-    sound = also_sound(sound, header, (*job).kept3);
-    sound = also_sound(sound, header, (*job).kept4);
-    sound = also_sound(sound, header, (*job).kept5);
-    sound = also_sound(sound, header, (*job).kept6);
-    sound = also_sound(sound, header, (*job).kept7);
+    let sound = all_sound(&*job);
     let mut found = (*job).kept0;
     found = choose(true, state, 1, (*job).kept1, found);
     found = choose(true, state, 2, (*job).kept2, found);
@@ -133,14 +118,6 @@ pub extern "C" fn barrier_return(job: &mut OpenStates, state: u64) -> Reply
 pub extern "C" fn barrier_open_schedule(job: &OpenStates, side: u64, out: &mut [u8]) -> PlanReply
     ensures { λ r. ⌜ (r ≡ planReplyOf (bytesWritten (scheduleIn (now (job .entry)) side (length (now (out .entry)))))) × (now (out .exit) ≡ outputAfter (scheduleIn (now (job .entry)) side (length (now (out .entry)))) (now (out .entry))) ⌝ }
 {
-    let header = (*job).present.header;
-    let mut sound = also_sound(true, header, (*job).kept0);
-    sound = also_sound(sound, header, (*job).kept1);
-    sound = also_sound(sound, header, (*job).kept2);
-    sound = also_sound(sound, header, (*job).kept3);
-    sound = also_sound(sound, header, (*job).kept4);
-    sound = also_sound(sound, header, (*job).kept5);
-    sound = also_sound(sound, header, (*job).kept6);
-    sound = also_sound(sound, header, (*job).kept7);
+    let sound = all_sound(job);
     scheduled(sound, (*job).present, side, out)
 }

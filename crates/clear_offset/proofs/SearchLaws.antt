@@ -1,4 +1,4 @@
--- Halving: the offsets that are left, and that the search from 0 upwards gives the same.
+-- Halving (binary search): the offsets that are left, and that the search from 0 upwards gives the same.
 -- Assumes nothing.
 use Prim.Native.Nat.{ℕ, zero, suc, _+_, _-_, _/_, _^_, _≤_, _<_, min}
 use native.Mathlib.Omega.{arith}
@@ -9,11 +9,12 @@ use mathlib.Core.Logic.{_↔_}
 use mathlib.Core.Bool.{Bool, true, false}
 use lib.Dec.{leb}
 use borrow.Author.Tests.{leb-true, le-leb}
-use Rattle.refusal.specs.Choice.{if_then_else_}
-use Rattle.refusal.proofs.TestLaws.{and-left, and-right, and-intro, not-both}
+use Rattle.base.specs.Choice.{if_then_else_}
+use Rattle.base.specs.Least.{Least}
+use Rattle.base.proofs.TestLaws.{and-left, and-right, and-intro, not-both}
 use Rattle.job.specs.declared.Header.{Header}
 use Rattle.job.specs.declared.Hazard.{Hazard}
-use Rattle.clear_offset.specs.Offset.{lengthAt, Allowed, Least, Smallest, offset, none, leastOf, isAllowed, hazardOffset}
+use Rattle.clear_offset.specs.Offset.{lengthAt, Allowed, Smallest, offset, none, leastOf, isAllowed, hazardOffset}
 use Rattle.clear_offset.specs.Steps.{Clear}
 use Rattle.clear_offset.proofs.LengthLaws.{length-at-falls, length-at-some}
 

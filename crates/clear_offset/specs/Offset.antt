@@ -4,8 +4,8 @@ use Prim.Native.Nat.{ℕ, zero, suc, _+_, _≤_}
 use mathlib.Core.Bool.{Bool, _&&_}
 use mathlib.Core.List.{List}
 use lib.Dec.{leb}
-use Rattle.refusal.specs.Choice.{if_then_else_}
-use Rattle.refusal.specs.Answer.{Answer, accepted, _>>=_}
+use Rattle.base.specs.Choice.{if_then_else_}
+use Rattle.base.specs.Answer.{Answer, accepted, _>>=_}
 use Rattle.refusal.specs.Refusal.{refusal}
 use Rattle.job.specs.declared.Header.{Header}
 use Rattle.job.specs.declared.Hazard.{Hazard}
@@ -27,11 +27,6 @@ pub record Allowed (h : Header) (z : Hazard) (longest M : ℕ) : Type 0 where
   pub range : M ≤ 20000
   pub clear : M + h .deflection ≤ z .near
   pub no-longer : lengthAt h z M ≤ longest
-
--- "The smallest M": one that is allowed, and no other is smaller.
-pub record Least (P : ℕ → Type 0) (M : ℕ) : Type 0 where
-  pub holds : P M
-  pub least : (k : ℕ) → P k → M ≤ k
 
 -- The same, computed (laws least-exactly, none-exactly)
 

@@ -1,7 +1,7 @@
 -- The call behind the acceptance of the job, and what the search is asked with.
 -- Assumes nothing.
 use Prim.Native.Nat.{ℕ, _≤_, _<_}
-use Rattle.refusal.specs.Answer.{Answer, accepted, _>>=_}
+use Rattle.base.specs.Answer.{Answer, accepted, _>>=_}
 use Rattle.job.specs.declared.Header.{Header}
 use Rattle.job.specs.declared.Hazard.{Hazard}
 use Rattle.job.specs.Job.{Job}

@@ -1,14 +1,15 @@
-// The smallest offset for a hazard: the offsets that leave the deflection free are halved, since the length falls as the offset rises.
+// The smallest offset for a hazard: the offsets that leave the deflection free are halved (binary search), since the length falls as the
+// offset rises.
 use super::reply::Offset;
+use base::min;
 use job::Hazard;
 use job::Header;
 use planning::envelope::adjacent_reach;
 use planning::envelope::adjacent_traffic;
-use planning::envelope::lesser;
 use planning::envelope::runout_length;
 ghost use mathlib.Core.Path.{_≡_};
 ghost use Prim.Native.Nat.{_+_, _≤_};
-ghost use Rattle.refusal.specs.Answer.{accepted};
+ghost use Rattle.base.specs.Answer.{accepted};
 ghost use Rattle.clear_offset.specs.Offset.{lengthAt, hazardOffset, offsetReply};
 ghost use Rattle.clear_offset.specs.Steps.{Clear};
 
@@ -38,7 +39,7 @@ pub fn smallest_of(header: Header, hazard: Hazard, longest: u64) -> Offset
     requires { ⌜ Clear header hazard ⌝ }
     ensures { λ r. ⌜ offsetReply r ≡ accepted (hazardOffset header hazard longest) ⌝ }
 {
-    let end = lesser(hazard.near as u64 - header.deflection, 20000) + 1;
+    let end = min(hazard.near as u64 - header.deflection, 20000) + 1;
     let mut low: u64 = 0;
     let mut high = end;
     let mut lengths: u64 = 15;

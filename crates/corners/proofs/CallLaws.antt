@@ -7,8 +7,8 @@ use mathlib.Core.Bool.{true, false, _||_, and-false}
 use mathlib.Core.List.{List}
 use lib.Dec.{ltb, leb}
 use borrow.Author.Tests.{ltb-true, lt-leb, le-leb, ltb-false}
-use Rattle.refusal.specs.Answer.{refused, _>>=_}
-use Rattle.refusal.proofs.TestLaws.{or-cases, or-false}
+use Rattle.base.specs.Answer.{refused, _>>=_}
+use Rattle.base.proofs.TestLaws.{or-cases, or-false}
 use Rattle.planning.specs.Envelope.{acceptJob}
 use Rattle.corners.specs.Corners.{sheetTop, cornersOf}
 use Rattle.corners.specs.Steps.{jobCorners}

@@ -1,2 +1,3 @@
+pub mod WholeLaws
 pub mod PointLaws
 pub mod CallLaws

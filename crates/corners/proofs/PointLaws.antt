@@ -8,12 +8,12 @@ use mathlib.Core.Bool.{Bool, true, _&&_}
 use lib.Dec.{ltb}
 use lib.IntN.{pos, natAbs}
 use borrow.Author.Tests.{ltb-true}
-use Rattle.refusal.specs.Choice.{if_then_else_}
-use Rattle.refusal.specs.Answer.{accepted}
+use Rattle.base.specs.Choice.{if_then_else_}
+use Rattle.base.specs.Answer.{accepted}
 use Rattle.refusal.specs.Refusal.{outcome}
 use Rattle.refusal.specs.declared.Outcome.the-variants.{Done}
-use Rattle.refusal.proofs.TestLaws.{and-right}
-use Rattle.exact.proofs.WholeLaws.{difference-size}
+use Rattle.base.proofs.TestLaws.{and-right}
+use Rattle.corners.proofs.WholeLaws.{difference-size}
 use Rattle.approach.specs.Approach.{approachLength, Domain}
 use Rattle.approach.specs.Panel.{raisedLength}
 use Rattle.job.specs.declared.Header.{Header}
@@ -25,7 +25,7 @@ use Rattle.planning.proofs.ReachLaws.{reaches-adjacent, reaching-domain, reachi
 use Rattle.corners.specs.declared.points.Lengths.{Lengths}
 use Rattle.corners.specs.declared.reply.Corners.{Corners}
 use Rattle.corners.specs.Corners.{upstreamBy, lengthBefore, flareEntered, upstreamOffset, Point, pointAt, approachPoints}
-use Rattle.corners.specs.Reply.{cornerOf, replied, cornersReply}
+use Rattle.corners.specs.Reply.{cornerOf, cornersReplied, cornersReply}
 use Rattle.corners.specs.Steps.{LengthsOf}
 
 -- Adjacent traffic that reaches a hazard, which stands clear of the barrier, asks for its lengths with the hazard's own offsets.
@@ -41,14 +41,14 @@ module _ (h : Header) (z : Hazard) (t : Traffic) (hf : HeaderFits h) (zf : Hazar
       let e = reaches-adjacent h z t beside in
       let same : l .before ≡ lengthBefore h z t = cc (e .1, e .2) in
       let raise : l .raised ≡ lengthening h z t = cc (e .1, e .2, reaching-length h z hf zf clear t reach) in
-      let not-smaller : lengthBefore h z t ≤ lengthening h z t = reaching-raised h z hf zf clear t reach .not-smaller in
+      let not-smaller : lengthBefore h z t ≤ lengthening h z t = reaching-raised h z hf zf clear t reach .holds .not-smaller in
       record { before = same; raised = raise; not-smaller = omega arith; few = omega (arith, lengthening-top h z hf zf clear t) }
 
 -- Where the flare is entered, the raised length passes T; and as code has it.
 pub raised-past-straight : (h : Header) (z : Hazard) (t : Traffic) → HeaderFits h → HazardFits h z → h .offset + h .deflection ≤ z .near → reaches h z t ≡ true → flareEntered h z t ≡ true
     → h .straight < lengthening h z t
 unfolding flareEntered lengthBefore
-raised-past-straight h z t hf zf clear reach e = omega (arith, ltb-true (h .straight) _ (and-right (ltb 0 (h .across)) _ e), reaching-raised h z hf zf clear t reach .not-smaller)
+raised-past-straight h z t hf zf clear reach e = omega (arith, ltb-true (h .straight) _ (and-right (ltb 0 (h .across)) _ e), reaching-raised h z hf zf clear t reach .holds .not-smaller)
 
 pub lengths-past-straight : {h : Header} {z : Hazard} {t : Traffic} {l : Lengths} → LengthsOf h z t l → (ltb 0 (h .across) && ltb (h .straight) (l .before)) ≡ true → h .straight < l .raised
 lengths-past-straight {h} {l = l} is e = omega (arith, ltb-true (h .straight) (l .before) (and-right (ltb 0 (h .across)) _ e), is .not-smaller)
@@ -76,8 +76,8 @@ module _ (x y : ℕ) (h : Header) (z : Hazard) (t : Traffic) (l : Lengths) (is :
       → r .upstream ≡ cornerOf (endPoint x y h z t (l .raised) entered)
       → r .flare ≡ cornerOf (if entered then pointAt x y (upstreamBy t z (h .straight)) (h .offset) else endPoint x y h z t (l .raised) entered)
       → r .hazard ≡ cornerOf (pointAt x y (upstreamBy t z 0) (h .offset))
-      → cornersReply r ≡ replied (accepted (approachPoints x y h z t))
-  unfolding approachPoints upstreamOffset flareEntered replied
+      → cornersReply r ≡ cornersReplied (accepted (approachPoints x y h z t))
+  unfolding approachPoints upstreamOffset flareEntered cornersReplied
   approach-reply done upstream flare hazard =
       let e : (ltb 0 (h .across) && ltb (h .straight) (lengthBefore h z t)) ≡ entered = rw (is .before) at test in
       rw (e, ← is .raised) (λ i. record { answer = outcome (done i) tt; upstream = upstream i; flare = flare i; hazard = hazard i })

@@ -1,3 +1,5 @@
+-- What it means that a float is exactly a whole number.
+pub mod Whole
 -- The paper's definitions.
 pub mod Corners
 -- What the call's struct says of them.

@@ -13,18 +13,18 @@ use planning::envelope::adjacent_traffic;
 use refusal::Outcome;
 use refusal::Refusal;
 ghost use mathlib.Core.Path.{_≡_};
-ghost use Rattle.refusal.specs.Answer.{accepted};
+ghost use Rattle.base.specs.Answer.{accepted};
 ghost use Rattle.refusal.specs.Refusal.{refusal};
 ghost use Rattle.job.specs.Job.{jobOf};
 ghost use Rattle.planning.specs.Approached.{ApproachedFits};
 ghost use Rattle.planning.specs.Rows.{AcceptedFits};
 ghost use Rattle.corners.specs.Corners.{cornersOf};
-ghost use Rattle.corners.specs.Reply.{replied, cornersReply};
+ghost use Rattle.corners.specs.Reply.{cornersReplied, cornersReply};
 ghost use Rattle.corners.specs.Steps.{hazardCorners, jobCorners, OnSheet};
 
 // A refusal, and zeros beside it.
 fn refused(why: Refusal) -> Corners
-    ensures { λ r. ⌜ cornersReply r ≡ replied (refusal why) ⌝ }
+    ensures { λ r. ⌜ cornersReply r ≡ cornersReplied (refusal why) ⌝ }
 {
     let none = Corner {
         station: 0.0,
@@ -42,7 +42,7 @@ fn refused(why: Refusal) -> Corners
 fn hazard_corners(header: Header, hazard: Hazard, sheet: Sheet) -> Corners
     requires { ⌜ ApproachedFits header hazard ⌝ }
     requires { ⌜ OnSheet sheet ⌝ }
-    ensures { λ r. ⌜ cornersReply r ≡ replied (accepted (hazardCorners (sheet .station) (sheet .offset) header hazard)) ⌝ }
+    ensures { λ r. ⌜ cornersReply r ≡ cornersReplied (accepted (hazardCorners (sheet .station) (sheet .offset) header hazard)) ⌝ }
 {
     let traffic = adjacent_traffic(header, hazard.side);
     let lengths = approach_lengths(header, hazard, traffic);
@@ -53,7 +53,7 @@ fn hazard_corners(header: Header, hazard: Hazard, sheet: Sheet) -> Corners
 fn job_corners(job: StoredJob, index: u64, sheet: Sheet) -> Corners
     requires { ⌜ AcceptedFits (jobOf job) ⌝ }
     requires { ⌜ OnSheet sheet ⌝ }
-    ensures { λ r. ⌜ cornersReply r ≡ replied (jobCorners (sheet .station) (sheet .offset) (jobOf job) index) ⌝ }
+    ensures { λ r. ⌜ cornersReply r ≡ cornersReplied (jobCorners (sheet .station) (sheet .offset) (jobOf job) index) ⌝ }
 {
     let header = job.header;
     if header.count <= index {
@@ -69,7 +69,7 @@ fn job_corners(job: StoredJob, index: u64, sheet: Sheet) -> Corners
 
 // The corners of a hazard's adjacent approach, counted from the sheet corner; or the first refusal.
 pub fn corners(job: &[u8], hazard: u64, sheet_station: u64, sheet_offset: u64) -> Corners
-    ensures { λ r. ⌜ cornersReply r ≡ replied (cornersOf (now (job .entry)) hazard «sheet_station» «sheet_offset») ⌝ }
+    ensures { λ r. ⌜ cornersReply r ≡ cornersReplied (cornersOf (now (job .entry)) hazard «sheet_station» «sheet_offset») ⌝ }
 {
     if (1000000000000 < sheet_station) | (1000000000000 < sheet_offset) {
         return refused(Refusal::Argument);

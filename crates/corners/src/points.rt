@@ -11,12 +11,12 @@ ghost use mathlib.Core.Path.{_≡_};
 ghost use mathlib.Core.Bool.{true};
 ghost use Prim.Native.Nat.{_+_, _≤_};
 ghost use lib.Ieee.{binary64, ofInt};
-ghost use Rattle.refusal.specs.Answer.{accepted};
+ghost use Rattle.base.specs.Answer.{accepted};
 ghost use Rattle.job.specs.Fits.{HeaderFits, HazardFits};
 ghost use Rattle.planning.specs.Envelope.{adjacent, reaches};
 ghost use Rattle.planning.specs.Reply.{trafficOf};
 ghost use Rattle.corners.specs.Corners.{upstreamBy, pointAt, approachPoints};
-ghost use Rattle.corners.specs.Reply.{cornerOf, replied, cornersReply};
+ghost use Rattle.corners.specs.Reply.{cornerOf, cornersReplied, cornersReply};
 ghost use Rattle.corners.specs.Steps.{OnSheet, StationFits, LengthsOf};
 
 // The sheet corner.
@@ -42,7 +42,7 @@ pub fn approach_lengths(header: Header, hazard: Hazard, traffic: Traffic) -> Len
 {
     let runout = runout_length(header, traffic);
     let reach = adjacent_reach(header, hazard);
-    let before = approach::domain_length(
+    let before = approach::approach_length(
         header.along,
         header.across,
         header.straight,
@@ -99,7 +99,7 @@ pub fn approach_corners(
     requires { ⌜ HazardFits header hazard ⌝ }
     requires { ⌜ LengthsOf header hazard (trafficOf traffic) lengths ⌝ }
     requires { ⌜ OnSheet sheet ⌝ }
-    ensures { λ r. ⌜ cornersReply r ≡ replied (accepted (approachPoints (sheet .station) (sheet .offset) header hazard (trafficOf traffic))) ⌝ }
+    ensures { λ r. ⌜ cornersReply r ≡ cornersReplied (accepted (approachPoints (sheet .station) (sheet .offset) header hazard (trafficOf traffic))) ⌝ }
 {
     let offset = header.offset;
     let straight = header.straight;

@@ -5,7 +5,7 @@ use native.Mathlib.Nat.{le-antisymm}
 use mathlib.Core.Path.{_≡_, sym, ap, ap₂, _∙_}
 use mathlib.Core.List.{List, List·Memᴰ}
 use lib.Dec.{leb}
-use Rattle.refusal.specs.Answer.{_>>=_}
+use Rattle.base.specs.Answer.{_>>=_}
 use Rattle.refusal.specs.Refusal.{unless-refuse}
 use Rattle.refusal.specs.declared.Refusal.the-variants as Row
 use Rattle.job.specs.declared.Header.{Header}
@@ -19,14 +19,14 @@ use Rattle.planning.specs.declared.Overhangs.{Overhangs}
 use Rattle.planning.specs.Envelope.{farther, reaches, reachOf, offsetOf, lengthening, sideEnvelopes, overhang, sideOverhangs}
 use Rattle.planning.specs.Overhang.{SideHazard, Greatest}
 use Rattle.planning.specs.Required.{jobLevel, jobRuns}
-use Rattle.planning.proofs.EnvelopeLaws.{accepted-fits, from-cut}
+use Rattle.planning.proofs.EnvelopeLaws.{accepted-fits}
 use Rattle.planning.proofs.JobRunLaws.{job-runs}
 use Rattle.planning.proofs.OverhangLaws.{greatest-before, greatest-after, greatest-only}
 use Rattle.schedule.specs.Schedule.{writeSchedule}
 use Rattle.schedule.specs.Plan.{fitted, plan}
 use Rattle.schedule.specs.Planned.{Accepted}
 use Rattle.demands.specs.Demands.{Alike}
-use Rattle.demands.proofs.DemandLaws.{alike-reached, alike-cut}
+use Rattle.demands.proofs.DemandLaws.{alike-reached, more-envelopes}
 
 alike-overhang : (h k : Header) → Alike h k → (z : Hazard) → overhang h z ≡ overhang k z
 unfolding overhang lengthening reaches reachOf offsetOf farther
@@ -38,9 +38,6 @@ plan-accepted s j a side room = rw a
 
 -- The second job has the first's hazards that give the side an envelope.
 module _ (j₁ j₂ : Job) (alike : Alike (j₁ .header) (j₂ .header)) (side : ℕ) (more : (z : Hazard) → SideHazard j₁ side z → List·Memᴰ z (j₂ .hazards)) where
-  pub more-envelopes : (e : Stretch) → List·Memᴰ e (sideEnvelopes j₁ side) → List·Memᴰ e (sideEnvelopes j₂ side)
-  more-envelopes e m = let w = from-cut j₁ side e m in alike-cut j₁ j₂ alike side e w (more (w .hazard) (w .own))
-
   more-overhangs : (end : Overhangs → ℕ) (z : Hazard) → SideHazard j₁ side z → SideHazard j₂ side z × (end (overhang (j₁ .header) z) ≡ end (overhang (j₂ .header) z))
   more-overhangs end z s = (
     record { member = more z s; on-side = s .on-side; reach = sym (alike-reached (j₁ .header) (j₂ .header) alike z) ∙ s .reach },

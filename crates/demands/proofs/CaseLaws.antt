@@ -2,11 +2,12 @@
 -- Assumes nothing.
 use mathlib.Core.Path.{_≡_, refl}
 use mathlib.Core.List.{map}
-use Rattle.refusal.specs.Choice.{someOf, keep}
-use Rattle.refusal.specs.Answer.{accepted}
+use Rattle.base.specs.Choice.{someOf, filter}
+use Rattle.base.specs.Answer.{accepted}
 use Rattle.number.specs.Number.{writeIn, writeNumber, scan, readNumber, numberAt}
 use Rattle.approach.specs.Approach.{ceilDiv, formulaLength, approachLength}
-use Rattle.approach.specs.Panel.{raised, raisedLength}
+use Rattle.base.specs.Least.{nextMultiple}
+use Rattle.approach.specs.Panel.{raisedLength}
 use Rattle.job.specs.Writing.{writeNumbers, printedJob}
 use Rattle.job.specs.Job.{sharedRanges, headerRanges, hazardRanges, readFields, readHeader, readHazards, readJob, readRest}
 use Rattle.planning.specs.Envelope.{farther, reachOf, offsetOf, reaches, reached, lengthening, envelope, envelopes, cutToRoad, overhang, greater, overhangs, standsNear, testHazard, testHazards, acceptJob}
@@ -16,16 +17,16 @@ use Rattle.schedule.specs.Schedule.{writeRecord, writeRecords, writeSchedule}
 use Rattle.planning.specs.Required.{jobRuns}
 use Rattle.schedule.specs.Plan.{fitted, plan}
 use Rattle.demands.proofs.RefusalLaws.{plan-written}
-use Rattle.demands.specs.Cases.{header, hazard, cases, planned, written, printedSide, Printed-plan}
+use Rattle.demands.specs.Cases.{header, hazard, cases, casePlanned, caseWritten, printedSide, Printed-plan}
 
 -- One theorem over the list.
-pub cases-hold : map planned cases ≡ map written cases
-unfolding header hazard cases writeNumbers planned written someOf keep writeIn writeNumber scan readNumber numberAt ceilDiv formulaLength approachLength raised raisedLength sharedRanges headerRanges hazardRanges readFields readHeader readHazards readRest readJob farther reachOf offsetOf reaches reached lengthening envelope envelopes cutToRoad overhang greater overhangs standsNear testHazard testHazards acceptJob filled highest requiredLevel insertStation endPoints put runsBetween requiredRuns writeRecord writeRecords writeSchedule jobRuns fitted plan
+pub cases-hold : map casePlanned cases ≡ map caseWritten cases
+unfolding header hazard cases writeNumbers casePlanned caseWritten someOf filter writeIn writeNumber scan readNumber numberAt ceilDiv formulaLength approachLength nextMultiple raisedLength sharedRanges headerRanges hazardRanges readFields readHeader readHazards readRest readJob farther reachOf offsetOf reaches reached lengthening envelope envelopes cutToRoad overhang greater overhangs standsNear testHazard testHazards acceptJob filled highest requiredLevel insertStation endPoints put runsBetween requiredRuns writeRecord writeRecords writeSchedule jobRuns fitted plan
 cases-hold = refl
 
 -- The printed job, into the least room.
 printed-eight : plan (writeNumbers printedJob) 0 8 ≡ accepted printedSide
-unfolding printedJob writeNumbers someOf keep writeIn writeNumber scan readNumber numberAt ceilDiv formulaLength approachLength raised raisedLength sharedRanges headerRanges hazardRanges readFields readHeader readHazards readRest readJob farther reachOf offsetOf reaches reached lengthening envelope envelopes cutToRoad overhang greater overhangs standsNear testHazard testHazards acceptJob filled highest requiredLevel insertStation endPoints put runsBetween requiredRuns writeRecord writeRecords writeSchedule jobRuns fitted plan
+unfolding printedJob writeNumbers someOf filter writeIn writeNumber scan readNumber numberAt ceilDiv formulaLength approachLength nextMultiple raisedLength sharedRanges headerRanges hazardRanges readFields readHeader readHazards readRest readJob farther reachOf offsetOf reaches reached lengthening envelope envelopes cutToRoad overhang greater overhangs standsNear testHazard testHazards acceptJob filled highest requiredLevel insertStation endPoints put runsBetween requiredRuns writeRecord writeRecords writeSchedule jobRuns fitted plan
 printed-eight = refl
 
 pub printed-plan : Printed-plan

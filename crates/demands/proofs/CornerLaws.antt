@@ -11,14 +11,15 @@ use mathlib.Core.List.{List, map}
 use lib.IntN.{ℤ, pos, negℤ, _+ℤ_, _-ℤ_, +ℤ-assoc, +ℤ-comm, +ℤ-idr, -ℤ-+ℤ-cancel, +ℤ-negℤ-cancel}
 use lib.Ieee.{binary64}
 use borrow.Author.Tests.{ltb-true}
-use Rattle.refusal.specs.Choice.{if_then_else_, someOf, keep}
-use Rattle.refusal.specs.Answer.{Answer, accepted, refused}
-use Rattle.refusal.specs.Stored.{acceptedOr}
-use Rattle.refusal.proofs.TestLaws.{impossible}
-use Rattle.exact.proofs.WholeLaws.{cast-exact, difference-size}
+use Rattle.base.specs.Choice.{if_then_else_, someOf, filter}
+use Rattle.base.specs.Answer.{Answer, accepted, refused}
+use Rattle.base.specs.Stored.{acceptedOr}
+use Rattle.base.proofs.TestLaws.{impossible}
+use Rattle.corners.proofs.WholeLaws.{cast-exact, difference-size}
 use Rattle.number.specs.Number.{writeIn, writeNumber, scan, readNumber, numberAt}
 use Rattle.approach.specs.Approach.{ceilDiv, formulaLength, approachLength}
-use Rattle.approach.specs.Panel.{raised, raisedLength}
+use Rattle.base.specs.Least.{nextMultiple}
+use Rattle.approach.specs.Panel.{raisedLength}
 use Rattle.job.specs.declared.Header.{Header}
 use Rattle.job.specs.declared.Hazard.{Hazard}
 use Rattle.job.specs.Job.{Job, sharedRanges, headerRanges, hazardRanges, readFields, readHeader, readHazards, readRest, readJob}
@@ -30,7 +31,7 @@ use Rattle.planning.proofs.ReachLaws.{lengthening-top}
 use Rattle.planning.specs.Envelope.{Traffic, forward, opposite, adjacentTraffic, farther, reachOf, offsetOf, reaches, reached, lengthening, envelope, standsNear, testHazard, testHazards, acceptJob}
 use Rattle.corners.specs.Corners.{upstreamBy, pointAt, lengthBefore, flareEntered, upstreamOffset, Points, approachPoints, sheetTop, cornersOf}
 use Rattle.planning.specs.Approached.{hazardAt, approachedHazard, ApproachedFits}
-use Rattle.corners.specs.Reply.{cornerOf, noPoints, replied}
+use Rattle.corners.specs.Reply.{cornerOf, noPoints, cornersReplied}
 use Rattle.corners.specs.Steps.{jobCorners, StationFits}
 use Rattle.corners.proofs.PointLaws.{raised-past-straight, upstream-size, away-top}
 use Rattle.corners.proofs.CallLaws.{off-sheet, on-sheet}
@@ -169,8 +170,8 @@ point-exact x y t z d o k l fits top = record {
   offset = cast-exact binary64 (pos o -ℤ pos y) (omega (arith, difference-size (pos o) (pos y)));
 }
 
-points-exact : (x y : ℕ) (h : Header) (z : Hazard) (t : Traffic) → x ≤ sheetTop → y ≤ sheetTop → ApproachedFits h z → CornersExact (replied (accepted (approachPoints x y h z t))) (approachPoints x y h z t)
-unfolding replied approachPoints upstreamOffset
+points-exact : (x y : ℕ) (h : Header) (z : Hazard) (t : Traffic) → x ≤ sheetTop → y ≤ sheetTop → ApproachedFits h z → CornersExact (cornersReplied (accepted (approachPoints x y h z t))) (approachPoints x y h z t)
+unfolding cornersReplied approachPoints upstreamOffset
 points-exact x y h z t k l own = go (flareEntered h z t)
   where
     header : HeaderBounds h
@@ -193,7 +194,7 @@ points-exact x y h z t k l own = go (flareEntered h z t)
         let flare = pointAt x y (upstreamBy t z (h .straight)) (h .offset) in
         record { upstream = upstream; flare = if entered then flare else upstream; hazard = pointAt x y (upstreamBy t z 0) (h .offset) }
 
-    go : (entered : Bool) → CornersExact (replied (accepted (points entered))) (points entered)
+    go : (entered : Bool) → CornersExact (cornersReplied (accepted (points entered))) (points entered)
     go true = record {
       upstream = at (lengthening h z t) (h .offset + away) (omega (arith, raised)) (omega (arith, header .offset-top, away-top h (own .header) (record { before = 0; raised = lengthening h z t }) raised));
       flare = at (h .straight) (h .offset) (omega (arith, header .straight-top)) (omega (arith, header .offset-top));
@@ -204,20 +205,20 @@ points-exact x y h z t k l own = go (flareEntered h z t)
         record { upstream = upstream; flare = upstream; hazard = at 0 (h .offset) (omega arith) (omega (arith, header .offset-top)) }
 
 pub corners-exact : Corners-exact
-unfolding replied
+unfolding cornersReplied
 corners-exact s i x y = go (cornersOf s i x y) refl (sheet s i x y)
   where
     zero-exact : LosesNothing (cornerOf (noPoints .hazard)) (noPoints .hazard)
     zero-exact = record { station = cast-exact binary64 (pos 0) (omega arith); offset = cast-exact binary64 (pos 0) (omega arith) }
 
-    go : (a : Answer Points) → cornersOf s i x y ≡ a → Sheet s i x y → CornersExact (replied a) (acceptedOr noPoints a)
+    go : (a : Answer Points) → cornersOf s i x y ≡ a → Sheet s i x y → CornersExact (cornersReplied a) (acceptedOr noPoints a)
     go (refused n v) e b = record { upstream = zero-exact; flare = zero-exact; hazard = zero-exact }
     go (accepted p) e (outside q w) = impossible cc
     go (accepted p) e (within k l) =
         let (j, a, q) = told-given (drawn x y) s i p (sym (told-on-sheet s i x y k l) ∙ e) in
-        subst (λ (r : Points). CornersExact (replied (accepted r)) r) q (points-exact x y (j .header) (hazardAt j i) (adjacentTraffic (j .header) (hazardAt j i .side)) k l (own-fits s j i a))
+        subst (λ (r : Points). CornersExact (cornersReplied (accepted r)) r) q (points-exact x y (j .header) (hazardAt j i) (adjacentTraffic (j .header) (hazardAt j i .side)) k l (own-fits s j i a))
 
 -- Worked jobs, one theorem over the list.
 pub corner-cases-hold : map drawnCorners cornerCases ≡ map expectedCorners cornerCases
-unfolding header hazard cornerCases drawnCorners expectedCorners cornersOf approachedHazard approachPoints upstreamOffset flareEntered lengthBefore writeNumbers someOf keep writeIn writeNumber scan readNumber numberAt ceilDiv formulaLength approachLength raised raisedLength sharedRanges headerRanges hazardRanges readFields readHeader readHazards readRest readJob adjacentTraffic farther reachOf offsetOf reaches reached lengthening standsNear testHazard testHazards acceptJob
+unfolding header hazard cornerCases drawnCorners expectedCorners cornersOf approachedHazard approachPoints upstreamOffset flareEntered lengthBefore writeNumbers someOf filter writeIn writeNumber scan readNumber numberAt ceilDiv formulaLength approachLength nextMultiple raisedLength sharedRanges headerRanges hazardRanges readFields readHeader readHazards readRest readJob adjacentTraffic farther reachOf offsetOf reaches reached lengthening standsNear testHazard testHazards acceptJob
 corner-cases-hold = refl

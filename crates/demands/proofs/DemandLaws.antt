@@ -9,7 +9,7 @@ use lib.ListN.{length, take, drop}
 use lib.Seq.{take-append-seam, drop-append-seam}
 use lib.Dec.{leb, eqb}
 use borrow.Author.Tests.{le-leb, leb-true}
-use Rattle.refusal.specs.Answer.{Answer, accepted, refused, _>>=_}
+use Rattle.base.specs.Answer.{Answer, accepted, refused, _>>=_}
 use Rattle.refusal.specs.Refusal.{unless-refuse}
 use Rattle.refusal.specs.declared.Refusal.the-variants as Row
 use Rattle.job.specs.declared.Header.{Header}
@@ -25,6 +25,7 @@ use Rattle.schedule.specs.Schedule.{writeSchedule, readSchedule}
 use Rattle.schedule.proofs.PlanLaws.{output-length}
 use Rattle.demands.specs.Queries.{Finds}
 use Rattle.demands.proofs.LookupLaws.{none-shown, lookup-written}
+use Rattle.planning.specs.Overhang.{SideHazard}
 use Rattle.planning.specs.Required.{jobLevel, jobRuns}
 use Rattle.queries.specs.Lookup.{Found, found, nowhere, asked}
 use Rattle.schedule.specs.Plan.{PlannedSide, fitted, plan, outputAfter}
@@ -33,7 +34,8 @@ use Rattle.runs.proofs.LevelLaws.{required-more}
 use Rattle.runs.proofs.GapLaws.{required-is-highest}
 use Rattle.runs.proofs.LeastLaws.{required-covers, required-no-short-gap, required-least}
 use Rattle.runs.proofs.RunsOfLaws.{runs-of-unique, member→run, run→member}
-use Rattle.refusal.proofs.AnswerLaws.{bound, tested}
+use Rattle.base.proofs.AnswerLaws.{bound}
+use Rattle.refusal.proofs.RefuseLaws.{tested}
 use Rattle.schedule.specs.Planned.{Accepted, scheduleAlone, Planned, scheduleLevel}
 use Rattle.schedule.proofs.PlannedLaws.{planned-writing, planned-only, job-read, job-shown}
 use Rattle.planning.proofs.JobRunLaws.{job-runs, job-run-list}
@@ -41,7 +43,7 @@ use Rattle.planning.specs.Rows.{AcceptedFits}
 use Rattle.planning.proofs.EnvelopeLaws.{accepted-fits, cut-has, FromCut, from-cut, to-cut, side-lies, side-proper, side-levelled}
 use Rattle.planning.proofs.RoadLaws.{level-off-road}
 use Rattle.demands.specs.Demands.{CoversHazards, NoShortGapOnRoad, LeastCovering, Demand2, Demand1, ShowsLevel, Demand2-lookup, Demand3-writing, Demand3-planned, Demand3-equal, Demand3-off-road, Alike, Demand3-growth, RisingStations, lastOf, lotsTotal, Demand3-quantities, PlannedJob, Plan-accepted}
-use Rattle.refusal.proofs.TestLaws.{impossible}
+use Rattle.base.proofs.TestLaws.{impossible}
 
 pub demand3-planned : Demand3-planned
 demand3-planned s j side a h = planned-writing s j side a h
@@ -137,11 +139,19 @@ unfolding cutEnvelope cutToRoad envelope lengthening reaches reachOf offsetOf fa
 alike-envelope h k a z = ap (λ (x : Header). cutEnvelope x z) a
 
 -- So an envelope of the first job is one of the second, where that has the hazard too.
-pub alike-cut : (j₁ j₂ : Job) → Alike (j₁ .header) (j₂ .header) → (side : ℕ) (e : Stretch) (w : FromCut j₁ side e) → List·Memᴰ (w .hazard) (j₂ .hazards) → List·Memᴰ e (sideEnvelopes j₂ side)
+pub alike-cut :
+    (j₁ j₂ : Job) → Alike (j₁ .header) (j₂ .header) → (side : ℕ) (e : Stretch) (w : FromCut j₁ side e) → List·Memᴰ (w .hazard) (j₂ .hazards)
+    → List·Memᴰ e (sideEnvelopes j₂ side)
 alike-cut j₁ j₂ alike side e w m =
     let r : reached (j₂ .header) (w .hazard) ≡ true = sym (alike-reached (j₁ .header) (j₂ .header) alike (w .hazard)) ∙ w .own .reach in
     let q : e ≡ cutEnvelope (j₂ .header) (w .hazard) = w .is ∙ alike-envelope (j₁ .header) (j₂ .header) alike (w .hazard) in
     subst (λ (x : Stretch). List·Memᴰ x (sideEnvelopes j₂ side)) (sym q) (to-cut j₂ side (record { member = m; on-side = w .own .on-side; reach = r }))
+
+-- And all of them, where it has every hazard that gives the side an envelope.
+pub more-envelopes :
+    (j₁ j₂ : Job) → Alike (j₁ .header) (j₂ .header) → (side : ℕ) → ((z : Hazard) → SideHazard j₁ side z → List·Memᴰ z (j₂ .hazards))
+    → (e : Stretch) → List·Memᴰ e (sideEnvelopes j₁ side) → List·Memᴰ e (sideEnvelopes j₂ side)
+more-envelopes j₁ j₂ alike side more e m = let w = from-cut j₁ side e m in alike-cut j₁ j₂ alike side e w (more (w .hazard) (w .own))
 
 -- Headers that differ in the hazard count alone.
 pub counted-alike : (h : Header) (a b : ℕ) → Alike (counted h a) (counted h b)
@@ -157,11 +167,8 @@ demand3-growth s₁ s₂ j₁ j₂ side w₁ w₂ a₁ a₂ h p₁ p₂ alike mo
     shown₂ : scheduleLevel w₂ t ≡ jobLevel j₂ side t
     shown₂ = demand2 s₂ j₂ side w₂ a₂ h p₂ .level t
 
-    sub : (e : Stretch) → List·Memᴰ e (sideEnvelopes j₁ side) → List·Memᴰ e (sideEnvelopes j₂ side)
-    sub e m = let w = from-cut j₁ side e m in alike-cut j₁ j₂ alike side e w (more (w .hazard) (w .own .member))
-
     grows : requiredLevel (sideEnvelopes j₁ side) (j₂ .header .continuity) t ≤ requiredLevel (sideEnvelopes j₂ side) (j₂ .header .continuity) t
-    grows = required-more (sideEnvelopes j₁ side) (sideEnvelopes j₂ side) (j₂ .header .continuity) t sub
+    grows = required-more (sideEnvelopes j₁ side) (sideEnvelopes j₂ side) (j₂ .header .continuity) t (more-envelopes j₁ j₂ alike side (λ z s. more z (s .member)))
 
 pub millimetres-add : (f : ℕ → ℕ) (v p q r : ℕ) → p ≤ q → q ≤ r → millimetres f v p q + millimetres f v q r ≡ millimetres f v p r
 unfolding millimetres

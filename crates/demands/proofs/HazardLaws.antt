@@ -8,8 +8,8 @@ use mathlib.Core.Logic.{_↔_, _≢_, inl, inr, ⊎-elim}
 use mathlib.Core.Bool.{Bool, true, false}
 use mathlib.Core.List.{List}
 use lib.ListN.{length}
-use Rattle.refusal.specs.Answer.{Answer, accepted, refused, _>>=_}
-use Rattle.refusal.proofs.TestLaws.{impossible}
+use Rattle.base.specs.Answer.{Answer, accepted, refused, _>>=_}
+use Rattle.base.proofs.TestLaws.{impossible}
 use Rattle.job.specs.declared.Hazard.{Hazard}
 use Rattle.job.specs.Job.{Job}
 use Rattle.planning.specs.Envelope.{acceptJob}

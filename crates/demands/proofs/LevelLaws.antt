@@ -7,12 +7,13 @@ use mathlib.Core.Path.{_≡_, refl, sym, ap, ap₂, _∙_}
 use mathlib.Core.Logic.{_≢_, _↔_}
 use mathlib.Core.List.{List, [], _++_, append-nil}
 use lib.ListN.{length, drop}
-use Rattle.refusal.specs.Answer.{accepted, refused}
+use Rattle.base.specs.Answer.{accepted, refused}
+use Rattle.base.proofs.ListLaws.{drop-after}
 use Rattle.number.specs.Number.{writeNumber}
-use Rattle.number.proofs.ReadLaws.{read-number, after-number}
+use Rattle.number.proofs.ReadLaws.{read-number}
 use Rattle.job.specs.Job.{Job}
 use Rattle.runs.specs.declared.Stretch.{Stretch}
-use Rattle.runs.specs.RunList.{lastEnd, Next}
+use Rattle.runs.specs.RunList.{lastEnd, MayFollow}
 use Rattle.runs.proofs.RunLaws.{run-list-rising}
 use Rattle.runs.proofs.StoredLaws.{lastLevel, next-after}
 use Rattle.planning.specs.Envelope.{acceptJob}
@@ -32,7 +33,7 @@ use Rattle.demands.proofs.DemandLaws.{demand2-lookup}
 use Rattle.demands.proofs.RefusalLaws.{answer-refuses}
 
 -- The level in a run's record is the run's.
-record-level : (e v : ℕ) (r : Stretch) → Next e v r → recordLevel (writeRecord e r) ≡ accepted (r .level)
+record-level : (e v : ℕ) (r : Stretch) → MayFollow e v r → recordLevel (writeRecord e r) ≡ accepted (r .level)
 unfolding recordLevel writeRecord
 record-level e v r n =
     rw (read-number w 0 gap (writeNumber len ++ writeNumber (r .level)) (omega (arith, n .long, n .ends)) refl)
@@ -52,13 +53,13 @@ record-level e v r n =
     at2 = 0 + length (writeNumber gap)
 
     q2 : drop at2 w ≡ writeNumber len ++ writeNumber (r .level)
-    q2 = after-number w 0 gap (writeNumber len ++ writeNumber (r .level)) refl
+    q2 = drop-after w 0 (writeNumber gap) (writeNumber len ++ writeNumber (r .level)) refl
 
     at3 : ℕ
     at3 = at2 + length (writeNumber len)
 
     q3 : drop at3 w ≡ writeNumber (r .level)
-    q3 = after-number w at2 len (writeNumber (r .level)) q2
+    q3 = drop-after w at2 (writeNumber len) (writeNumber (r .level)) q2
 
 module _ (s : List ℕ) (side t : ℕ) (h : side ≤ 1) where
   job-refused : (k v : ℕ) → acceptJob s ≡ refused k v → levelAt s side t ≡ refused k v

@@ -11,17 +11,17 @@ use lib.ListN.{length, take, drop, length-append}
 use lib.Seq.{take-append-seam}
 use lib.Dec.{ltb, leb}
 use borrow.Author.Tests.{ltb-true, ltb-false, lt-ltb, leb-true, leb-false, le-leb}
-use Rattle.refusal.specs.Choice.{if_then_else_}
-use Rattle.refusal.proofs.TestLaws.{and-intro, not-both, impossible}
+use Rattle.base.specs.Choice.{if_then_else_}
+use Rattle.base.proofs.ListLaws.{drop-after}
+use Rattle.base.proofs.TestLaws.{and-intro, not-both, impossible}
 use Rattle.number.specs.Number.{writeNumber}
-use Rattle.number.proofs.ReadLaws.{after-number}
 use Rattle.runs.specs.declared.Stretch.{Stretch}
 use Rattle.runs.specs.Level.{Has, has}
 use Rattle.runs.specs.RunList.{shownLevel, Rising}
 use Rattle.runs.proofs.RunLaws.{shown-in, shown-before, shown-after, run-list-rising}
 use Rattle.schedule.specs.Schedule.{writeRecord, writeRecords, writeSchedule}
 use Rattle.queries.specs.Lookup.{Part, Found, found, nowhere, findRecord, placeIn, asked, lookup, FoundRun}
-use Rattle.schedule.proofs.ScheduleLaws.{after-bytes, schedule-runs}
+use Rattle.schedule.proofs.ScheduleLaws.{schedule-runs}
 use Rattle.demands.specs.Queries.{Finds, Lookup-written}
 
 part-of-split : (s : List ℕ) (i : ℕ) (w rest : List ℕ) → drop i s ≡ w ++ rest → take (length w) (drop i s) ≡ w
@@ -37,7 +37,7 @@ find-found s e v i (r ∷ rs) rest t p up q f =
     split = q ∙ append-assoc (writeRecord e r) (writeRecords (r .end) rs) rest
 
     later : drop (i + length (writeRecord e r)) s ≡ writeRecords (r .end) rs ++ rest
-    later = after-bytes s i (writeRecord e r) (writeRecords (r .end) rs ++ rest) split
+    later = drop-after s i (writeRecord e r) (writeRecords (r .end) rs ++ rest) split
 
     Rec : Type 0
     Rec = findRecord (r .end) (i + length (writeRecord e r)) rs t ≡ found p → FoundRun s (r .end) (i + length (writeRecord e r)) rs t p
@@ -110,7 +110,7 @@ lookup-written right left side t h w = record { answer = answer; replies = rw (l
     answer = findRecord 0 (length (writeNumber (length rs))) rs t
 
     after : drop (0 + length (writeNumber (length rs))) s ≡ writeRecords 0 rs ++ []
-    after = after-number s 0 (length rs) (writeRecords 0 rs) (w .writes) ∙ sym (append-nil (writeRecords 0 rs))
+    after = drop-after s 0 (writeNumber (length rs)) (writeRecords 0 rs) (w .writes) ∙ sym (append-nil (writeRecords 0 rs))
 
     go : (f : Found) → findRecord 0 (length (writeNumber (length rs))) rs t ≡ f → Finds s rs t f
     go (found p) e =

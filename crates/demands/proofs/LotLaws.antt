@@ -7,13 +7,13 @@ use mathlib.Core.Bool.{true}
 use mathlib.Core.List.{List, [], _∷_, _++_, map}
 use lib.ListN.{length, replicate}
 use borrow.Author.Tests.{le-leb}
-use Rattle.refusal.specs.Answer.{Answer, accepted}
-use Rattle.refusal.proofs.TestLaws.{and-intro}
+use Rattle.base.specs.Answer.{Answer, accepted}
+use Rattle.base.proofs.TestLaws.{and-intro}
 use Rattle.runs.specs.declared.Stretch.{Stretch}
 use Rattle.planning.specs.Required.{jobLevel, jobRuns}
 use Rattle.schedule.specs.Schedule.{readSchedule}
 use Rattle.queries.specs.Quantity.{millimetres}
-use Rattle.queries.specs.Ranges.{rangesOf, areRanges, mostRanges, Counted, placesOf, replied}
+use Rattle.queries.specs.Ranges.{rangesOf, areRanges, mostRanges, Counted, quantityPlaces, quantitiesReplied}
 use Rattle.demands.specs.Demands.{RisingStations, lastOf, lotsTotal, lotsOf, added, OneCall, Demand3-one-call}
 use Rattle.demands.proofs.DemandLaws.{demand2, demand3-quantities}
 use Rattle.demands.proofs.QueryLaws.{quantity-counts}
@@ -31,7 +31,7 @@ unfolding added
 added-zeros zero = refl
 added-zeros (suc n) = omega (arith, added-zeros n)
 
-added-places : (l : List ℕ) → added (placesOf l) ≡ added l
+added-places : (l : List ℕ) → added (quantityPlaces l) ≡ added l
 added-places l = omega (arith, added-append l (replicate (mostRanges - length l) 0), added-zeros (mostRanges - length l))
 
 -- The lots of a rising list are ranges, one fewer than it has stations.
@@ -54,14 +54,14 @@ module _ (w : List ℕ) (rs : List Stretch) (v : ℕ) (read : readSchedule w ≡
       rw (quantity-counts w v p q (millimetres _ v p q) .1 (record { ranged = (low, top, r .0); runs = rs; read = read; count = refl }), lots-added q qs (r .1))
 
   one-call : (p : ℕ) (qs : List ℕ) → RisingStations p qs → length qs ≤ mostRanges → (n : ℕ) → lotsTotal w v p qs ≡ accepted n → OneCall w v (lotsOf p qs) n
-  unfolding replied
+  unfolding quantitiesReplied
   one-call p qs r few n total =
       let given = quantities-accepted w v (lotsOf p qs) (low, top, whole-ranges (lotsOf p qs) .0 (lots-are p qs r)) (omega (arith, lots-count p qs)) rs read in
       let same : accepted (added (map (priced rs v) (rangesOf (lotsOf p qs)))) ≡ accepted n = sym (lots-added p qs r) ∙ total in
       let sum : added (map (priced rs v) (rangesOf (lotsOf p qs))) ≡ n = cc in
       record {
-        done = ap (λ (a : Answer Counted). replied a .answer) given;
-        adds-up = ap (λ (a : Answer Counted). added (replied a .places)) given ∙ added-places _ ∙ sum;
+        done = ap (λ (a : Answer Counted). quantitiesReplied a .answer) given;
+        adds-up = ap (λ (a : Answer Counted). added (quantitiesReplied a .places)) given ∙ added-places _ ∙ sum;
       }
 
 pub demand3-one-call : Demand3-one-call

@@ -10,10 +10,11 @@ use mathlib.Core.List.{List}
 use lib.ListN.{length}
 use lib.Dec.{leb}
 use borrow.Author.Tests.{le-leb, leb-true}
-use Rattle.refusal.specs.Answer.{Answer, accepted, refused, _>>=_}
+use Rattle.base.specs.Answer.{Answer, accepted, refused, _>>=_}
 use Rattle.refusal.specs.Refusal.{unless-refuse}
 use Rattle.refusal.specs.declared.Refusal.the-variants as Row
-use Rattle.refusal.proofs.AnswerLaws.{bound, passed}
+use Rattle.base.proofs.AnswerLaws.{bound}
+use Rattle.refusal.proofs.RefuseLaws.{passed}
 use Rattle.number.specs.Number.{writeNumber}
 use Rattle.number.specs.Form.{Bytes}
 use Rattle.runs.specs.declared.Stretch.{Stretch}
@@ -24,7 +25,7 @@ use Rattle.queries.specs.Lookup.{asked, lookup, Found, findRecord, placeIn}
 use Rattle.schedule.proofs.ScheduleLaws.{schedule-runs, refused-ten, schedule-read}
 use Rattle.queries.proofs.QuantityLaws.{ranged}
 use Rattle.demands.proofs.DemandLaws.{millimetres-add}
-use Rattle.refusal.proofs.TestLaws.{impossible}
+use Rattle.base.proofs.TestLaws.{impossible}
 use Rattle.demands.specs.Queries.{Counts, Quantity-counts, Quantity-add, Quantity-eight, Quantity-ten, Lookup-eight, Lookup-ten}
 
 -- Schedules

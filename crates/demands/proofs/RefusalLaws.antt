@@ -10,7 +10,7 @@ use mathlib.Core.List.{List, [], _∷_, _++_}
 use lib.ListN.{length}
 use lib.Dec.{leb}
 use borrow.Author.Tests.{le-leb}
-use Rattle.refusal.specs.Answer.{Answer, accepted, refused, _>>=_}
+use Rattle.base.specs.Answer.{Answer, accepted, refused, _>>=_}
 use Rattle.refusal.specs.Refusal.{unless-refuse, numberOf, valueOf, refusal}
 use Rattle.refusal.specs.declared.Refusal.the-variants as Row
 use Rattle.number.specs.declared.Read.{Read}
@@ -28,7 +28,7 @@ use Rattle.schedule.proofs.PlanLaws.{plan-bad-side}
 use Rattle.demands.specs.Road.{Overhanging, Plan-overhangs, Plan-six}
 use Rattle.refusal.specs.declared.Refusal.{Refusal}
 use Rattle.refusal.proofs.RowLaws.{some-number, no-six, same-row}
-use Rattle.refusal.proofs.TestLaws.{impossible}
+use Rattle.base.proofs.TestLaws.{impossible}
 use Rattle.demands.specs.PlanTable.{sideSchedule, sidePlanned, PlanRow, bad-side, of-job, no-room, Plan-exactly, Fits, Plan-written, PlanAnswer, refused-by, schedule-written, Plan-answers}
 use Rattle.number.specs.Form.{Bytes}
 use Rattle.planning.proofs.RowLaws.{refused-exactly}

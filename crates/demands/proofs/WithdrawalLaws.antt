@@ -5,13 +5,13 @@ use native.Mathlib.Omega.{arith}
 use native.Mathlib.Decide.{decLe, decLt, ℕ-discrete}
 use native.Mathlib.Nat.{le-of-suc-le-suc, not-suc-le-zero}
 use mathlib.Core.Path.{_≡_, sym, subst, ap, _∙_}
-use mathlib.Core.Logic.{_⊎_, inl, inr, _↔_}
+use mathlib.Core.Logic.{_⊎_, inl, inr}
 use mathlib.Core.Bool.{true, false}
 use mathlib.Core.List.{List, [], _∷_, List·Memᴰ, List·Memᴰ·head, List·Memᴰ·tail, List·Memᴰ·cases-cons, List·Memᴰ·not-nil}
 use lib.ListN.{length, getD}
-use Rattle.refusal.specs.Answer.{accepted}
-use Rattle.refusal.proofs.EachLaws.{getD-member}
-use Rattle.refusal.proofs.TestLaws.{decided, not-both}
+use Rattle.base.specs.Answer.{accepted}
+use Rattle.base.proofs.ListLaws.{getD-member}
+use Rattle.base.proofs.TestLaws.{decided, not-both}
 use Rattle.job.specs.declared.Header.{Header}
 use Rattle.job.specs.declared.Hazard.{Hazard}
 use Rattle.job.specs.Job.{Job, hazardOf}
@@ -32,8 +32,8 @@ use Rattle.schedule.specs.Planned.{Accepted, Planned}
 use Rattle.open_memory.proofs.RuleLaws.{made-fits}
 use Rattle.demands.specs.Demands.{Alike}
 use Rattle.demands.specs.Withdrawal.{withoutAt, withoutHazard, lengthenedAtBothEnds, withdrawalReach, Unaltered, no-envelope, other-side, outside, unaltered, SameBeyond, SameShown, Withdrawal-reach}
-use Rattle.demands.proofs.DemandLaws.{alike-cut, counted-alike}
-use Rattle.demands.proofs.AlikeLaws.{more-envelopes, same-levels, same-plan}
+use Rattle.demands.proofs.DemandLaws.{alike-cut, more-envelopes, counted-alike}
+use Rattle.demands.proofs.AlikeLaws.{same-levels, same-plan}
 use Rattle.demands.proofs.LevelLaws.{level-lookup}
 
 -- A list without what stands at an index
@@ -68,11 +68,6 @@ module _ {A : Type 0} where
       go : (x ≡ y) ⊎ List·Memᴰ x ys → (List·Memᴰ x ys → (x ≡ getD ys i d) ⊎ List·Memᴰ x (withoutAt i ys)) → (x ≡ getD ys i d) ⊎ List·Memᴰ x (y ∷ withoutAt i ys)
       go (inl q) r = inr (List·Memᴰ·head q)
       go (inr k) r = later (r k)
-
--- A stretch lengthened at both ends, by sums: where its subtraction stops at station 0 nothing is lost.
-pub lengthened-has : (G : ℕ) (e : Stretch) (t : ℕ) → Has (lengthenedAtBothEnds G e) t ↔ ((e .start ≤ t + G) × (t < e .end + G))
-unfolding lengthenedAtBothEnds
-lengthened-has G e t = (λ k. (omega (arith, k .0), omega (arith, k .1)), λ k. (omega (arith, k .0), omega (arith, k .1)))
 
 outside-reach : (h : Header) (z : Hazard) (t : ℕ) → ¬ Has (withdrawalReach h z) t → Outside (cutEnvelope h z) (h .continuity) t
 unfolding withdrawalReach lengthenedAtBothEnds

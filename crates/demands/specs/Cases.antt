@@ -3,7 +3,7 @@
 use Prim.Native.Nat.{ℕ, _+_, _-_, _≤_}
 use mathlib.Core.Path.{_≡_}
 use mathlib.Core.List.{List, [], _∷_, _++_}
-use Rattle.refusal.specs.Answer.{Answer, accepted, refused, _>>=_}
+use Rattle.base.specs.Answer.{Answer, accepted, refused, _>>=_}
 use Rattle.job.specs.Writing.{writeNumbers, printedJob}
 use Rattle.runs.specs.declared.Stretch.{Stretch}
 use Rattle.planning.specs.declared.Overhangs.{Overhangs}
@@ -65,11 +65,11 @@ cases =
     ∷ []
 
 -- What plan gives for the right side with room for 64 bytes, and the writing of what is expected.
-unfoldable pub planned : Case → Answer PlannedSide
-planned c = plan (writeNumbers (c .job)) 0 64
+unfoldable pub casePlanned : Case → Answer PlannedSide
+casePlanned c = plan (writeNumbers (c .job)) 0 64
 
-unfoldable pub written : Case → Answer PlannedSide
-written c = c .expected >>= λ rs. accepted (record { schedule = writeSchedule rs; overhangs = c .overhangs })
+unfoldable pub caseWritten : Case → Answer PlannedSide
+caseWritten c = c .expected >>= λ rs. accepted (record { schedule = writeSchedule rs; overhangs = c .overhangs })
 
 -- Of the job on paper "the right schedule is hex 01 FD C0 09 D3 A7 03 03", and nothing hangs over.
 abbrev pub printedSide : PlannedSide

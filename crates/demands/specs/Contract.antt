@@ -6,11 +6,11 @@ use mathlib.Core.Path.{_≡_}
 use mathlib.Core.Logic.{_↔_}
 use mathlib.Core.List.{List}
 use lib.ListN.{length, getD}
-use Rattle.refusal.specs.Answer.{accepted, refused}
+use Rattle.base.specs.Answer.{accepted, refused}
 use Rattle.number.specs.Form.{Bytes}
 use Rattle.schedule.specs.Schedule.{IsSchedule}
 use Rattle.queries.specs.Quantity.{quantity}
-use Rattle.queries.specs.Ranges.{rangesOf, rangeAt, AllRanged, mostRanges, quantities, Replied, replied}
+use Rattle.queries.specs.Ranges.{rangesOf, rangeAt, AllRanged, mostRanges, quantities, QuantitiesReplied, quantitiesReplied}
 
 -- 8: a level that is not 1 to 6, a number without its partner, or "any p > q among them".
 abbrev pub Quantities-eight : Type 0
@@ -26,10 +26,10 @@ Quantities-ten = (s : List ℕ) (v : ℕ) (l : List ℕ) → Bytes s → (quanti
 
 -- And no call is refused but those.
 abbrev pub Quantities-done : Type 0
-Quantities-done = (s : List ℕ) (v : ℕ) (l : List ℕ) → Bytes s → (replied (quantities s v l) .answer ≡ accepted tt) ↔ (AllRanged v l × (length (rangesOf l) ≤ mostRanges) × IsSchedule s)
+Quantities-done = (s : List ℕ) (v : ℕ) (l : List ℕ) → Bytes s → (quantitiesReplied (quantities s v l) .answer ≡ accepted tt) ↔ (AllRanged v l × (length (rangesOf l) ≤ mostRanges) × IsSchedule s)
 
 -- What a reply without refusal holds.
-pub record Given (s : List ℕ) (v : ℕ) (l : List ℕ) (r : Replied) : Type 0 where
+pub record Given (s : List ℕ) (v : ℕ) (l : List ℕ) (r : QuantitiesReplied) : Type 0 where
   pub ranged : AllRanged v l
   pub few : length (rangesOf l) ≤ mostRanges
   pub schedule : IsSchedule s
@@ -41,13 +41,13 @@ pub record Given (s : List ℕ) (v : ℕ) (l : List ℕ) (r : Replied) : Type 0 
   pub places : length (r .places) ≡ mostRanges
 
 abbrev pub Quantities-given : Type 0
-Quantities-given = (s : List ℕ) (v : ℕ) (l : List ℕ) → Bytes s → replied (quantities s v l) .answer ≡ accepted tt → Given s v l (replied (quantities s v l))
+Quantities-given = (s : List ℕ) (v : ℕ) (l : List ℕ) → Bytes s → quantitiesReplied (quantities s v l) .answer ≡ accepted tt → Given s v l (quantitiesReplied (quantities s v l))
 
 -- "A refusal gives no quantities and a count of 0."
-pub record Empty (r : Replied) : Type 0 where
+pub record Empty (r : QuantitiesReplied) : Type 0 where
   pub records : r .records ≡ 0
   pub each : (i : ℕ) → getD (r .places) i 0 ≡ 0
   pub places : length (r .places) ≡ mostRanges
 
 abbrev pub Quantities-refused : Type 0
-Quantities-refused = (s : List ℕ) (v : ℕ) (l : List ℕ) (number value : ℕ) → quantities s v l ≡ refused number value → Empty (replied (quantities s v l))
+Quantities-refused = (s : List ℕ) (v : ℕ) (l : List ℕ) (number value : ℕ) → quantities s v l ≡ refused number value → Empty (quantitiesReplied (quantities s v l))

@@ -3,7 +3,7 @@
 use Prim.Native.Nat.{ℕ, _+_}
 use mathlib.Core.List.{List, [], _∷_, _++_}
 use lib.IntN.{ℤ, pos, negsuc}
-use Rattle.refusal.specs.Answer.{Answer, accepted}
+use Rattle.base.specs.Answer.{Answer, accepted}
 use Rattle.job.specs.Writing.{writeNumbers}
 use Rattle.corners.specs.Corners.{Point, Points, cornersOf}
 use Rattle.demands.specs.Cases.{header, hazard}

@@ -8,9 +8,9 @@ use mathlib.Core.Bool.{true, false}
 use mathlib.Core.List.{List}
 use lib.ListN.{length}
 use lib.IntN.{ℤ, pos, _+ℤ_, _-ℤ_}
-use Rattle.refusal.specs.Answer.{accepted, refused}
-use Rattle.refusal.specs.Stored.{acceptedOr}
-use Rattle.exact.specs.Whole.{Whole}
+use Rattle.base.specs.Answer.{accepted, refused}
+use Rattle.base.specs.Stored.{acceptedOr}
+use Rattle.corners.specs.Whole.{Whole}
 use Rattle.job.specs.declared.Header.{Header}
 use Rattle.job.specs.declared.Hazard.{Hazard}
 use Rattle.job.specs.Job.{Job}
@@ -19,7 +19,7 @@ use Rattle.schedule.specs.Plan.{plan}
 use Rattle.schedule.specs.Planned.{Accepted}
 use Rattle.corners.specs.declared.reply.Corner.{Corner}
 use Rattle.corners.specs.Corners.{Point, pointAt, Points, flareEntered, sheetTop, cornersOf}
-use Rattle.corners.specs.Reply.{noPoints, Replied, replied}
+use Rattle.corners.specs.Reply.{noPoints, CornersReplied, cornersReplied}
 use Rattle.planning.specs.Approached.{hazardAt, adjacentReaches}
 
 -- Refusals
@@ -94,11 +94,11 @@ pub record LosesNothing (c : Corner) (p : Point) : Type 0 where
   pub offset : Whole (c .offset) (p .offset)
 
 -- Of every corner of a reply.
-pub record CornersExact (r : Replied) (p : Points) : Type 0 where
+pub record CornersExact (r : CornersReplied) (p : Points) : Type 0 where
   pub upstream : LosesNothing (r .upstream) (p .upstream)
   pub flare : LosesNothing (r .flare) (p .flare)
   pub hazard : LosesNothing (r .hazard) (p .hazard)
 
 -- Of every reply, whatever the bytes, the index and the sheet corner are; beside a refusal the points are zeros.
 abbrev pub Corners-exact : Type 0
-Corners-exact = (s : List ℕ) (i x y : ℕ) → CornersExact (replied (cornersOf s i x y)) (acceptedOr noPoints (cornersOf s i x y))
+Corners-exact = (s : List ℕ) (i x y : ℕ) → CornersExact (cornersReplied (cornersOf s i x y)) (acceptedOr noPoints (cornersOf s i x y))

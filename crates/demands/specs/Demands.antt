@@ -7,7 +7,7 @@ use mathlib.Core.Logic.{_↔_}
 use mathlib.Core.Bool.{true}
 use mathlib.Core.List.{List, [], _∷_, List·Memᴰ}
 use lib.ListN.{length, take, drop}
-use Rattle.refusal.specs.Answer.{Answer, accepted, refused, _>>=_}
+use Rattle.base.specs.Answer.{Answer, accepted, refused, _>>=_}
 use Rattle.number.specs.Number.{writeNumber}
 use Rattle.job.specs.declared.Header.{Header}
 use Rattle.job.specs.declared.Hazard.{Hazard}
@@ -18,7 +18,7 @@ use Rattle.runs.specs.Level.{NoShortGap, NoShortGapIn, Has, InSet, Filled, High
 use Rattle.runs.specs.RunList.{isRunList, IsRun}
 use Rattle.schedule.specs.Schedule.{writeSchedule, readSchedule}
 use Rattle.schedule.specs.Planned.{Accepted, scheduleAlone, Planned, scheduleLevel}
-use Rattle.queries.specs.Ranges.{mostRanges, quantities, replied}
+use Rattle.queries.specs.Ranges.{mostRanges, quantities, quantitiesReplied}
 use Rattle.planning.specs.Required.{jobLevel, jobRuns}
 use Rattle.queries.specs.Lookup.{FoundRun, Found, found, nowhere, asked, lookup}
 use Rattle.schedule.specs.Plan.{PlannedSide, outputAfter, plan}
@@ -159,8 +159,8 @@ added (n ∷ ns) = n + added ns
 
 -- One call for a whole contract that is not refused: all places of its reply, added up.
 pub record OneCall (w : List ℕ) (v : ℕ) (numbers : List ℕ) (total : ℕ) : Type 0 where
-  pub done : replied (quantities w v numbers) .answer ≡ accepted tt
-  pub adds-up : added (replied (quantities w v numbers) .places) ≡ total
+  pub done : quantitiesReplied (quantities w v numbers) .answer ≡ accepted tt
+  pub adds-up : added (quantitiesReplied (quantities w v numbers) .places) ≡ total
 
 -- Demand 3, quantities, with up to 64 lots in one call.
 abbrev pub Demand3-one-call : Type 0

@@ -6,12 +6,13 @@ use mathlib.Core.Logic.{_↔_, _≢_}
 use mathlib.Core.Bool.{true}
 use mathlib.Core.List.{List}
 use lib.ListN.{length}
-use Rattle.refusal.specs.Answer.{accepted, refused}
+use Rattle.base.specs.Answer.{accepted, refused}
+use Rattle.base.specs.Least.{Least}
 use Rattle.job.specs.Job.{Job}
 use Rattle.planning.specs.Approached.{hazardAt, adjacentReaches}
 use Rattle.schedule.specs.Plan.{plan}
 use Rattle.schedule.specs.Planned.{Accepted}
-use Rattle.clear_offset.specs.Offset.{lengthAt, Allowed, Least, offset, none, smallestOffset}
+use Rattle.clear_offset.specs.Offset.{lengthAt, Allowed, offset, none, smallestOffset}
 use Rattle.demands.specs.Corners.{NoApproach}
 
 -- The bytes are an accepted job that has a hazard with the index, and adjacent traffic reaches that.

@@ -5,7 +5,7 @@ use mathlib.Core.Path.{_≡_}
 use mathlib.Core.Logic.{_↔_}
 use mathlib.Core.List.{List, List·Memᴰ}
 use lib.ListN.{length}
-use Rattle.refusal.specs.Answer.{accepted, refused}
+use Rattle.base.specs.Answer.{accepted, refused}
 use Rattle.number.specs.Number.{writeNumber}
 use Rattle.number.specs.Form.{Bytes}
 use Rattle.runs.specs.declared.Stretch.{Stretch}

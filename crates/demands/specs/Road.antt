@@ -4,7 +4,7 @@ use Prim.Native.Nat.{ℕ}
 use mathlib.Core.Path.{_≡_}
 use mathlib.Core.Logic.{_≢_}
 use mathlib.Core.List.{List}
-use Rattle.refusal.specs.Answer.{accepted, refused}
+use Rattle.base.specs.Answer.{accepted, refused}
 use Rattle.job.specs.Job.{Job}
 use Rattle.planning.specs.declared.Overhangs.{Overhangs}
 use Rattle.planning.specs.Overhang.{Greatest}

@@ -6,10 +6,10 @@ use mathlib.Core.Logic.{_≢_}
 use mathlib.Core.Bool.{false}
 use mathlib.Core.List.{List, [], _∷_}
 use lib.ListN.{length}
-use Rattle.refusal.specs.Answer.{accepted}
+use Rattle.base.specs.Answer.{accepted}
 use Rattle.job.specs.declared.Header.{Header}
 use Rattle.job.specs.declared.Hazard.{Hazard}
-use Rattle.job.specs.Job.{Job}
+use Rattle.job.specs.Job.{Job, madeFrom}
 use Rattle.job.specs.Writing.{writeJob}
 use Rattle.runs.specs.declared.Stretch.{Stretch}
 use Rattle.runs.specs.Level.{Has}
@@ -18,7 +18,6 @@ use Rattle.planning.specs.Required.{jobLevel}
 use Rattle.planning.specs.Approached.{hazardAt}
 use Rattle.schedule.specs.Plan.{plan}
 use Rattle.schedule.specs.Planned.{Accepted, Planned}
-use Rattle.open_memory.specs.Memory.{madeFrom}
 use Rattle.queries.specs.Lookup.{asked}
 use Rattle.demands.specs.Level.{lookupLevel}
 

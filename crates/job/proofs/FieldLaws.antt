@@ -9,10 +9,11 @@ use mathlib.Core.List.{List, [], _∷_, _++_}
 use lib.ListN.{length, take, set}
 use lib.Seq.{take-suc-set}
 use borrow.Author.Tests.{le-leb}
-use Rattle.refusal.specs.Answer.{Answer, accepted, refused, _>>=_}
+use Rattle.base.specs.Answer.{Answer, accepted, refused, _>>=_}
 use Rattle.refusal.specs.Refusal.{unless-refuse, refusal}
 use Rattle.refusal.specs.declared.Refusal.{Refusal}
-use Rattle.refusal.proofs.AnswerLaws.{bound, tested}
+use Rattle.base.proofs.AnswerLaws.{bound, bind-assoc}
+use Rattle.refusal.proofs.RefuseLaws.{tested}
 use Rattle.number.specs.Number.{Reading, readNumber, readingOf, numberAt}
 use Rattle.number.specs.declared.Read.{Read}
 use Rattle.number.specs.declared.Read.the-variants as Read
@@ -23,16 +24,11 @@ use Rattle.job.specs.declared.field.Field.the-variants as Field
 use Rattle.job.specs.declared.Bounds.{Bounds}
 use Rattle.job.specs.Job.{within, readFields}
 use Rattle.job.specs.Reply.{fieldAt, fieldAnswer}
-use Rattle.refusal.proofs.TestLaws.{impossible}
+use Rattle.base.proofs.TestLaws.{impossible}
 
 -- An array's part in use, after a store behind it.
 pub take-stored : {A : Type 0} (l : List A) (i : ℕ) (a : A) → i < length l → take (i + 1) (set l i a) ≡ take i l ++ a ∷ []
 take-stored l i a h = rw (add-one, take-suc-set)
-
--- What follows an answer, and what follows that.
-pub bind-assoc : {A B C : Type 0} (m : Answer A) (f : A → Answer B) (g : B → Answer C) → m >>= f >>= g ≡ m >>= λ a. f a >>= g
-bind-assoc (accepted a) f g = refl
-bind-assoc (refused k v) f g = refl
 
 -- A test between an answer and what follows it.
 bind-tested : {A B : Type 0} (m : Answer A) (test : A → Answer (Unit {0})) (rest : A → Answer B)

@@ -6,7 +6,7 @@ use mathlib.Core.Path.{_≡_, refl, sym, ap, ap₂, _∙_}
 use mathlib.Core.List.{List, [], _∷_, map}
 use lib.ListN.{length, getD, set, take, List·getD-map}
 use lib.Seq.{length-take-le, getD-take}
-use Rattle.refusal.specs.Answer.{accepted}
+use Rattle.base.specs.Answer.{accepted}
 use Rattle.refusal.specs.Refusal.{refusal}
 use Rattle.refusal.specs.declared.Refusal.{Refusal}
 use Rattle.refusal.specs.declared.Refusal.the-variants.{HazardRange}
@@ -20,7 +20,7 @@ use Rattle.job.specs.declared.field.Field.the-variants as Field
 use Rattle.job.specs.declared.Bounds.{Bounds}
 use Rattle.job.specs.Job.{_to_, hazardRanges, hazardOf, nextInHazard, readFields, outsideHazard}
 use Rattle.job.specs.Fits.{HazardFits}
-use Rattle.job.specs.Reply.{fieldAt, fieldAnswer, hazardAt}
+use Rattle.job.specs.Reply.{fieldAt, fieldAnswer, readHazardAt}
 use Rattle.job.proofs.FieldLaws.{fields-next}
 use Rattle.job.proofs.ArrayLaws.{NumbersLeft, one-less, next-refused, all-read}
 use Rattle.job.proofs.RangeLaws.{HazardBounds, hazard-bounds}
@@ -63,14 +63,14 @@ module _ (h : Header) {index : ℕ} {s : List ℕ} {first : ℕ} {numbers : List
     pub hazard-number : {n : Reading} → f ≡ Field.Number n → HazardLeft h index s first (set numbers k (n .value)) (n .next) (k + 1)
     hazard-number e = one-less left more f its-next refl read start-top e
 
-    pub hazard-refused : {r : Refusal} → f ≡ Field.Refused r → refusal r ≡ hazardAt h index s first
-    unfolding hazardAt
+    pub hazard-refused : {r : Refusal} → f ≡ Field.Refused r → refusal r ≡ readHazardAt h index s first
+    unfolding readHazardAt
     hazard-refused e = rw (next-refused left more f its-next refl read e)
 
   -- All six were read.
   module _ (done : 6 ≤ k) where
-    pub hazard-read : accepted (record { hazard = hazardOf numbers; next = at }) ≡ hazardAt h index s first
-    unfolding hazardAt
+    pub hazard-read : accepted (record { hazard = hazardOf numbers; next = at }) ≡ readHazardAt h index s first
+    unfolding readHazardAt
     hazard-read = rw (all-read left done)
 
     pub numbers-bounds : HazardBounds h (hazardOf numbers)
@@ -80,8 +80,8 @@ module _ (h : Header) {index : ℕ} {s : List ℕ} {first : ℕ} {numbers : List
 pub hazard-whole : (h : Header) (index : ℕ) (s : List ℕ) (at : ℕ) (z : Hazard) (a b c d e next : ℕ) → HazardFits h z
     → readNumber s at ≡ Number (z .side) a → readNumber s a ≡ Number (z .start) b → readNumber s b ≡ Number (z .end) c
     → readNumber s c ≡ Number (z .near) d → readNumber s d ≡ Number (z .far) e → readNumber s e ≡ Number (z .level) next
-    → accepted (record { hazard = z; next = next }) ≡ hazardAt h index s at
-unfolding hazardAt hazardRanges readFields
+    → accepted (record { hazard = z; next = next }) ≡ readHazardAt h index s at
+unfolding readHazardAt hazardRanges readFields
 hazard-whole h index s at z a b c d e next fits side start end near far level =
     let f = hazard-bounds h z fits in
     let go = fields-next (nextInHazard h) (outsideHazard index) in

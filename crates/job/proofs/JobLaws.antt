@@ -9,14 +9,15 @@ use mathlib.Core.List.{List, [], _∷_, _++_, append-assoc, append-nil, List·Me
 use lib.ListN.{length, getD, drop, length-append, drop-of-length-le, List·getD-append}
 use lib.Seq.{drop-cons}
 use lib.Dec.{leb, eqb}
-use Rattle.refusal.specs.Choice.{if_then_else_}
-use Rattle.refusal.specs.Answer.{accepted}
+use Rattle.base.specs.Choice.{if_then_else_}
+use Rattle.base.specs.Answer.{accepted}
 use Rattle.refusal.specs.Refusal.{unless-refuse, refusal}
 use Rattle.refusal.specs.declared.Refusal.the-variants as Row
 use Rattle.refusal.specs.declared.Refusal.{Refusal}
-use Rattle.refusal.proofs.TestLaws.{and-intro}
-use Rattle.refusal.proofs.AnswerLaws.{bound, tested}
-use Rattle.refusal.proofs.EachLaws.{snoc-each}
+use Rattle.base.proofs.TestLaws.{and-intro}
+use Rattle.base.proofs.AnswerLaws.{bound}
+use Rattle.refusal.proofs.RefuseLaws.{tested}
+use Rattle.base.proofs.ListLaws.{snoc-each}
 use Rattle.number.specs.Number.{numberAt}
 use Rattle.job.specs.declared.Header.{Header}
 use Rattle.job.specs.declared.Hazard.{Hazard}

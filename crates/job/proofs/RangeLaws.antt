@@ -9,9 +9,9 @@ use mathlib.Core.List.{List, [], _∷_, _++_, append-assoc, append-nil}
 use lib.ListN.{length, getD, take, drop}
 use lib.Dec.{leb, ltb, eqb}
 use borrow.Author.Tests.{leb-true, le-leb, lt-leb, lt-ltb, le-ltb, eqb-true}
-use Rattle.refusal.specs.Choice.{if_then_else_, allOf}
-use Rattle.refusal.proofs.TestLaws.{and-left, and-right}
-use Rattle.number.specs.Number.{greatest}
+use Rattle.base.specs.Choice.{if_then_else_, allOf}
+use Rattle.base.proofs.TestLaws.{and-left, and-right}
+use Rattle.number.specs.Number.{greatestNumber}
 use Rattle.job.specs.declared.Header.{Header}
 use Rattle.job.specs.declared.Hazard.{Hazard}
 use Rattle.job.specs.declared.Bounds.{Bounds}
@@ -197,19 +197,19 @@ highs-most m [] e k = omega arith
 highs-most m (r ∷ rs) e zero = leb-true _ _ (and-left (leb (r .high) m) (allOf (λ (q : Bounds). leb (q .high) m) rs) e)
 highs-most m (r ∷ rs) e (suc k) = highs-most m rs (and-right (leb (r .high) m) (allOf (λ (q : Bounds). leb (q .high) m) rs) e) k
 
-pub header-most : (got : List ℕ) → nextInHeader got .high ≤ greatest
+pub header-most : (got : List ℕ) → nextInHeader got .high ≤ greatestNumber
 unfolding headerRanges sharedRanges allOf
 header-most got = go (getD got 0 0) (getD got 1 0) (length got)
   where
-    others : (t : Bool) → allOf (λ (r : Bounds). leb (r .high) greatest) (drop 3 (sharedRanges 0) ++ (if t then 1 to 10000 ∷ 0 to 256 ∷ [] else 0 to 256 ∷ [])) ≡ true
+    others : (t : Bool) → allOf (λ (r : Bounds). leb (r .high) greatestNumber) (drop 3 (sharedRanges 0) ++ (if t then 1 to 10000 ∷ 0 to 256 ∷ [] else 0 to 256 ∷ [])) ≡ true
     others true = refl
     others false = refl
 
-    go : (kind A k : ℕ) → getD (headerRanges kind A) k (0 to 0) .high ≤ greatest
+    go : (kind A k : ℕ) → getD (headerRanges kind A) k (0 to 0) .high ≤ greatestNumber
     go kind A zero = omega arith
     go kind A (suc zero) = omega arith
     go kind A (suc (suc zero)) = omega arith
-    go kind A (suc (suc (suc k))) = highs-most greatest (drop 3 (headerRanges kind 0)) (others (eqb kind 2)) k
+    go kind A (suc (suc (suc k))) = highs-most greatestNumber (drop 3 (headerRanges kind 0)) (others (eqb kind 2)) k
 
 pub hazard-most : (m : ℕ) (h : Header) → 60000 ≤ m → h .end ≤ m → (got : List ℕ) → nextInHazard h got .high ≤ m
 unfolding hazardRanges allOf

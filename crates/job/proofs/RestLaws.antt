@@ -8,12 +8,13 @@ use mathlib.Core.List.{List, [], _∷_, _++_, map, map-append}
 use lib.ListN.{length, set, take, replicate, length-append, length-map, length-set}
 use lib.Seq.{take-at}
 use borrow.Author.Tests.{le-leb, lt-leb}
-use Rattle.refusal.specs.Answer.{Answer, accepted, refused, _>>=_}
+use Rattle.base.specs.Answer.{Answer, accepted, refused, _>>=_}
 use Rattle.refusal.specs.Refusal.{refusal}
-use Rattle.refusal.specs.Stored.{padded, acceptedOr}
+use Rattle.base.specs.Stored.{padded, acceptedOr}
 use Rattle.refusal.specs.declared.Refusal.{Refusal}
 use Rattle.refusal.specs.declared.Outcome.the-variants.{Done, Refused}
-use Rattle.refusal.proofs.StoredLaws.{padded-more}
+use Rattle.base.proofs.AnswerLaws.{bind-assoc}
+use Rattle.base.proofs.StoredLaws.{padded-more}
 use Rattle.job.specs.declared.Header.{Header}
 use Rattle.job.specs.declared.Hazard.{Hazard}
 use Rattle.job.specs.declared.NamedHazard.{NamedHazard}
@@ -22,8 +23,7 @@ use Rattle.job.specs.declared.read.JobRead.{JobRead}
 use Rattle.job.specs.declared.hazard_fields.HazardRead.{HazardRead}
 use Rattle.job.specs.declared.hazard_fields.HazardRead.the-variants as HazardRead
 use Rattle.job.specs.Job.{Job, named, unnamed, hazardOf, nextInHazard, readFields, readHeader, readHazards, readRest, readJob, outsideHazard}
-use Rattle.job.specs.Reply.{headerReading, headerAt, hazardReading, hazardAt, hazardAnswer, unused, noJob, storedJob, jobAnswer}
-use Rattle.job.proofs.FieldLaws.{bind-assoc}
+use Rattle.job.specs.Reply.{headerReading, headerAt, hazardReading, readHazardAt, hazardAnswer, unused, noJob, storedJob, jobAnswer}
 
 -- The job is the header and what follows it.
 pub job-step : (s : List ℕ) → readJob s ≡ headerAt s >>= λ x. readRest (x .header) (x .header .count) [] s (x .next)
@@ -32,8 +32,8 @@ job-step s = sym (bind-assoc (readHeader s) (λ f. accepted (headerReading f)) (
 
 -- Of the hazards still to be read the first, and then the others.
 hazards-step : (h : Header) (k : ℕ) (got : List Hazard) (s : List ℕ) (at : ℕ)
-    → readRest h (suc k) got s at ≡ hazardAt h (length got) s at >>= λ z. readRest h k (got ++ z .hazard ∷ []) s (z .next)
-unfolding readRest readHazards hazardAt
+    → readRest h (suc k) got s at ≡ readHazardAt h (length got) s at >>= λ z. readRest h k (got ++ z .hazard ∷ []) s (z .next)
+unfolding readRest readHazards readHazardAt
 hazards-step h k got s at =
     let m = readFields (nextInHazard h) (outsideHazard (length got)) 6 [] s at in
     bind-assoc m (λ f. readHazards h k (got ++ hazardOf (f .numbers) ∷ []) s (f .next)) _ ∙ sym (bind-assoc m (λ f. accepted (hazardReading f)) (λ z. readRest h k (got ++ z .hazard ∷ []) s (z .next)))
@@ -70,7 +70,7 @@ replies-refused p e = rw (p, sym e) (refl, refl)
 
 module _ {h : Header} {s : List ℕ} {first : ℕ} {job : StoredJob} {at i : ℕ} (left : HazardsLeft h s first job at i) where
   -- The next hazard, which is `r`, was read.
-  module _ (r : HazardRead) (fits : h .count ≤ 256) (more : i < h .count) (read : hazardAnswer r ≡ hazardAt h i s at) where
+  module _ (r : HazardRead) (fits : h .count ≤ 256) (more : i < h .count) (read : hazardAnswer r ≡ readHazardAt h i s at) where
     left-next : readRest h (h .count) [] s first ≡ hazardAnswer r >>= λ z. readRest h (h .count - (i + 1)) (left .got ++ z .hazard ∷ []) s (z .next)
     left-next =
         let count : h .count - i ≡ suc (h .count - (i + 1)) = omega arith in

@@ -10,13 +10,13 @@ use mathlib.Core.List.{List, [], _∷_, _++_, append-assoc, append-nil, List·Me
 use lib.ListN.{length, getD, drop, length-append, length-drop, drop-of-length-le, List·getD-append}
 use lib.Dec.{leb, eqb}
 use borrow.Author.Tests.{leb-true, leb-false}
-use Rattle.refusal.specs.Choice.{if_then_else_}
-use Rattle.refusal.specs.Answer.{Answer, accepted, refused, _>>=_}
+use Rattle.base.specs.Choice.{if_then_else_}
+use Rattle.base.specs.Answer.{Answer, accepted, refused, _>>=_}
 use Rattle.refusal.specs.Refusal.{unless-refuse, numberOf, valueOf, refusal}
 use Rattle.refusal.specs.declared.Refusal.the-variants as Row
 use Rattle.refusal.specs.declared.Refusal.{Refusal}
-use Rattle.refusal.proofs.TestLaws.{and-intro}
-use Rattle.refusal.proofs.EachLaws.{snoc-each}
+use Rattle.base.proofs.TestLaws.{and-intro}
+use Rattle.base.proofs.ListLaws.{snoc-each}
 use Rattle.refusal.proofs.RowLaws.{same-row}
 use Rattle.number.specs.declared.Read.{Read}
 use Rattle.number.specs.declared.Read.the-variants.{Number, Ended, Malformed}
@@ -30,7 +30,7 @@ use Rattle.job.specs.declared.Bounds.{Bounds}
 use Rattle.job.specs.Job.{Job, within, nextInHeader, nextInHazard, Fields, readFields, moreNumbers, readHeader, headerOf, hazardOf, Hazards, readHazards, readRest, readJob, outsideHeader, outsideHazard}
 use Rattle.job.specs.Writing.{headerNumbers, hazardNumbers, hazardsNumbers, numbersOf, writeNumbers, writeJob}
 use Rattle.job.specs.Fits.{inRanges, HazardFits}
-use Rattle.job.specs.Rows.{Group, ofHeader, ofHazard, HasGroup, sizeOf, nextIn, numbersBefore, BeforeFits, Stands, behind, Next, OutOfRange, ReadRow, ended, malformed, header-range, hazard-range, left-over}
+use Rattle.job.specs.Rows.{Group, ofHeader, ofHazard, HasGroup, sizeOf, nextIn, numbersBefore, BeforeFits, BeginsWith, indexAfter, NextNumber, OutOfRange, ReadRow, ended, malformed, header-range, hazard-range, left-over}
 use Rattle.job.proofs.RangeLaws.{ranges-parts}
 use Rattle.job.proofs.JobLaws.{FieldsIn, fields-in, HeaderIn, header-in, header-own, header-fits, hazard-own, hazard-fits}
 use Rattle.job.proofs.StandLaws.{numbers-append, outsideOf, row-refused}
@@ -48,8 +48,8 @@ hazards-append (z ∷ zs) ys = rw (hazards-append zs ys) (sym (append-assoc (haz
 module _ (s : List ℕ) where
   -- The reading has come to a place.
   record At (g : Group) (got : List ℕ) (at : ℕ) : Type 0 where
-    stands : Stands s g got (drop at s)
-    index : at ≡ behind g got
+    stands : BeginsWith s g got (drop at s)
+    index : at ≡ indexAfter g got
 
   -- The row of a number and a value holds.
   record Holds (n v : ℕ) : Type 0 where
@@ -120,7 +120,7 @@ module _ {s : List ℕ} (b : Bytes s) where
   group-read g has zero got at room here = here
   group-read g has (suc k) got at room here = go (readNumber s at) refl (group-read g has k)
     where
-      next : Next s g got (drop at s)
+      next : NextNumber s g got (drop at s)
       next = record { has = has; more = rw append-nil at (room [] (omega arith)); stands = here .stands }
 
       Later : Type 0
@@ -131,7 +131,7 @@ module _ {s : List ℕ} (b : Bytes s) where
       tested x n e true w later = later (got ++ x ∷ []) n (λ ys l. rw (append-assoc got (x ∷ []) ys) (room (x ∷ ys) (omega arith))) (at-more x n here e w)
       tested x n e false w later =
           let number = read-stands s at x n b e in
-          outside-holds g got (record { number = x; rest = drop n s; next = subst (Next s g got) (number .split) next; fits = number .fits; outside = w })
+          outside-holds g got (record { number = x; rest = drop n s; next = subst (NextNumber s g got) (number .split) next; fits = number .fits; outside = w })
 
       go : (c : Read) → readNumber s at ≡ c → Later
           → GroupSaid s g (readingOf at c >>= λ x. unless-refuse (within (nextIn g got) (x .value)) (outsideOf g got) >>= λ _. readFields (nextIn g) (outsideOf g) k (got ++ x .value ∷ []) s (x .next))

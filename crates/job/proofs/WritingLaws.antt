@@ -8,8 +8,8 @@ use mathlib.Core.List.{List, [], _∷_, _++_, append-nil, List·Memᴰ, List·Me
 use lib.ListN.{length, length-append}
 use lib.Dec.{eqb}
 use borrow.Author.Tests.{le-leb}
-use Rattle.refusal.specs.Choice.{if_then_else_}
-use Rattle.refusal.specs.Answer.{accepted}
+use Rattle.base.specs.Choice.{if_then_else_}
+use Rattle.base.specs.Answer.{accepted}
 use Rattle.number.specs.Number.{writeNumber}
 use Rattle.number.proofs.WriteLaws.{length-below}
 use Rattle.number.specs.Form.{Bytes}
@@ -18,7 +18,7 @@ use Rattle.job.specs.declared.Hazard.{Hazard}
 use Rattle.job.specs.Job.{Job, readHazards, readJob, readRest}
 use Rattle.job.specs.Writing.{lastNumbers, headerNumbers, hazardNumbers, hazardsNumbers, numbersOf, writeNumbers, writeJob}
 use Rattle.job.specs.Fits.{inRanges, HazardFits, JobFits}
-use Rattle.job.specs.Rows.{ofHazard, Stands, behind}
+use Rattle.job.specs.Rows.{ofHazard, BeginsWith, indexAfter}
 use Rattle.job.proofs.StandLaws.{numbers-append, job-behind}
 pub use Rattle.job.proofs.RowLaws.{job-is-written}
 use Rattle.job.proofs.RangeLaws.{HeaderBounds, header-bounds, HazardBounds, hazard-bounds}
@@ -29,8 +29,8 @@ pub job-written : (j : Job) → JobFits j → readJob (writeJob j) ≡ accepted 
 unfolding readRest readHazards writeJob inRanges
 job-written j fits =
     let g = ofHazard (j .header) (j .hazards) in
-    let stands : Stands (writeJob j) g [] [] = record { before = (fits .header, fits .hazards .each); own = refl; bytes = simp append-nil } in
-    job-behind 0 stands (omega (arith, fits .hazards .count)) ∙ rw (le-leb (length (writeJob j)) (behind g []) (omega (arith, ap length (stands .bytes), length-append (writeNumbers (numbersOf j ++ [])) [])))
+    let stands : BeginsWith (writeJob j) g [] [] = record { before = (fits .header, fits .hazards .each); own = refl; bytes = simp append-nil } in
+    job-behind 0 stands (omega (arith, fits .hazards .count)) ∙ rw (le-leb (length (writeJob j)) (indexAfter g []) (omega (arith, ap length (stands .bytes), length-append (writeNumbers (numbersOf j ++ [])) [])))
 
 -- The length of a writing
 

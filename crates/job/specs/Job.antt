@@ -5,8 +5,8 @@ use mathlib.Core.Bool.{Bool, _&&_}
 use mathlib.Core.List.{List, [], _∷_, _++_, map}
 use lib.ListN.{length, getD, take, set}
 use lib.Dec.{leb, eqb}
-use Rattle.refusal.specs.Choice.{if_then_else_}
-use Rattle.refusal.specs.Answer.{Answer, accepted, _>>=_}
+use Rattle.base.specs.Choice.{if_then_else_}
+use Rattle.base.specs.Answer.{Answer, accepted, _>>=_}
 use Rattle.refusal.specs.Refusal.{unless-refuse}
 use Rattle.refusal.specs.declared.Refusal.the-variants as Row
 use Rattle.number.specs.Number.{numberAt}
@@ -155,6 +155,10 @@ sharedNumbers h =
 -- A header with another hazard count, and one with another barrier offset.
 abbrev pub counted : Header → (count : ℕ) → Header
 counted h count = headerWith (sharedNumbers h) (h .panel) count
+
+-- "A job made from the hazards."
+abbrev pub madeFrom : Header → List Hazard → Job
+madeFrom h zs = record { header = counted h (length zs); hazards = zs }
 
 abbrev pub withOffset : Header → (M : ℕ) → Header
 withOffset h M = headerWith (set (sharedNumbers h) 7 M) (h .panel) (h .count)

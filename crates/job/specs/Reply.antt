@@ -3,10 +3,10 @@
 use Prim.Native.Nat.{ℕ}
 use mathlib.Core.List.{List, [], map}
 use lib.Dec.{eqb}
-use Rattle.refusal.specs.Answer.{Answer, accepted, _>>=_}
+use Rattle.base.specs.Answer.{Answer, accepted, _>>=_}
 use Rattle.refusal.specs.Refusal.{unless-refuse, refusal, outcome}
 use Rattle.refusal.specs.declared.Refusal.the-variants as Row
-use Rattle.refusal.specs.Stored.{padded}
+use Rattle.base.specs.Stored.{padded}
 use Rattle.refusal.specs.declared.Refusal.{Refusal}
 use Rattle.number.specs.Number.{Reading, numberAt}
 use Rattle.job.specs.declared.Header.{Header}
@@ -65,8 +65,8 @@ abbrev pub hazardReading : Fields → HazardReading
 hazardReading f = record { hazard = hazardOf (f .numbers); next = f .next }
 
 -- The hazard with an index, from byte index `at` on.
-unfoldable pub hazardAt : Header → (index : ℕ) (s : List ℕ) (at : ℕ) → Answer HazardReading
-hazardAt h index s at = readFields (nextInHazard h) (outsideHazard index) 6 [] s at >>= λ f. accepted (hazardReading f)
+unfoldable pub readHazardAt : Header → (index : ℕ) (s : List ℕ) (at : ℕ) → Answer HazardReading
+readHazardAt h index s at = readFields (nextInHazard h) (outsideHazard index) 6 [] s at >>= λ f. accepted (hazardReading f)
 
 abbrev pub hazardAnswer : HazardRead → Answer HazardReading
 hazardAnswer (HazardRead.Hazard z n) = accepted (record { hazard = z; next = n })

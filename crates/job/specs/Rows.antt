@@ -7,7 +7,7 @@ use mathlib.Core.List.{List, [], _++_, List·Memᴰ}
 use lib.ListN.{length, getD}
 use Rattle.refusal.specs.declared.Refusal.{Refusal}
 use Rattle.refusal.specs.declared.Refusal.the-variants as Row
-use Rattle.number.specs.Number.{writeNumber, greatest}
+use Rattle.number.specs.Number.{writeNumber, greatestNumber}
 use Rattle.number.specs.Form.{EndsInside, IllFormed}
 use Rattle.job.specs.declared.Header.{Header}
 use Rattle.job.specs.declared.Hazard.{Hazard}
@@ -48,20 +48,20 @@ BeforeFits ofHeader = Unit {0}
 BeforeFits (ofHazard h before) = HeaderFits h × ((z : Hazard) → List·Memᴰ z before → HazardFits h z)
 
 -- The bytes begin with the numbers before a group and `got` of its own, each in shortest form and in its range; `rest` follows.
-pub record Stands (s : List ℕ) (g : Group) (got rest : List ℕ) : Type 0 where
+pub record BeginsWith (s : List ℕ) (g : Group) (got rest : List ℕ) : Type 0 where
   pub before : BeforeFits g
   pub own : inRanges (nextIn g) [] got ≡ true
   pub bytes : s ≡ writeNumbers (numbersBefore g ++ got) ++ rest
 
 -- The byte index behind them.
-abbrev pub behind : Group → (got : List ℕ) → ℕ
-behind g got = length (writeNumbers (numbersBefore g ++ got))
+abbrev pub indexAfter : Group → (got : List ℕ) → ℕ
+indexAfter g got = length (writeNumbers (numbersBefore g ++ got))
 
 -- And the group has another number, which is to begin there.
-pub record Next (s : List ℕ) (g : Group) (got rest : List ℕ) : Type 0 where
+pub record NextNumber (s : List ℕ) (g : Group) (got rest : List ℕ) : Type 0 where
   pub has : HasGroup g
   pub more : length got < sizeOf g got
-  pub stands : Stands s g got rest
+  pub stands : BeginsWith s g got rest
 
 -- The rows
 
@@ -70,16 +70,16 @@ pub record Unread (Fault : List ℕ → Type 0) (s : List ℕ) (at : ℕ) : Type
   pub group : Group
   pub got : List ℕ
   pub rest : List ℕ
-  pub next : Next s group got rest
+  pub next : NextNumber s group got rest
   pub fault : Fault rest
-  pub begins : at ≡ behind group got
+  pub begins : at ≡ indexAfter group got
 
 -- A number outside its range.
 pub record OutOfRange (s : List ℕ) (g : Group) (got : List ℕ) : Type 0 where
   pub number : ℕ
   pub rest : List ℕ
-  pub next : Next s g got (writeNumber number ++ rest)
-  pub fits : number ≤ greatest
+  pub next : NextNumber s g got (writeNumber number ++ rest)
+  pub fits : number ≤ greatestNumber
   pub outside : within (nextIn g got) number ≡ false
 
 -- Bytes after the last hazard.
@@ -87,9 +87,9 @@ pub record BytesAfter (s : List ℕ) (at : ℕ) : Type 0 where
   pub job : Job
   pub rest : List ℕ
   pub all : length (job .hazards) ≡ job .header .count
-  pub stands : Stands s (ofHazard (job .header) (job .hazards)) [] rest
+  pub stands : BeginsWith s (ofHazard (job .header) (job .hazards)) [] rest
   pub some : 0 < length rest
-  pub first : at ≡ behind (ofHazard (job .header) (job .hazards)) []
+  pub first : at ≡ indexAfter (ofHazard (job .header) (job .hazards)) []
 
 -- The table's rows of a job that cannot be read: what is returned, and when.
 pub data ReadRow (r : Refusal) (s : List ℕ) : Type 0 where

@@ -1,9 +1,9 @@
--- The writing of a job: its numbers in the tables' order, one behind the other, each in its shortest form.
+-- The writing of a job: its numbers in the tables' order, one behind the other, each in its shortest form (LEB128).
 -- Assumes nothing.
 use Prim.Native.Nat.{ℕ}
 use mathlib.Core.List.{List, [], _∷_, _++_}
 use lib.Dec.{eqb}
-use Rattle.refusal.specs.Choice.{if_then_else_}
+use Rattle.base.specs.Choice.{if_then_else_}
 use Rattle.number.specs.Number.{writeNumber}
 use Rattle.job.specs.declared.Header.{Header}
 use Rattle.job.specs.declared.Hazard.{Hazard}

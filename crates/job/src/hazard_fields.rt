@@ -9,7 +9,7 @@ ghost use mathlib.Core.Path.{_≡_};
 ghost use Prim.Native.Nat.{_<_};
 ghost use lib.ListN.{getD};
 ghost use Rattle.job.specs.Job.{_to_, hazardRanges};
-ghost use Rattle.job.specs.Reply.{hazardAt, hazardAnswer};
+ghost use Rattle.job.specs.Reply.{readHazardAt, hazardAnswer};
 
 pub enum HazardRead {
     // A hazard, and the byte index behind it.
@@ -34,7 +34,7 @@ pub fn hazard_range(k: usize, header: Header, start: u64, near: u64) -> Bounds
 // The hazard with this index, whose first number begins at byte index first.
 pub fn read_hazard(s: &[u8], first: usize, header: Header, index: usize) -> HazardRead
     requires { ⌜ 0 < header .end ⌝ }
-    ensures { λ r. ⌜ hazardAnswer r ≡ hazardAt header index (now (s .entry)) first ⌝ }
+    ensures { λ r. ⌜ hazardAnswer r ≡ readHazardAt header index (now (s .entry)) first ⌝ }
 {
     let mut numbers = [0u64; 6];
     let mut at = first;

@@ -68,6 +68,17 @@ pub struct NamedHazard {
     pub level: u8,
 }
 
+// A place in which no hazard is stored.
+pub const UNUSED: NamedHazard = NamedHazard {
+    start: 0,
+    end: 0,
+    near: 0,
+    far: 0,
+    name: 0,
+    side: 0,
+    level: 0,
+};
+
 // A job's numbers as stored: the first `count` hazards are the job's.
 #[repr(C)]
 pub struct StoredJob {

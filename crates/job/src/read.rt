@@ -1,7 +1,7 @@
 // A job read from its bytes.
 use super::Header;
-use super::NamedHazard;
 use super::StoredJob;
+use super::UNUSED;
 use super::hazard_fields::HazardRead;
 use super::hazard_fields::read_hazard;
 use super::header_fields::HeaderRead;
@@ -15,7 +15,7 @@ use refusal::Refusal;
 ghost use mathlib.Core.Path.{_≡_};
 ghost use mathlib.Core.List.{[]};
 ghost use Prim.Native.Nat.{_-_, _<_, _≤_};
-ghost use Rattle.refusal.specs.Stored.{acceptedOr};
+ghost use Rattle.base.specs.Stored.{acceptedOr};
 ghost use Rattle.refusal.specs.declared.Outcome.the-variants.{Refused};
 ghost use Rattle.job.specs.Job.{readRest, readJob};
 ghost use Rattle.job.specs.Reply.{jobAnswer, noJob, storedJob, jobHeader, readOpening, openingAnswer};
@@ -37,17 +37,10 @@ pub enum Opening {
 fn unfilled(header: Header) -> StoredJob
     ensures { λ r. ⌜ r ≡ storedJob (record { header = header; hazards = [] }) ⌝ }
 {
-    let none = NamedHazard {
-        start: 0,
-        end: 0,
-        near: 0,
-        far: 0,
-        name: 0,
-        side: 0,
-        level: 0,
-    };
-    let hazards = [none; 256];
-    StoredJob { header, hazards }
+    StoredJob {
+        header,
+        hazards: [UNUSED; 256],
+    }
 }
 
 // A refusal, and zeros beside it.

@@ -17,7 +17,7 @@ ghost use Prim.Native.Nat.{_+_, _≤_, _<_};
 ghost use lib.ListN.{length};
 ghost use Rattle.job.specs.Job.{_to_};
 ghost use Rattle.job.specs.Fits.{hazardInRange};
-ghost use Rattle.job.specs.Reply.{fieldAt, fieldAnswer, hazardAt, hazardAnswer};
+ghost use Rattle.job.specs.Reply.{fieldAt, fieldAnswer, readHazardAt, hazardAnswer};
 
 // The number at an index, from low to high; `outside` is the refusal of one that is not.
 fn read_field_within(s: &[u8], at: usize, low: u64, high: u64, outside: Refusal) -> Field
@@ -48,7 +48,7 @@ fn in_range(header: Header, z: Hazard) -> bool
 fn read_numbers_within(s: &[u8], first: usize, header: Header, index: usize) -> HazardRead
     requires { ⌜ 0 < header .end ⌝ }
     requires { ⌜ first + 36 ≤ length (now s) ⌝ }
-    ensures { λ r. ⌜ hazardAnswer r ≡ hazardAt header index (now (s .entry)) first ⌝ }
+    ensures { λ r. ⌜ hazardAnswer r ≡ readHazardAt header index (now (s .entry)) first ⌝ }
 {
     let mut numbers = [0u64; 6];
     let mut at = first;
@@ -81,7 +81,7 @@ fn read_numbers_within(s: &[u8], first: usize, header: Header, index: usize) -> 
 pub fn read_hazard_within(s: &[u8], first: usize, header: Header, index: usize) -> HazardRead
     requires { ⌜ 0 < header .end ⌝ }
     requires { ⌜ first + 36 ≤ length (now s) ⌝ }
-    ensures { λ r. ⌜ hazardAnswer r ≡ hazardAt header index (now (s .entry)) first ⌝ }
+    ensures { λ r. ⌜ hazardAnswer r ≡ readHazardAt header index (now (s .entry)) first ⌝ }
 {
     let start_word = word(s, first + 1);
     let end_word = word(s, first + 5);

@@ -1,13 +1,9 @@
 -- Lists of bytes.
 -- Assumes nothing.
-use Prim.Native.Nat.{ℕ, zero, suc, _/_, _<_}
-use native.Mathlib.Omega.{arith}
-use native.Mathlib.Decide.{decLt}
+use Prim.Native.Nat.{ℕ, zero, suc, _<_}
 use mathlib.Core.List.{List, [], _∷_, List·Memᴰ·tail, List·Memᴰ·not-nil}
 use lib.ListN.{drop, getD}
-use Rattle.refusal.proofs.EachLaws.{cons-each}
-use Rattle.number.specs.Number.{writeIn, writeNumber}
-use Rattle.number.proofs.WriteLaws.{write-last, write-more}
+use Rattle.base.proofs.ListLaws.{cons-each}
 use Rattle.number.specs.Form.{Bytes}
 
 no-bytes : Bytes []
@@ -25,16 +21,3 @@ drop-bytes (suc at) (x ∷ s) b = drop-bytes at s (tail-bytes b)
 pub index-bytes : (s : List ℕ) → ((i : ℕ) → getD s i 0 < 256) → Bytes s
 index-bytes [] h = no-bytes
 index-bytes (y ∷ s) h = cons-each (λ x. x < 256) (h 0) (index-bytes s (λ i. h (suc i)))
-
-writeIn-bytes : (k n : ℕ) → Bytes (writeIn k n)
-unfolding writeIn
-writeIn-bytes zero n = no-bytes
-writeIn-bytes (suc k) n = go (decLt n 128) (writeIn-bytes k (n / 128))
-  where
-    go : Dec (n < 128) → Bytes (writeIn k (n / 128)) → Bytes (writeIn (suc k) n)
-    go (yes l) r = rw (write-last k n l) (cons-each (λ x. x < 256) (omega arith) no-bytes)
-    go (no l) r = rw (write-more k n (omega arith)) (cons-each (λ x. x < 256) (omega arith) r)
-
-pub write-bytes : (n : ℕ) → Bytes (writeNumber n)
-unfolding writeNumber
-write-bytes n = writeIn-bytes 6 n

@@ -10,11 +10,11 @@ use mathlib.Core.List.{List, [], _∷_, _++_, List·Memᴰ·head, List·Memᴰ·
 use lib.ListN.{length, drop}
 use lib.Dec.{leb, eqb}
 use borrow.Author.Tests.{lt-leb, le-leb, eqb-false, ne-eqb}
-use Rattle.refusal.specs.Choice.{if_then_else_}
-use Rattle.refusal.proofs.EachLaws.{cons-each}
+use Rattle.base.specs.Choice.{if_then_else_}
+use Rattle.base.proofs.ListLaws.{cons-each}
 use Rattle.number.specs.declared.Read.{Read}
 use Rattle.number.specs.declared.Read.the-variants.{Number, Ended, Malformed}
-use Rattle.number.specs.Number.{writeNumber, mostGroups, greatest, groupCount, Scan, cut, overlong, whole, prefixed, scan, judged, readNumber}
+use Rattle.number.specs.Number.{writeNumber, mostGroups, greatestNumber, groupCount, Scan, cut, overlong, whole, prefixed, scan, readOf, readNumber}
 use Rattle.number.specs.Form.{TopBits, EndsInside, IllFormed, sixth, long, Bytes}
 use Rattle.number.proofs.ScanLaws.{scan-last, scan-more, scan-most}
 use Rattle.number.proofs.WriteLaws.{group-count}
@@ -58,17 +58,17 @@ scanned (suc k) (x ∷ xs) = go (decLt x 128) (scan k xs) refl (scanned k xs)
 
 -- A number whose groups end is malformed by its value or by its groups.
 unfit : (value groups : ℕ)
-    → ((leb value greatest && eqb groups (length (writeNumber value))) ≡ false) ↔ ((greatest < value) ⊎ (groups ≡ groupCount value → ⊥))
-unfit value groups = (to (decLe value greatest), back (decLe value greatest))
+    → ((leb value greatestNumber && eqb groups (length (writeNumber value))) ≡ false) ↔ ((greatestNumber < value) ⊎ (groups ≡ groupCount value → ⊥))
+unfit value groups = (to (decLe value greatestNumber), back (decLe value greatestNumber))
   where
-    to : Dec (value ≤ greatest) → (leb value greatest && eqb groups (length (writeNumber value))) ≡ false → (greatest < value) ⊎ (groups ≡ groupCount value → ⊥)
-    to (yes l) e = inr (λ q. eqb-false _ _ (rw (le-leb value greatest l) at e) (q ∙ sym (group-count value l)))
+    to : Dec (value ≤ greatestNumber) → (leb value greatestNumber && eqb groups (length (writeNumber value))) ≡ false → (greatestNumber < value) ⊎ (groups ≡ groupCount value → ⊥)
+    to (yes l) e = inr (λ q. eqb-false _ _ (rw (le-leb value greatestNumber l) at e) (q ∙ sym (group-count value l)))
     to (no l) e = inl (omega arith)
 
-    back : Dec (value ≤ greatest) → (greatest < value) ⊎ (groups ≡ groupCount value → ⊥) → (leb value greatest && eqb groups (length (writeNumber value))) ≡ false
+    back : Dec (value ≤ greatestNumber) → (greatestNumber < value) ⊎ (groups ≡ groupCount value → ⊥) → (leb value greatestNumber && eqb groups (length (writeNumber value))) ≡ false
     back (yes l) (inl h) = absurd (omega arith)
-    back (yes l) (inr h) = rw (le-leb value greatest l, ne-eqb groups (length (writeNumber value)) (λ q. h (q ∙ group-count value l)))
-    back (no l) h = rw (lt-leb value greatest (omega arith))
+    back (yes l) (inr h) = rw (le-leb value greatestNumber l, ne-eqb groups (length (writeNumber value)) (λ q. h (q ∙ group-count value l)))
+    back (no l) h = rw (lt-leb value greatestNumber (omega arith))
 
 -- What is wrong with the bytes of a number that was not read.
 abbrev Formed : Read → List ℕ → Type 0
@@ -76,23 +76,23 @@ Formed (Number value next) s = Unit {0}
 Formed Ended s = EndsInside s
 Formed Malformed s = Bytes s → IllFormed s
 
-formed : (at : ℕ) (s : List ℕ) → Formed (judged at (scan mostGroups s)) s
+formed : (at : ℕ) (s : List ℕ) → Formed (readOf at (scan mostGroups s)) s
 formed at s = go (scan mostGroups s) refl (scanned mostGroups s)
   where
     -- "No longer at the value": no six bytes make one that is too great.
-    why : (value groups : ℕ) → scan mostGroups s ≡ whole value groups → (greatest < value) ⊎ (groups ≡ groupCount value → ⊥) → Bytes s → IllFormed s
+    why : (value groups : ℕ) → scan mostGroups s ≡ whole value groups → (greatestNumber < value) ⊎ (groups ≡ groupCount value → ⊥) → Bytes s → IllFormed s
     why value groups p (inl h) b = absurd (omega (arith, scan-most mostGroups s value groups b p))
     why value groups p (inr h) b = long value groups p h
 
-    judge : (value groups : ℕ) → scan mostGroups s ≡ whole value groups → (t : Bool) → (leb value greatest && eqb groups (length (writeNumber value))) ≡ t
+    judge : (value groups : ℕ) → scan mostGroups s ≡ whole value groups → (t : Bool) → (leb value greatestNumber && eqb groups (length (writeNumber value))) ≡ t
         → Formed (if t then Number value (at + groups) else Malformed) s
     judge value groups p true h = tt
     judge value groups p false h = why value groups p (unfit value groups .0 h)
 
-    go : (c : Scan) → scan mostGroups s ≡ c → Scanned mostGroups s c → Formed (judged at c) s
+    go : (c : Scan) → scan mostGroups s ≡ c → Scanned mostGroups s c → Formed (readOf at c) s
     go cut p t = record { few = t .0; unended = t .1 }
     go overlong p t = λ b. sixth (t .0) (t .1) (t .2) (t .3) (t .4)
-    go (whole value groups) p t = judge value groups p (leb value greatest && eqb groups (length (writeNumber value))) refl
+    go (whole value groups) p t = judge value groups p (leb value greatestNumber && eqb groups (length (writeNumber value))) refl
 
 module _ (s : List ℕ) (at : ℕ) where
   -- 1: "job bytes end before or inside a number", and no other.

@@ -10,17 +10,17 @@ use lib.ListN.{length, getD, drop, drop-of-length-le}
 use lib.Seq.{drop-cons}
 use borrow.Author.Tests.{le-leb, eq-eqb, ne-eqb}
 use Rattle.number.specs.declared.Read.the-variants.{Number, Ended, Malformed}
-use Rattle.number.specs.Number.{writeIn, writeNumber, greatest, Scan, cut, overlong, whole, prefixed, scan, judged, readNumber}
-use Rattle.number.specs.Groups.{behind, readBehind}
+use Rattle.number.specs.Number.{writeIn, writeNumber, greatestNumber, Scan, cut, overlong, whole, prefixed, scan, readOf, readNumber}
+use Rattle.number.specs.Groups.{afterGroups, readAfterGroups}
 use Rattle.number.proofs.ScanLaws.{scan-last, scan-more}
 use Rattle.number.proofs.WriteLaws.{small-length, length-below, length-above}
 
-pub behind-first : (group : ℕ) (rest : Scan) → prefixed group rest ≡ behind group 128 1 rest
+pub behind-first : (group : ℕ) (rest : Scan) → prefixed group rest ≡ afterGroups group 128 1 rest
 behind-first group cut = refl
 behind-first group overlong = refl
 behind-first group (whole value groups) = ap (whole (group + 128 * value)) (let e : suc groups ≡ 1 + groups = omega arith in e)
 
-pub behind-more : (low weight passed group : ℕ) (rest : Scan) → behind low weight passed (prefixed group rest) ≡ behind (low + weight * group) (weight * 128) (passed + 1) rest
+pub behind-more : (low weight passed group : ℕ) (rest : Scan) → afterGroups low weight passed (prefixed group rest) ≡ afterGroups (low + weight * group) (weight * 128) (passed + 1) rest
 behind-more low weight passed group cut = refl
 behind-more low weight passed group overlong = refl
 behind-more low weight passed group (whole value groups) = ap₂ whole (simp (mul-add, mul-assoc, add-assoc)) (omega arith)
@@ -49,22 +49,22 @@ module _ (left i : ℕ) (s : List ℕ) (some : 0 < left) (there : i < length s) 
 -- The last group, behind others: needless, or all is well.
 module _ (at low weight passed : ℕ) (some : 0 < passed) (most : passed < 6) (counts : weight ≡ 128 ^ passed) (under : low < weight) where
   -- Where it is 0, fewer groups were enough.
-  pub last-needless : judged at (behind low weight passed (whole 0 1)) ≡ Malformed
+  pub last-needless : readOf at (afterGroups low weight passed (whole 0 1)) ≡ Malformed
   unfolding writeNumber
   last-needless =
       let one : suc (passed - 1) ≡ passed = omega arith in
       let short = length-below 6 (passed - 1) (low + weight * 0) (rw one (omega arith)) in
       let great = pow-le-pow-right {n = 128} (omega arith) {i = passed} {j = 5} (omega arith) in
-      simp (le-leb (low + weight * 0) greatest (omega arith), ne-eqb (passed + 1) (length (writeIn 6 (low + weight * 0))) (λ e. omega arith))
+      simp (le-leb (low + weight * 0) greatestNumber (omega arith), ne-eqb (passed + 1) (length (writeIn 6 (low + weight * 0))) (λ e. omega arith))
 
-  pub last-whole : (b : ℕ) → 0 < b → b < 128 → low + weight * b ≤ greatest → judged at (behind low weight passed (whole b 1)) ≡ Number (low + weight * b) (at + (passed + 1))
+  pub last-whole : (b : ℕ) → 0 < b → b < 128 → low + weight * b ≤ greatestNumber → readOf at (afterGroups low weight passed (whole b 1)) ≡ Number (low + weight * b) (at + (passed + 1))
   unfolding writeNumber
   last-whole b pos h fits =
       let least = mul-le-mul-left {m = 1} {n = b} weight pos in
       let under-next = mul-le-mul-left {m = b} {n = 127} weight (omega arith) in
       let below = length-below 6 passed (low + weight * b) (omega (arith, pow-suc 128 passed)) in
       let above = length-above 6 passed (low + weight * b) (omega arith) (omega arith) in
-      simp (le-leb (low + weight * b) greatest fits, eq-eqb (passed + 1) (length (writeIn 6 (low + weight * b))) (omega arith))
+      simp (le-leb (low + weight * b) greatestNumber fits, eq-eqb (passed + 1) (length (writeIn 6 (low + weight * b))) (omega arith))
 
 -- A number read group by group
 
@@ -75,42 +75,42 @@ read-none s at h = rw (scan-ended 6 at s (omega arith) h)
 -- The first group is the last.
 pub read-one : (s : List ℕ) (at : ℕ) → at < length s → getD s at 0 < 128 → readNumber s at ≡ Number (getD s at 0) (at + 1)
 unfolding readNumber
-read-one s at there h = rw (scan-last-at 6 at s (omega arith) there h, le-leb (getD s at 0) greatest (omega arith), small-length (getD s at 0) h)
+read-one s at there h = rw (scan-last-at 6 at s (omega arith) there h, le-leb (getD s at 0) greatestNumber (omega arith), small-length (getD s at 0) h)
 
 -- The first group has others behind it.
-pub read-first : (s : List ℕ) (at : ℕ) → at < length s → 128 ≤ getD s at 0 → readNumber s at ≡ readBehind (getD s at 0 - 128) 128 1 s at
-unfolding readNumber readBehind
-read-first s at there h = ap (judged at) (scan-more-at 6 at s (omega arith) there h ∙ behind-first (getD s at 0 - 128) (scan 5 (drop (at + 1) s)))
+pub read-first : (s : List ℕ) (at : ℕ) → at < length s → 128 ≤ getD s at 0 → readNumber s at ≡ readAfterGroups (getD s at 0 - 128) 128 1 s at
+unfolding readNumber readAfterGroups
+read-first s at there h = ap (readOf at) (scan-more-at 6 at s (omega arith) there h ∙ behind-first (getD s at 0 - 128) (scan 5 (drop (at + 1) s)))
 
 -- Behind six groups nothing is a number.
-pub read-overlong : (low weight : ℕ) (s : List ℕ) (at : ℕ) → readBehind low weight 6 s at ≡ Malformed
-unfolding readBehind scan
+pub read-overlong : (low weight : ℕ) (s : List ℕ) (at : ℕ) → readAfterGroups low weight 6 s at ≡ Malformed
+unfolding readAfterGroups scan
 read-overlong low weight s at = refl
 
 module _ (low weight passed : ℕ) (s : List ℕ) (at : ℕ) (most : passed < 6) where
-  pub read-ended : length s ≤ at + passed → readBehind low weight passed s at ≡ Ended
-  unfolding readBehind
-  read-ended h = rw (scan-ended (6 - passed) (at + passed) s (omega arith) h)
+  pub read-cut-short : length s ≤ at + passed → readAfterGroups low weight passed s at ≡ Ended
+  unfolding readAfterGroups
+  read-cut-short h = rw (scan-ended (6 - passed) (at + passed) s (omega arith) h)
 
   module _ (there : at + passed < length s) where
-    pub read-more : 128 ≤ getD s (at + passed) 0 → readBehind low weight passed s at ≡ readBehind (low + weight * (getD s (at + passed) 0 - 128)) (weight * 128) (passed + 1) s at
-    unfolding readBehind
+    pub read-more : 128 ≤ getD s (at + passed) 0 → readAfterGroups low weight passed s at ≡ readAfterGroups (low + weight * (getD s (at + passed) 0 - 128)) (weight * 128) (passed + 1) s at
+    unfolding readAfterGroups
     read-more h =
         let left : 6 - passed - 1 ≡ 6 - (passed + 1) = omega arith in
         let next : at + passed + 1 ≡ at + (passed + 1) = omega arith in
-        ap (λ (r : Scan). judged at (behind low weight passed r)) (scan-more-at (6 - passed) (at + passed) s (omega arith) there h)
-        ∙ ap (judged at) (behind-more low weight passed (getD s (at + passed) 0 - 128) (scan (6 - passed - 1) (drop (at + passed + 1) s)))
+        ap (λ (r : Scan). readOf at (afterGroups low weight passed r)) (scan-more-at (6 - passed) (at + passed) s (omega arith) there h)
+        ∙ ap (readOf at) (behind-more low weight passed (getD s (at + passed) 0 - 128) (scan (6 - passed - 1) (drop (at + passed + 1) s)))
         ∙ rw (left, next)
 
-    read-last : getD s (at + passed) 0 < 128 → readBehind low weight passed s at ≡ judged at (behind low weight passed (whole (getD s (at + passed) 0) 1))
-    unfolding readBehind
-    read-last h = ap (λ (r : Scan). judged at (behind low weight passed r)) (scan-last-at (6 - passed) (at + passed) s (omega arith) there h)
+    read-last : getD s (at + passed) 0 < 128 → readAfterGroups low weight passed s at ≡ readOf at (afterGroups low weight passed (whole (getD s (at + passed) 0) 1))
+    unfolding readAfterGroups
+    read-last h = ap (λ (r : Scan). readOf at (afterGroups low weight passed r)) (scan-last-at (6 - passed) (at + passed) s (omega arith) there h)
 
     module _ (some : 0 < passed) (counts : weight ≡ 128 ^ passed) (under : low < weight) where
-      pub read-needless : getD s (at + passed) 0 ≡ 0 → readBehind low weight passed s at ≡ Malformed
+      pub read-needless : getD s (at + passed) 0 ≡ 0 → readAfterGroups low weight passed s at ≡ Malformed
       read-needless none = read-last (omega arith) ∙ rw none (last-needless at low weight passed some most counts under)
 
-      pub read-whole : 0 < getD s (at + passed) 0 → getD s (at + passed) 0 < 128 → low + weight * getD s (at + passed) 0 ≤ greatest → readBehind low weight passed s at ≡ Number (low + weight * getD s (at + passed) 0) (at + (passed + 1))
+      pub read-whole : 0 < getD s (at + passed) 0 → getD s (at + passed) 0 < 128 → low + weight * getD s (at + passed) 0 ≤ greatestNumber → readAfterGroups low weight passed s at ≡ Number (low + weight * getD s (at + passed) 0) (at + (passed + 1))
       read-whole pos h fits = read-last h ∙ last-whole at low weight passed some most counts under (getD s (at + passed) 0) pos h fits
 
 -- A group less its top bit.

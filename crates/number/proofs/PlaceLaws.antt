@@ -8,13 +8,11 @@ use mathlib.Core.Path.{_≡_, refl, sym, ap, _∙_}
 use mathlib.Core.Bool.{Bool, true, false}
 use mathlib.Core.List.{List, [], _∷_, _++_, append-assoc}
 use lib.ListN.{length, take, drop, set, length-append, take-append-drop}
-use lib.Seq.{drop-at, length-take-le, sets, sets-eq, length-sets}
+use lib.Seq.{sets, sets-eq, length-sets}
 use lib.Dec.{leb}
 use borrow.Author.Tests.{lt-leb, le-leb}
-use Rattle.refusal.specs.Choice.{if_then_else_}
-use Rattle.number.specs.declared.Read.the-variants.{Number}
-use Rattle.number.specs.Number.{writeNumber, greatest, readNumber, placed}
-use Rattle.number.proofs.ReadLaws.{read-writing}
+use Rattle.base.specs.Choice.{if_then_else_}
+use Rattle.number.specs.Number.{placed}
 
 pub placed-fits : (s : List ℕ) (at : ℕ) (w : List ℕ) → at + length w ≤ length s → placed s at w ≡ take at s ++ (w ++ drop (at + length w) s)
 unfolding placed
@@ -58,11 +56,3 @@ placed-append s at v w h =
     ∙ ap (λ (l : List ℕ). sets l (at + length v) w) (placed-sets s at v (omega arith))
     ∙ sets-append s at v w
     ∙ sym (placed-sets s at (v ++ w) (omega arith))
-
--- What stands from the place on: the bytes placed, and what stood behind.
-pub placed-drop : (s : List ℕ) (at : ℕ) (w : List ℕ) → at + length w ≤ length s → drop at (placed s at w) ≡ w ++ drop (at + length w) s
-placed-drop s at w h = rw (placed-fits s at w h) (drop-at (take at s) (w ++ drop (at + length w) s) at (length-take-le at s (omega arith)))
-
--- A number that was written reads back.
-pub read-written : (s : List ℕ) (at n : ℕ) → n ≤ greatest → at + length (writeNumber n) ≤ length s → readNumber (placed s at (writeNumber n)) at ≡ Number n (at + length (writeNumber n))
-read-written s at n fit h = read-writing (placed s at (writeNumber n)) at n (drop (at + length (writeNumber n)) s) fit (placed-drop s at (writeNumber n) h)

@@ -8,7 +8,7 @@ use mathlib.Core.Path.{_≡_, refl, sym, ap, _∙_}
 use mathlib.Core.List.{List, [], _∷_, _++_, List·Memᴰ·head}
 use lib.ListN.{length}
 use borrow.Author.Tests.{lt-ltb, le-ltb}
-use Rattle.refusal.proofs.TestLaws.{impossible}
+use Rattle.base.proofs.TestLaws.{impossible}
 use Rattle.number.specs.Number.{writeIn, Scan, cut, overlong, whole, prefixed, scan}
 use Rattle.number.proofs.WriteLaws.{write-last, write-more}
 use Rattle.number.specs.Form.{Bytes}
@@ -75,18 +75,6 @@ scan-most (suc k) (x ∷ xs) v n b e = go (ends k x xs v n e) (λ w m. scan-most
     go : Ends k x xs v n → ((w m : ℕ) → scan k xs ≡ whole w m → w < 128 ^ k) → v < 128 ^ suc k
     go (at-once h p q) r = omega (arith, some, pow-succ' 128 k)
     go (later h w m p q t) r = omega (arith, r w m p, b x (List·Memᴰ·head refl), pow-succ' 128 k)
-
--- More groups allowed change no scan that ends within the fewer.
-pub scan-wider : (k m : ℕ) (s : List ℕ) (v n : ℕ) → k ≤ m → scan k s ≡ whole v n → scan m s ≡ whole v n
-unfolding scan
-scan-wider zero m s v n le e = impossible cc
-scan-wider (suc k) zero s v n le e = absurd (omega arith)
-scan-wider (suc k) (suc m) [] v n le e = e
-scan-wider (suc k) (suc m) (x ∷ xs) v n le e = go (ends k x xs v n e) (λ w g. scan-wider k m xs w g (omega arith))
-  where
-    go : Ends k x xs v n → ((w g : ℕ) → scan k xs ≡ whole w g → scan m xs ≡ whole w g) → scan (suc m) (x ∷ xs) ≡ whole v n
-    go (at-once h p q) r = scan-last m x xs h ∙ rw (p, q)
-    go (later h w g p q t) r = scan-more m x xs h ∙ rw (r w g p, q, t)
 
 -- A writing is scanned as its number.
 pub scan-write : (k n : ℕ) (rest : List ℕ) → n < 128 ^ suc k → scan (suc k) (writeIn (suc k) n ++ rest) ≡ whole n (length (writeIn (suc k) n))

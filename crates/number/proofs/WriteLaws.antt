@@ -10,7 +10,7 @@ use mathlib.Core.Path.{_≡_, refl, sym, ap, _∙_}
 use mathlib.Core.List.{List, [], _∷_}
 use lib.ListN.{length}
 use borrow.Author.Tests.{lt-ltb, le-ltb}
-use Rattle.number.specs.Number.{writeIn, writeNumber, mostGroups, greatest, groupCount}
+use Rattle.number.specs.Number.{writeIn, writeNumber, mostGroups, greatestNumber, groupCount}
 
 -- One group
 
@@ -41,14 +41,14 @@ pub write-one : (n : ℕ) → n < 128 → writeNumber n ≡ n ∷ []
 unfolding writeNumber
 write-one n h = write-last 5 n h
 
-pub write-step : (n : ℕ) → 128 ≤ n → n ≤ greatest → writeNumber n ≡ (n % 128 + 128) ∷ writeNumber (n / 128)
+pub write-step : (n : ℕ) → 128 ≤ n → n ≤ greatestNumber → writeNumber n ≡ (n % 128 + 128) ∷ writeNumber (n / 128)
 unfolding writeNumber
 write-step n h fit = write-more 5 n h ∙ ap (λ (l : List ℕ). (n % 128 + 128) ∷ l) (write-wider 4 5 (n / 128) (omega arith) (omega arith))
 
 -- Length
 
 -- "No longer at the value": the groups make no value that is greater.
-pub groups-hold : greatest + 1 ≡ 128 ^ mostGroups
+pub groups-hold : greatestNumber + 1 ≡ 128 ^ mostGroups
 groups-hold = refl
 
 -- Below 128 ^ (g + 1), g + 1 groups are enough.
@@ -116,7 +116,7 @@ groups-of-bits n j lo hi few =
     omega (arith, seven-bits g, seven-bits (suc g), length-below 6 g n (omega (arith, seven-bits (suc g))), length-above 6 g n (omega arith) (omega (arith, seven-bits g)))
 
 -- "A number takes as many groups as its bits need, and 0 takes one."
-pub group-count : (n : ℕ) → n ≤ greatest → length (writeNumber n) ≡ groupCount n
+pub group-count : (n : ℕ) → n ≤ greatestNumber → length (writeNumber n) ≡ groupCount n
 unfolding groupCount
 group-count zero h = small-length 0 (omega arith) ∙ rw (leading-of-zero 64)
 group-count (suc n) h =

@@ -4,15 +4,15 @@ use Prim.Native.Nat.{ℕ, _+_, _≤_, _<_}
 use mathlib.Core.Path.{_≡_}
 use mathlib.Core.List.{List, _++_, List·Memᴰ}
 use lib.ListN.{length, drop}
-use Rattle.number.specs.Number.{writeNumber, mostGroups, greatest, groupCount, whole, scan, Reading}
+use Rattle.number.specs.Number.{writeNumber, mostGroups, greatestNumber, groupCount, whole, scan, Reading}
 
 -- A list of bytes.
 abbrev pub Bytes : List ℕ → Type 0
 Bytes s = (x : ℕ) → List·Memᴰ x s → x < 256
 
 -- A number stands at an index as its writing, and it fits.
-pub record Stands (s : List ℕ) (at : ℕ) (r : Reading) : Type 0 where
-  pub fits : r .value ≤ greatest
+pub record WrittenAt (s : List ℕ) (at : ℕ) (r : Reading) : Type 0 where
+  pub fits : r .value ≤ greatestNumber
   pub next : r .next ≡ at + length (writeNumber (r .value))
   pub split : drop at s ≡ writeNumber (r .value) ++ drop (r .next) s
 

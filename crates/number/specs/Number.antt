@@ -1,4 +1,4 @@
--- The number form of document 01, with six bytes since document 02's request 11: groups of seven bits, lowest group first, one group a byte; the top bit is set on all but the last byte.
+-- The number form of document 01, with six bytes since document 02's request 11: groups of seven bits, lowest group first, one group a byte; the top bit is set on all but the last byte (LEB128, unsigned).
 -- Assumes nothing.
 use Prim.Native.Nat.{ℕ, zero, suc, _+_, _-_, _*_, _/_, _%_, max}
 use mathlib.Core.Bool.{_&&_}
@@ -6,8 +6,8 @@ use mathlib.Core.List.{List, [], _∷_, _++_}
 use lib.ListN.{length, take, drop}
 use lib.Count.{leadingZeros}
 use lib.Dec.{ltb, leb, eqb}
-use Rattle.refusal.specs.Choice.{if_then_else_}
-use Rattle.refusal.specs.Answer.{Answer, accepted}
+use Rattle.base.specs.Choice.{if_then_else_}
+use Rattle.base.specs.Answer.{Answer, accepted}
 use Rattle.number.specs.declared.Read.{Read}
 use Rattle.number.specs.declared.Read.the-variants.{Number, Ended, Malformed}
 use Rattle.refusal.specs.Refusal.{refusal}
@@ -25,8 +25,8 @@ abbrev pub mostGroups : ℕ
 mostGroups = 6
 
 -- The greatest value that so many groups make (law groups-hold).
-abbrev pub greatest : ℕ
-greatest = 4398046511103
+abbrev pub greatestNumber : ℕ
+greatestNumber = 4398046511103
 
 unfoldable pub writeNumber : (n : ℕ) → List ℕ
 writeNumber n = writeIn mostGroups n
@@ -58,15 +58,15 @@ scan (suc k) [] = cut
 scan (suc k) (x ∷ xs) = let rest = scan k xs in if ltb x 128 then whole x 1 else prefixed (x - 128) rest
 
 -- A number must be in its shortest form. "No longer at the value": of six bytes none is above the greatest (law read-malformed).
-abbrev pub judged : (at : ℕ) → Scan → Read
-judged at cut = Ended
-judged at overlong = Malformed
-judged at (whole value groups) =
-    if leb value greatest && eqb groups (length (writeNumber value)) then Number value (at + groups) else Malformed
+abbrev pub readOf : (at : ℕ) → Scan → Read
+readOf at cut = Ended
+readOf at overlong = Malformed
+readOf at (whole value groups) =
+    if leb value greatestNumber && eqb groups (length (writeNumber value)) then Number value (at + groups) else Malformed
 
 -- The number that begins at index `at`, with the index behind it.
 unfoldable pub readNumber : List ℕ → (at : ℕ) → Read
-readNumber s at = judged at (scan mostGroups (drop at s))
+readNumber s at = readOf at (scan mostGroups (drop at s))
 
 -- A number read, and the index behind it.
 pub record Reading : Type 0 where

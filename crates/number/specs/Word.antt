@@ -16,6 +16,6 @@ isNumber zero w = eqb (w / 128 % 2) 0
 isNumber (suc k) w = eqb (w / 128 % 2) 1 && isNumber k (w / 256)
 
 -- What the groups of these bytes make.
-abbrev pub numberOf : (k w : ℕ) → ℕ
-numberOf zero w = w % 128
-numberOf (suc k) w = w % 128 + 128 * numberOf k (w / 256)
+abbrev pub wordNumber : (k w : ℕ) → ℕ
+wordNumber zero w = w % 128
+wordNumber (suc k) w = w % 128 + 128 * wordNumber k (w / 256)

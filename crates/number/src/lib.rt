@@ -1,11 +1,11 @@
-// The number form of document 01: reading a number, counting its groups, writing it into lent memory.
+// The number form of document 01 (LEB128): reading a number, counting its groups, writing it into lent memory.
 pub mod word; // numbers of a usual length
 pub mod within; // reading where the bytes are known to go on
 
 ghost use mathlib.Core.Path.{_≡_};
 ghost use Prim.Native.Nat.{_+_, _≤_};
 ghost use lib.ListN.{length};
-ghost use Rattle.number.specs.Number.{greatest, groupCount, writeNumber, readNumber, readingOf, numberAt, placed};
+ghost use Rattle.number.specs.Number.{greatestNumber, groupCount, writeNumber, readNumber, readingOf, numberAt, placed};
 
 // What reading at an index finds.
 pub enum Read {
@@ -67,7 +67,7 @@ pub fn read_number(s: &[u8], at: usize) -> Read
 
 // The bytes of x from index at on, where there is room; the index behind them.
 pub fn put_number(out: &mut [u8], at: usize, x: u64) -> usize
-    requires { ⌜ x ≤ greatest ⌝ }
+    requires { ⌜ x ≤ greatestNumber ⌝ }
     requires { ⌜ at + length (writeNumber x) ≤ length (now out) ⌝ }
     ensures { λ r. ⌜ r ≡ at + length (writeNumber x) ⌝ }
     ensures { λ _. ⌜ now (out .exit) ≡ placed (now (out .entry)) at (writeNumber x) ⌝ }

@@ -3,7 +3,7 @@
 ghost use mathlib.Core.Path.{_≡_};
 ghost use Prim.Native.Nat.{_+_, _≤_, _<_};
 ghost use lib.ListN.{length};
-ghost use Rattle.number.specs.Word.{wordAt, isNumber, numberOf};
+ghost use Rattle.number.specs.Word.{wordAt, isNumber, wordNumber};
 
 fn wide(x: u8) -> u64
     ensures { λ r. ⌜ (r ≡ x) × (r < 256) ⌝ }
@@ -27,7 +27,7 @@ pub fn is_two(w: u64) -> bool
 }
 
 pub fn of_two(w: u64) -> u64
-    ensures { λ r. ⌜ r ≡ numberOf 1 w ⌝ }
+    ensures { λ r. ⌜ r ≡ wordNumber 1 w ⌝ }
 {
     w % 128 + w / 256 % 128 * 128
 }
@@ -43,7 +43,7 @@ pub fn is_four(w: u64) -> bool
 }
 
 pub fn of_four(w: u64) -> u64
-    ensures { λ r. ⌜ r ≡ numberOf 3 w ⌝ }
+    ensures { λ r. ⌜ r ≡ wordNumber 3 w ⌝ }
 {
     let b = w / 256;
     let c = b / 256;

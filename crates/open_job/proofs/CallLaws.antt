@@ -1,19 +1,20 @@
 -- The calls, step by step: the memory, the name, the hazard, and what is then made.
 -- Assumes nothing.
-use Prim.Native.Nat.{ℕ, _≤_, _<_}
+use Prim.Native.Nat.{ℕ, _≤_}
 use native.Mathlib.Omega.{arith}
 use mathlib.Core.Path.{_≡_, refl, sym, ap, _∙_}
-use mathlib.Core.Bool.{true, false}
+use mathlib.Core.Bool.{Bool, true, false}
 use mathlib.Core.List.{List, [], _∷_, append-nil}
 use lib.ListN.{length}
 use lib.Dec.{leb, eqb}
 use borrow.Author.Tests.{le-leb, eqb-true}
-use Rattle.refusal.specs.Answer.{Answer, accepted, refused, _>>=_}
+use Rattle.base.specs.Answer.{Answer, accepted, refused, _>>=_}
 use Rattle.refusal.specs.Refusal.{unless-refuse, refusal, outcome}
 use Rattle.refusal.specs.declared.Refusal.the-variants as Row
 use Rattle.refusal.specs.declared.Refusal.{Refusal}
 use Rattle.refusal.specs.declared.Outcome.the-variants.{Done, Refused}
-use Rattle.refusal.proofs.AnswerLaws.{tested, behind, same-behind}
+use Rattle.refusal.proofs.RefuseLaws.{tested}
+use Rattle.base.proofs.AnswerLaws.{bind-assoc, bind-same}
 use Rattle.job.specs.declared.Header.{Header}
 use Rattle.job.specs.declared.Hazard.{Hazard}
 use Rattle.job.specs.declared.NamedHazard.{NamedHazard}
@@ -36,11 +37,13 @@ use Rattle.planning.proofs.SideLaws.{envelopes-done, outcome-done, stored-envel
 use Rattle.planning.proofs.AcceptedLaws.{hazards-pass, fitting-accepted}
 use Rattle.schedule.specs.Schedule.{writeSchedule}
 use Rattle.schedule.specs.Plan.{fitted, plan}
-use Rattle.schedule.proofs.PlanLaws.{plan-bad-side, tested-bytes}
+use Rattle.schedule.proofs.PlanLaws.{tested-bytes}
 use Rattle.open_job.specs.declared.Change.{Change}
+use Rattle.open_job.specs.declared.KeptState.{KeptState}
+use Rattle.open_job.specs.States.{isUsed, stateOf}
 use Rattle.open_memory.specs.Memory.{standing, laidOut, stands, isFull, admit, isOpenJob}
 use Rattle.job.specs.Fits.{hazardInRange}
-use Rattle.open_job.specs.Open.{openJob, addTo, withdrawFrom, scheduleOf, Changes}
+use Rattle.open_job.specs.Calls.{openJob, underRules, addTo, withdrawFrom, testState, keptJob, Changes}
 use Rattle.open_memory.specs.Steps.{rank, putAt, takenAt}
 use Rattle.open_memory.proofs.RuleLaws.{admit-ranged, open-count, open-standing, open-accepted}
 use Rattle.open_memory.proofs.PlaceLaws.{inserted-at, without-at}
@@ -72,8 +75,8 @@ module _ (s : List ℕ) where
   pub opening-read : openJob s ≡ (readOpening s >>= λ h. accepted (laidOut h []))
   unfolding openJob readOpening headerAt jobHeader acceptJob testHazards
   opening-read =
-      same-behind (readHeader s) _ _ (λ f read. same-behind (count f) _ _ (λ u zero. job (readJob s) (λ j e. none-read f j read (tested _ _ u zero) e)) ∙ sym (behind (count f) _ _))
-      ∙ sym (behind (headerAt s) _ _ ∙ behind (readHeader s) _ _)
+      bind-same (readHeader s) _ _ (λ f read. bind-same (count f) _ _ (λ u zero. job (readJob s) (λ j e. none-read f j read (tested _ _ u zero) e)) ∙ sym (bind-assoc (count f) _ _))
+      ∙ sym (bind-assoc (headerAt s) _ _ ∙ bind-assoc (readHeader s) _ _)
     where
       count : (f : Fields) → Answer (Unit {0})
       count f = unless-refuse (eqb (headerOf (f .numbers) .count) 0) (Row.HeaderRange (headerSize (headerOf (f .numbers) .kind)))
@@ -110,13 +113,13 @@ module _ (m : StoredJob) (good : isOpenJob m ≡ true) where
       → addTo m name z ≡ accepted (laidOut (m .header) (putAt at (named name z) (standing m)))
   unfolding addTo
   add-done name z fresh room may at place =
-      rw (good, fresh, room, sym may)
+      rw (fresh, room, sym may)
       (ap (λ (ps : List NamedHazard). accepted (laidOut (m .header) ps)) (inserted-at (named name z) (standing m) fresh ∙ ap (λ (k : ℕ). putAt k (named name z) (standing m)) (sym place)))
 
   pub withdraw-done : (name : ℕ) → stands name (standing m) ≡ true → (at : ℕ) → at ≡ rank name (standing m) → withdrawFrom m name ≡ accepted (laidOut (m .header) (takenAt at (standing m)))
   unfolding withdrawFrom
   withdraw-done name e at place =
-      rw (good, e)
+      rw e
       (ap (λ (ps : List NamedHazard). accepted (laidOut (m .header) ps)) (without-at (m .header) name 0 (standing m) (open-standing m good) e ∙ ap (λ (k : ℕ). takenAt k (standing m)) (sym place)))
 
 -- Schedule
@@ -127,10 +130,6 @@ unfolding plan
 plan-written j f side room = rw (fitting-accepted j f)
 
 module _ (m : StoredJob) (side : ℕ) (good : isOpenJob m ≡ true) where
-  pub schedule-eight : (room : ℕ) → 1 < side → scheduleOf m side room ≡ refused 8 0
-  unfolding scheduleOf
-  schedule-eight room l = rw good (plan-bad-side (writeJob (jobOf m)) side room l)
-
   -- By what `side_envelopes` answers: the hazards pass.
   module _ (size : length (m .hazards) ≡ 256) (r : SideEnvelopes) (reply : Replies r (testedEnvelopes (jobOf m) side)) where
     passes : testedEnvelopes (jobOf m) side ≡ accepted (cutsOf (m .header) side (jobOf m .hazards))
@@ -149,9 +148,17 @@ module _ (m : StoredJob) (side : ℕ) (good : isOpenJob m ≡ true) where
     own : cutsOf (m .header) side (jobOf m .hazards) ≡ record { envelopes = envelopesOf (r .envelopes); overhangs = r .overhangs }
     own = let e = sym passes ∙ envelopes-done (jobOf m) side r reply done in cc
 
-    pub schedule-done : (room : ℕ) → side ≤ 1 → scheduleOf m side room ≡ fitted (writeSchedule (requiredRuns (envelopesOf (r .envelopes)) (m .header .continuity))) (r .overhangs) room
-    unfolding scheduleOf jobRuns
+    pub schedule-done : (room : ℕ) → side ≤ 1
+        → plan (writeJob (jobOf m)) side room ≡ fitted (writeSchedule (requiredRuns (envelopesOf (r .envelopes)) (m .header .continuity))) (r .overhangs) room
+    unfolding jobRuns
     schedule-done room l =
-        rw good
-        (plan-written (jobOf m) (open-accepted m good size) side room
-        ∙ rw (le-leb side 1 l) (ap (λ (c : Cuts). fitted (writeSchedule (requiredRuns (c .envelopes) (m .header .continuity))) (c .overhangs) room) own))
+        plan-written (jobOf m) (open-accepted m good size) side room
+        ∙ rw (le-leb side 1 l) (ap (λ (c : Cuts). fitted (writeSchedule (requiredRuns (c .envelopes) (m .header .continuity))) (c .overhangs) room) own)
+
+-- Return
+
+-- The tests of a keep, and then what is found.
+pub return-tested : (sound : Bool) (h : Header) (number : ℕ) (k : KeptState)
+    → underRules sound (keptJob h number k) ≡ (underRules sound (testState number) >>= λ _. unless-refuse (isUsed k) Row.State >>= λ _. accepted (stateOf h k))
+unfolding keptJob
+return-tested sound h number k = sym (bind-assoc (unless-refuse sound (Row.HeaderRange 0)) (λ _. testState number) _)

@@ -8,22 +8,22 @@ use mathlib.Core.Bool.{true}
 use mathlib.Core.List.{List, [], _∷_, _++_, map}
 use lib.ListN.{length, drop, replicate, length-map, length-take, take-append-drop}
 use lib.Seq.{take-append-seam, drop-append-seam, length-take-le}
-use Rattle.refusal.specs.Choice.{allOf}
-use Rattle.refusal.specs.Answer.{accepted, _>>=_}
+use Rattle.base.specs.Choice.{allOf}
+use Rattle.base.specs.Answer.{accepted, _>>=_}
 use Rattle.refusal.specs.Refusal.{unless-refuse}
 use Rattle.refusal.specs.declared.Refusal.the-variants as Row
 use Rattle.job.specs.declared.Header.{Header}
 use Rattle.job.specs.declared.Hazard.{Hazard}
 use Rattle.job.specs.declared.NamedHazard.{NamedHazard}
 use Rattle.job.specs.declared.StoredJob.{StoredJob}
-use Rattle.job.specs.Job.{named, unnamed, counted}
+use Rattle.job.specs.Job.{named, unnamed, jobOf, counted, madeFrom}
 use Rattle.job.specs.Writing.{writeJob}
 use Rattle.job.specs.Reply.{unused}
 use Rattle.job.specs.Fits.{HeaderFits}
 use Rattle.job.proofs.RangeLaws.{header-bounds}
 use Rattle.schedule.specs.Plan.{plan}
-use Rattle.open_memory.specs.Memory.{mostStanding, standing, laidOut, madeFrom, stands, inserted, without, admissible, isUnused, isOpenJob}
-use Rattle.open_job.specs.Open.{testAdd, addTo, withdrawFrom, scheduleOf}
+use Rattle.open_memory.specs.Memory.{mostStanding, standing, laidOut, stands, inserted, without, admissible, isUnused, isOpenJob}
+use Rattle.open_job.specs.Calls.{testAdd, addTo, withdrawFrom}
 use Rattle.open_memory.proofs.RangeLaws.{counted-fits}
 use Rattle.open_memory.proofs.RuleLaws.{Stand, admit-counted, stand-names, stand-admissible, open-header, open-standing, open-clear, open-count}
 
@@ -41,27 +41,29 @@ module _ (h : Header) (ps : List NamedHazard) where
   pub laid-standing : standing (laidOut h ps) ≡ ps
   laid-standing = take-append-seam ps (replicate (mostStanding - length ps) unused)
 
-  module _ (fits : HeaderFits h) (rules : Stand h 0 ps) (few : length ps ≤ mostStanding) where
-    pub laid-open : isOpenJob (laidOut h ps) ≡ true
-    unfolding isOpenJob
-    laid-open =
-        let n = length ps in
-        let header = counted-fits h n fits few in
-        let rest : allOf isUnused (drop n (ps ++ replicate (mostStanding - n) unused)) ≡ true = rw (drop-append-seam ps (replicate (mostStanding - n) unused)) (unused-all (mostStanding - n)) in
-        rw (laid-standing, header, stand-names h 0 ps rules, admissible-counted h n ps, stand-admissible h 0 ps rules) rest
+  -- The calls on it.
+  pub add-laid : (name : ℕ) (z : Hazard) → addTo (laidOut h ps) name z ≡ (testAdd h ps name z >>= λ _. accepted (laidOut h (inserted (named name z) ps)))
+  unfolding addTo
+  add-laid name z = rw (laid-standing, admit-counted h name z (length ps))
 
-    -- The calls on it.
-    pub add-laid : (name : ℕ) (z : Hazard) → addTo (laidOut h ps) name z ≡ (testAdd h ps name z >>= λ _. accepted (laidOut h (inserted (named name z) ps)))
-    unfolding addTo
-    add-laid name z = rw (laid-open, laid-standing, admit-counted h name z (length ps))
+  pub withdraw-laid : (name : ℕ)
+      → withdrawFrom (laidOut h ps) name ≡ (unless-refuse (stands name ps) (Row.Name name) >>= λ _. accepted (laidOut h (without name ps)))
+  unfolding withdrawFrom
+  withdraw-laid name = rw laid-standing
 
-    pub withdraw-laid : (name : ℕ) → withdrawFrom (laidOut h ps) name ≡ (unless-refuse (stands name ps) (Row.Name name) >>= λ _. accepted (laidOut h (without name ps)))
-    unfolding withdrawFrom
-    withdraw-laid name = rw (laid-open, laid-standing)
+  pub schedule-laid : (side room : ℕ) → plan (writeJob (jobOf (laidOut h ps))) side room ≡ plan (writeJob (madeFrom h (map unnamed ps))) side room
+  schedule-laid side room =
+      rw laid-standing
+      (ap (λ (n : ℕ). plan (writeJob (record { header = counted h n; hazards = map unnamed ps })) side room) (sym (length-map ps unnamed)))
 
-    pub schedule-laid : (side room : ℕ) → scheduleOf (laidOut h ps) side room ≡ plan (writeJob (madeFrom h (map unnamed ps))) side room
-    unfolding scheduleOf
-    schedule-laid side room = rw (laid-open, laid-standing) (ap (λ (n : ℕ). plan (writeJob (record { header = counted h n; hazards = map unnamed ps })) side room) (sym (length-map ps unnamed)))
+  pub laid-open : HeaderFits h → Stand h 0 ps → length ps ≤ mostStanding → isOpenJob (laidOut h ps) ≡ true
+  unfolding isOpenJob
+  laid-open fits rules few =
+      let n = length ps in
+      let header = counted-fits h n fits few in
+      let rest : allOf isUnused (drop n (ps ++ replicate (mostStanding - n) unused)) ≡ true =
+      rw (drop-append-seam ps (replicate (mostStanding - n) unused)) (unused-all (mostStanding - n)) in
+      rw (laid-standing, header, stand-names h 0 ps rules, admissible-counted h n ps, stand-admissible h 0 ps rules) rest
 
 -- What the test of the memory means: exactly the memory that is laid out by the rules passes it.
 pub record KeepsRules (m : StoredJob) : Type 0 where

@@ -1,2 +1,5 @@
 pub mod CallLaws
 pub mod LayoutLaws
+pub mod UnusedLaws
+pub mod StateLaws
+pub mod WholeLaws

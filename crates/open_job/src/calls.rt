@@ -1,5 +1,9 @@
-// The calls on one state of an open job, by value: it goes in and comes back.
+// The calls on the parts of the memory, by value: the present state, whether all that is kept is sound (keeps the rules), and the one kept
+// state that a return goes to. So no call has all nine states on its stack.
 use super::Change;
+use super::KeptState;
+use super::kept::is_used;
+use super::kept::state_of;
 use job::Header;
 use job::StoredJob;
 use job::read::Opening;
@@ -21,18 +25,19 @@ use refusal::Refusal;
 use schedule::plan::plan_envelopes;
 use schedule::reply::Plan;
 ghost use mathlib.Core.Path.{_≡_};
-ghost use mathlib.Core.Bool.{true};
-ghost use Prim.Native.Nat.{_≤_};
+ghost use mathlib.Core.Bool.{true, _&&_};
 ghost use lib.ListN.{length};
 ghost use Rattle.refusal.specs.Refusal.{outcome};
 ghost use Rattle.refusal.specs.declared.Outcome.the-variants.{Refused};
-ghost use Rattle.schedule.specs.Plan.{planReply, bytesWritten, outputAfter};
+ghost use Rattle.job.specs.Job.{jobOf};
+ghost use Rattle.job.specs.Writing.{writeJob};
 ghost use Rattle.job.specs.Fits.{headerInRange};
+ghost use Rattle.schedule.specs.Plan.{plan, planReply, bytesWritten, outputAfter};
 ghost use Rattle.open_memory.specs.Memory.{hazardGiven, admit, isOpenJob};
-ghost use Rattle.open_job.specs.Open.{openJob, addTo, withdrawFrom, scheduleOf, Changes};
+ghost use Rattle.open_job.specs.Calls.{openJob, underRules, addTo, withdrawFrom, testState, keptJob, Changes};
 
-// A refusal, and the open job as it was.
-pub fn unchanged(job: StoredJob, refusal: Refusal) -> Change
+// A refusal, and the present state as it was.
+fn unchanged(job: StoredJob, refusal: Refusal) -> Change
     ensures { λ r. ⌜ r ≡ record { outcome = Refused refusal; next = job } ⌝ }
 {
     Change {
@@ -98,11 +103,15 @@ fn add_named(job: StoredJob, name: u16, hazard: GivenHazard) -> Change
 }
 
 // A hazard is added under a name.
-pub fn add(job: StoredJob, name: u16, hazard: GivenHazard) -> Change
-    ensures { λ r. ⌜ Changes job (addTo job name (hazardGiven hazard)) r ⌝ }
+pub fn add(sound: bool, job: StoredJob, name: u16, hazard: GivenHazard) -> Change
+    ensures { λ r. ⌜ Changes job (underRules (isOpenJob job && sound) (addTo job name (hazardGiven hazard))) r ⌝ }
 {
-    if is_open_job(job) {
-        add_named(job, name, hazard)
+    if sound {
+        if is_open_job(job) {
+            add_named(job, name, hazard)
+        } else {
+            unchanged(job, Refusal::HeaderRange(0))
+        }
     } else {
         unchanged(job, Refusal::HeaderRange(0))
     }
@@ -125,11 +134,15 @@ fn withdraw_named(job: StoredJob, name: u16) -> Change
 }
 
 // The hazard under a name is withdrawn.
-pub fn withdraw(job: StoredJob, name: u16) -> Change
-    ensures { λ r. ⌜ Changes job (withdrawFrom job name) r ⌝ }
+pub fn withdraw(sound: bool, job: StoredJob, name: u16) -> Change
+    ensures { λ r. ⌜ Changes job (underRules (isOpenJob job && sound) (withdrawFrom job name)) r ⌝ }
 {
-    if is_open_job(job) {
-        withdraw_named(job, name)
+    if sound {
+        if is_open_job(job) {
+            withdraw_named(job, name)
+        } else {
+            unchanged(job, Refusal::HeaderRange(0))
+        }
     } else {
         unchanged(job, Refusal::HeaderRange(0))
     }
@@ -137,20 +150,64 @@ pub fn withdraw(job: StoredJob, name: u16) -> Change
 
 // The schedule of a side, written into the output; or the first refusal, and nothing written. Memory that keeps the rules passes the test
 // of its hazards again.
-pub fn schedule(job: StoredJob, side: u64, out: &mut [u8]) -> Plan
-    ensures { λ r. ⌜ planReply r ≡ bytesWritten (scheduleOf job side (length (now (out .entry)))) ⌝ }
-    ensures { λ _. ⌜ now (out .exit) ≡ outputAfter (scheduleOf job side (length (now (out .entry)))) (now (out .entry)) ⌝ }
+pub fn schedule(sound: bool, job: StoredJob, side: u64, out: &mut [u8]) -> Plan
+    ensures { λ r. ⌜ planReply r ≡ bytesWritten (underRules (isOpenJob job && sound) (plan (writeJob (jobOf job)) side (length (now (out .entry))))) ⌝ }
+    ensures { λ _. ⌜ now (out .exit) ≡ outputAfter (underRules (isOpenJob job && sound) (plan (writeJob (jobOf job)) side (length (now (out .entry))))) (now (out .entry)) ⌝ }
 {
-    if is_open_job(job) {
-        if 1 < side {
-            return Plan::Refused(Refusal::Argument);
+    if sound {
+        if is_open_job(job) {
+            if 1 < side {
+                return Plan::Refused(Refusal::Argument);
+            }
+            let tested = side_envelopes(job, side);
+            let envelopes = tested.envelopes;
+            let overhangs = tested.overhangs;
+            let header = job.header;
+            plan_envelopes(out, envelopes, overhangs, header.continuity)
+        } else {
+            Plan::Refused(Refusal::HeaderRange(0))
         }
-        let tested = side_envelopes(job, side);
-        let envelopes = tested.envelopes;
-        let overhangs = tested.overhangs;
-        let header = job.header;
-        plan_envelopes(out, envelopes, overhangs, header.continuity)
     } else {
         Plan::Refused(Refusal::HeaderRange(0))
+    }
+}
+
+// The tests of a keep: the memory, 3 with 0; then the number, 13.
+pub fn test_state(sound: bool, job: StoredJob, number: u64) -> Outcome
+    ensures { λ r. ⌜ outcome r tt ≡ underRules (isOpenJob job && sound) (testState number) ⌝ }
+{
+    if sound {
+        if is_open_job(job) {
+            if number <= 7 {
+                Outcome::Done
+            } else {
+                Outcome::Refused(Refusal::State)
+            }
+        } else {
+            Outcome::Refused(Refusal::HeaderRange(0))
+        }
+    } else {
+        Outcome::Refused(Refusal::HeaderRange(0))
+    }
+}
+
+// A return to what was found under the number: the same tests, and 13 where nothing is kept.
+pub fn return_to(sound: bool, job: StoredJob, number: u64, kept: KeptState) -> Change
+    ensures { λ r. ⌜ Changes job (underRules (isOpenJob job && sound) (keptJob (job .header) number kept)) r ⌝ }
+{
+    let outcome = test_state(sound, job, number);
+    match outcome {
+        Outcome::Done => {
+            if is_used(kept) {
+                let header = job.header;
+                Change {
+                    outcome: Outcome::Done,
+                    next: state_of(header, kept),
+                }
+            } else {
+                unchanged(job, Refusal::State)
+            }
+        }
+        Outcome::Refused(refusal) => unchanged(job, refusal),
     }
 }

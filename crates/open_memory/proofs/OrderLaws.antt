@@ -7,8 +7,8 @@ use mathlib.Core.List.{List, [], _∷_}
 use lib.ListN.{drop}
 use lib.Dec.{leb}
 use borrow.Author.Tests.{le-leb}
-use Rattle.refusal.specs.Choice.{allOf}
-use Rattle.refusal.specs.Answer.{isAccepted}
+use Rattle.base.specs.Choice.{allOf}
+use Rattle.base.specs.Answer.{isAccepted}
 use Rattle.refusal.specs.Refusal.{unless-refuse}
 use Rattle.refusal.specs.declared.Refusal.the-variants as Row
 use Rattle.job.specs.declared.Header.{Header}

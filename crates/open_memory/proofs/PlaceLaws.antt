@@ -9,8 +9,8 @@ use mathlib.Core.List.{List, [], _∷_, List·Memᴰ}
 use lib.ListN.{length, getD}
 use lib.Dec.{ltb, eqb}
 use borrow.Author.Tests.{lt-ltb, le-ltb, eq-eqb, ne-eqb}
-use Rattle.refusal.specs.Choice.{if_then_else_, someOf, keep}
-use Rattle.refusal.proofs.TestLaws.{any-intro, not-both}
+use Rattle.base.specs.Choice.{if_then_else_, someOf, filter}
+use Rattle.base.proofs.TestLaws.{any-intro, not-both}
 use Rattle.job.specs.declared.Header.{Header}
 use Rattle.job.specs.declared.NamedHazard.{NamedHazard}
 use Rattle.job.specs.Job.{unnamed}
@@ -50,7 +50,7 @@ none-below h low name [] t l = refl
 none-below h low name (p ∷ ps) t l = rw (ne-eqb (p .name) name (λ e. omega (arith, t .0))) (none-below h (p .name + 1) name ps (t .3) (omega (arith, t .0)))
 
 all-kept : (h : Header) (low name : ℕ) (ps : List NamedHazard) → Stand h low ps → name < low → without name ps ≡ ps
-unfolding without keep
+unfolding without filter
 all-kept h low name [] t l = refl
 all-kept h low name (p ∷ ps) t l = rw (ne-eqb (p .name) name (λ e. omega (arith, t .0))) (ap (_∷_ p) (all-kept h (p .name + 1) name ps (t .3) (omega (arith, t .0))))
 
@@ -112,7 +112,7 @@ module _ (h : Header) (name : ℕ) (d : NamedHazard) where
 -- A name that stands is taken out at its place.
 module _ (h : Header) (name : ℕ) where
   pub without-at : (low : ℕ) (ps : List NamedHazard) → Stand h low ps → stands name ps ≡ true → without name ps ≡ takenAt (rank name ps) ps
-  unfolding rank stands someOf without keep
+  unfolding rank stands someOf without filter
   without-at low [] t e = absurd (false≢true e)
   without-at low (p ∷ ps) t e = go (decLt (p .name) name) (ℕ-discrete (p .name) name) (without-at (p .name + 1) ps (t .3)) e
     where
@@ -169,7 +169,7 @@ inserted-length p (q ∷ qs) = go (ltb (p .name) (q .name)) (inserted-length p q
 -- So does taking out
 
 pub without-stand : (h : Header) (low name : ℕ) (ps : List NamedHazard) → Stand h low ps → Stand h low (without name ps)
-unfolding without keep
+unfolding without filter
 without-stand h low name [] t = tt
 without-stand h low name (q ∷ qs) t = go (eqb (q .name) name) (without-stand h (q .name + 1) name qs (t .3))
   where

@@ -8,7 +8,7 @@ use mathlib.Core.Bool.{Bool, true, false, _&&_, _||_, and-assoc, and-true}
 use mathlib.Core.List.{List, [], _∷_, _++_}
 use lib.Dec.{leb, eqb}
 use borrow.Author.Tests.{le-leb, eq-eqb, ne-eqb}
-use Rattle.refusal.proofs.TestLaws.{and-left, and-right, and-intro}
+use Rattle.base.proofs.TestLaws.{and-left, and-right, and-intro}
 use Rattle.job.specs.declared.Header.{Header}
 use Rattle.job.specs.declared.Bounds.{Bounds}
 use Rattle.job.specs.Job.{within, sharedRanges, headerRanges, nextInHeader, sharedNumbers, counted}

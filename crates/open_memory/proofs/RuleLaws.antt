@@ -10,16 +10,16 @@ use lib.ListN.{length, drop, replicate, length-map, length-drop}
 use lib.Seq.{length-take-le}
 use lib.Dec.{leb, eqb}
 use borrow.Author.Tests.{le-leb, leb-true, eqb-true}
-use Rattle.refusal.specs.Choice.{allOf}
-use Rattle.refusal.specs.Answer.{Answer, accepted, refused, _>>=_, isAccepted}
+use Rattle.base.specs.Choice.{allOf}
+use Rattle.base.specs.Answer.{Answer, accepted, refused, _>>=_, isAccepted}
 use Rattle.refusal.specs.Refusal.{unless-refuse}
 use Rattle.refusal.specs.declared.Refusal.the-variants as Row
-use Rattle.refusal.proofs.TestLaws.{and-left, and-right}
+use Rattle.base.proofs.TestLaws.{and-left, and-right}
 use Rattle.job.specs.declared.Header.{Header}
 use Rattle.job.specs.declared.Hazard.{Hazard}
 use Rattle.job.specs.declared.NamedHazard.{NamedHazard}
 use Rattle.job.specs.declared.StoredJob.{StoredJob}
-use Rattle.job.specs.Job.{unnamed, jobOf, counted}
+use Rattle.job.specs.Job.{unnamed, jobOf, counted, madeFrom}
 use Rattle.job.specs.Reply.{unused}
 use Rattle.job.specs.Fits.{HeaderFits, HazardFits}
 use Rattle.job.proofs.RangeLaws.{header-bounds}
@@ -28,8 +28,8 @@ use Rattle.planning.specs.Rows.{Passed, AcceptedFits}
 use Rattle.planning.proofs.EnvelopeLaws.{hazard-passed}
 use Rattle.planning.proofs.AcceptedLaws.{hazard-passes}
 use Rattle.job.specs.Fits.{headerInRange, hazardInRange}
-use Rattle.open_memory.specs.Memory.{greatestName, standing, madeFrom, admit, admissible, namesRise, isUnused, isOpenJob}
-use Rattle.open_memory.specs.Steps.{Clear}
+use Rattle.open_memory.specs.Memory.{greatestName, standing, admit, admissible, namesRise, isUnused, isOpenJob}
+use Rattle.open_memory.specs.Steps.{ZerosAfter}
 use Rattle.open_memory.proofs.RangeLaws.{counted-fits}
 
 -- A hazard that can be added
@@ -169,7 +169,7 @@ module _ (m : StoredJob) (good : isOpenJob m ≡ true) where
   open-unused = and-right (headerInRange (m .header) && namesRise 0 (standing m) && allOf (admissible (m .header)) (standing m)) (allOf isUnused (drop (m .header .count) (m .hazards))) good
 
   module _ (size : length (m .hazards) ≡ 256) where
-    pub open-clear : Clear m
+    pub open-clear : ZerosAfter m
     open-clear = record { behind = unused-are _ open-unused ∙ ap (λ (n : ℕ). replicate n unused) (length-drop (m .header .count) (m .hazards) ∙ ap (λ (n : ℕ). n - m .header .count) size) }
 
     pub open-accepted : AcceptedFits (jobOf m)

@@ -12,12 +12,12 @@ use lib.ListN.{length, getD, set, take, drop, replicate, length-set, length-appe
 use lib.Seq.{drop-cons, take-take, getD-take, getD-drop, take-suc-set, length-take-le, drop-set-lt, drop-drop, set-split}
 use lib.Dec.{ltb, eqb}
 use borrow.Author.Tests.{lt-ltb, le-ltb, eq-eqb, ne-eqb}
-use Rattle.refusal.specs.Choice.{if_then_else_, allOf}
+use Rattle.base.specs.Choice.{if_then_else_, allOf}
 use Rattle.job.specs.declared.NamedHazard.{NamedHazard}
 use Rattle.job.specs.declared.StoredJob.{StoredJob}
 use Rattle.job.specs.Reply.{unused}
 use Rattle.open_memory.specs.Memory.{standing, laidOut, stands, isUnused, isOpenJob}
-use Rattle.open_memory.specs.Steps.{inOrderFrom, allInOrder, Clear, rank, putAt, takenAt}
+use Rattle.open_memory.specs.Steps.{inOrderFrom, allInOrder, ZerosAfter, rank, putAt, takenAt}
 use Rattle.open_memory.proofs.RuleLaws.{open-count, open-standing}
 use Rattle.open_memory.proofs.PlaceLaws.{stands-place, not-at-place}
 use Rattle.job.specs.Job.{counted}
@@ -147,7 +147,7 @@ unused-tail i l h e =
     let n : 256 - i ≡ suc (256 - (i + 1)) = omega arith in
     ap (λ (k : ℕ). drop k l) (sym (add-one i)) ∙ sym (drop-drop 1 i l) ∙ ap (drop 1) (e ∙ ap (λ (k : ℕ). replicate k unused) n)
 
-module _ (job : StoredJob) (size : length (job .hazards) ≡ 256) (clear : Clear job) where
+module _ (job : StoredJob) (size : length (job .hazards) ≡ 256) (clear : ZerosAfter job) where
   -- Hazards laid out behind the header.
   laid : (n : ℕ) (ps hazards : List NamedHazard) → length ps ≡ n → hazards ≡ ps ++ replicate (256 - n) unused → record { header = counted (job .header) n; hazards = hazards } ≡ laidOut (job .header) ps
   laid n ps hazards e b = subst (λ (k : ℕ). record { header = counted (job .header) k; hazards = hazards } ≡ laidOut (job .header) ps) e (ap (λ (l : List NamedHazard). record { header = counted (job .header) (length ps); hazards = l }) (b ∙ ap (λ (k : ℕ). ps ++ replicate (256 - k) unused) (sym e)))

@@ -5,16 +5,16 @@ use mathlib.Core.Bool.{Bool, true, _&&_, not}
 use mathlib.Core.List.{List, [], _∷_}
 use lib.ListN.{length, take, drop}
 use lib.Dec.{leb, ltb, eqb}
-use Rattle.refusal.specs.Choice.{if_then_else_, someOf, allOf, keep}
-use Rattle.refusal.specs.Answer.{Answer, _>>=_, isAccepted}
+use Rattle.base.specs.Choice.{if_then_else_, someOf, allOf, filter}
+use Rattle.base.specs.Answer.{Answer, _>>=_, isAccepted}
 use Rattle.refusal.specs.Refusal.{unless-refuse}
 use Rattle.refusal.specs.declared.Refusal.the-variants as Row
-use Rattle.refusal.specs.Stored.{padded}
+use Rattle.base.specs.Stored.{padded}
 use Rattle.job.specs.declared.Header.{Header}
 use Rattle.job.specs.declared.Hazard.{Hazard}
 use Rattle.job.specs.declared.NamedHazard.{NamedHazard}
 use Rattle.job.specs.declared.StoredJob.{StoredJob}
-use Rattle.job.specs.Job.{Job, unnamed, counted}
+use Rattle.job.specs.Job.{unnamed, counted}
 use Rattle.job.specs.Fits.{headerInRange, hazardInRange}
 use Rattle.job.specs.Reply.{unused}
 use Rattle.planning.specs.Envelope.{testHazard}
@@ -37,10 +37,6 @@ standing m = take (m .header .count) (m .hazards)
 abbrev pub laidOut : Header → List NamedHazard → StoredJob
 laidOut h ps = record { header = counted h (length ps); hazards = padded mostStanding unused ps }
 
--- "A job made from the hazards."
-abbrev pub madeFrom : Header → List Hazard → Job
-madeFrom h zs = record { header = counted h (length zs); hazards = zs }
-
 -- Some hazard stands under the name.
 unfoldable pub stands : (name : ℕ) → List NamedHazard → Bool
 stands name ps = someOf (λ (p : NamedHazard). eqb (p .name) name) ps
@@ -56,7 +52,7 @@ inserted p (q ∷ qs) = let r = inserted p qs in if ltb (p .name) (q .name) then
 
 -- The hazards with other names.
 unfoldable pub without : (name : ℕ) → List NamedHazard → List NamedHazard
-without name ps = keep (λ (p : NamedHazard). not (eqb (p .name) name)) ps
+without name ps = filter (λ (p : NamedHazard). not (eqb (p .name) name)) ps
 
 -- The rules
 

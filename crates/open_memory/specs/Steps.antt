@@ -6,7 +6,7 @@ use mathlib.Core.Bool.{Bool, true, _&&_, _||_}
 use mathlib.Core.List.{List, [], _∷_, _++_}
 use lib.ListN.{take, drop, replicate}
 use lib.Dec.{leb, ltb, eqb}
-use Rattle.refusal.specs.Choice.{if_then_else_}
+use Rattle.base.specs.Choice.{if_then_else_}
 use Rattle.job.specs.declared.Header.{Header}
 use Rattle.job.specs.declared.NamedHazard.{NamedHazard}
 use Rattle.job.specs.declared.StoredJob.{StoredJob}
@@ -29,7 +29,7 @@ allInOrder h low [] = true
 allInOrder h low (p ∷ ps) = inOrderFrom h low p && allInOrder h (p .name + 1) ps
 
 -- Every place behind the hazards is 0.
-pub record Clear (m : StoredJob) : Type 0 where
+pub record ZerosAfter (m : StoredJob) : Type 0 where
   pub behind : drop (m .header .count) (m .hazards) ≡ replicate (mostStanding - m .header .count) unused
 
 -- How many names are below a name: where it stands, or is to be put.

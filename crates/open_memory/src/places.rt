@@ -3,6 +3,7 @@ use super::GivenHazard;
 use job::Header;
 use job::NamedHazard;
 use job::StoredJob;
+use job::UNUSED;
 ghost use mathlib.Core.Path.{_≡_};
 ghost use mathlib.Core.Bool.{true};
 ghost use mathlib.Core.List.{[]};
@@ -10,18 +11,7 @@ ghost use Prim.Native.Nat.{_≤_, _<_};
 ghost use Rattle.job.specs.Job.{named, counted};
 ghost use Rattle.job.specs.Fits.{headerInRange, hazardInRange};
 ghost use Rattle.open_memory.specs.Memory.{hazardGiven, standing, laidOut, isOpenJob, stands};
-ghost use Rattle.open_memory.specs.Steps.{Clear, rank, putAt, takenAt};
-
-// A place in which no hazard stands.
-const UNUSED: NamedHazard = NamedHazard {
-    start: 0,
-    end: 0,
-    near: 0,
-    far: 0,
-    name: 0,
-    side: 0,
-    level: 0,
-};
+ghost use Rattle.open_memory.specs.Steps.{ZerosAfter, rank, putAt, takenAt};
 
 // The header with another hazard count.
 pub fn with_count(h: Header, n: u64) -> Header
@@ -93,7 +83,7 @@ pub fn stands_at(job: StoredJob, at: usize, name: u16) -> bool
 
 // A hazard put in at a place; each one behind it moves up.
 pub fn put_in(job: StoredJob, at: usize, new: NamedHazard) -> StoredJob
-    requires { ⌜ Clear job ⌝ }
+    requires { ⌜ ZerosAfter job ⌝ }
     requires { ⌜ job .header .count < 256 ⌝ }
     requires { ⌜ at ≤ job .header .count ⌝ }
     ensures { λ r. ⌜ r ≡ laidOut (job .header) (putAt at new (standing job)) ⌝ }
@@ -118,7 +108,7 @@ pub fn put_in(job: StoredJob, at: usize, new: NamedHazard) -> StoredJob
 
 // The hazard at a place taken out; each one behind it moves down.
 pub fn taken_out(job: StoredJob, at: usize) -> StoredJob
-    requires { ⌜ Clear job ⌝ }
+    requires { ⌜ ZerosAfter job ⌝ }
     requires { ⌜ job .header .count ≤ 256 ⌝ }
     requires { ⌜ at < job .header .count ⌝ }
     ensures { λ r. ⌜ r ≡ laidOut (job .header) (takenAt at (standing job)) ⌝ }

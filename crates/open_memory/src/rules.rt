@@ -11,7 +11,7 @@ ghost use mathlib.Core.Bool.{true};
 ghost use mathlib.Core.List.{[]};
 ghost use Prim.Native.Nat.{_≤_};
 ghost use lib.ListN.{drop};
-ghost use Rattle.refusal.specs.Choice.{allOf};
+ghost use Rattle.base.specs.Choice.{allOf};
 ghost use Rattle.job.specs.Job.{nextInHeader, sharedNumbers};
 ghost use Rattle.job.specs.Job as job;
 ghost use Rattle.job.specs.Fits.{inRanges, headerInRange, hazardInRange};

@@ -5,14 +5,14 @@ use mathlib.Core.Path.{_≡_, refl, sym, ap, ap₂, subst, _∙_}
 use mathlib.Core.Logic.{_⊎_, inl, inr, ⊎-elim}
 use mathlib.Core.Bool.{Bool, true, false}
 use mathlib.Core.List.{List, [], _∷_, _++_, foldl, foldl-append, List·Memᴰ, List·Memᴰ·head, List·Memᴰ·tail, List·Memᴰ·cases-cons, List·Memᴰ·not-nil, List·Memᴰ·append-cases, List·Memᴰ·eq-of-singleton, Memᴰ·append-left, Memᴰ·append-right}
-use Rattle.refusal.specs.Choice.{if_then_else_}
-use Rattle.refusal.specs.Answer.{isAccepted}
-use Rattle.refusal.proofs.TestLaws.{impossible}
+use Rattle.base.specs.Choice.{if_then_else_}
+use Rattle.base.specs.Answer.{isAccepted}
+use Rattle.base.proofs.TestLaws.{impossible}
 use Rattle.job.specs.declared.Header.{Header}
 use Rattle.job.specs.declared.Hazard.{Hazard}
 use Rattle.job.specs.declared.NamedHazard.{NamedHazard}
 use Rattle.job.specs.Job.{named, unnamed}
-use Rattle.open_job.specs.Open.{testAdd}
+use Rattle.open_job.specs.Calls.{testAdd}
 use Rattle.open_promises.specs.Lists.{Edit, add, withdraw, Call, standAfter, Added, AddedPromise, CountPromise, addedSince, editsThatCount, opened}
 use Rattle.open_promises.proofs.HazardLaws.{without-cases, without-other}
 use Rattle.open_promises.proofs.ModelLaws.{returned, agree-opened, agree-calls}

@@ -7,10 +7,11 @@ use mathlib.Core.Bool.{not}
 use mathlib.Core.List.{List}
 use lib.ListN.{length}
 use borrow.Author.Tests.{le-leb, lt-leb, leb-false, lt-ltb, ltb-true, not-true}
-use Rattle.refusal.specs.Answer.{accepted, _>>=_, isAccepted}
+use Rattle.base.specs.Answer.{accepted, _>>=_, isAccepted, replied}
 use Rattle.refusal.specs.declared.Refusal.the-variants as Row
-use Rattle.refusal.proofs.TestLaws.{and-intro}
-use Rattle.refusal.proofs.AnswerLaws.{bound, passed, behind}
+use Rattle.base.proofs.TestLaws.{and-intro}
+use Rattle.base.proofs.AnswerLaws.{bound, bind-assoc}
+use Rattle.refusal.proofs.RefuseLaws.{passed}
 use Rattle.job.specs.declared.Header.{Header}
 use Rattle.job.specs.declared.Hazard.{Hazard}
 use Rattle.job.specs.declared.NamedHazard.{NamedHazard}
@@ -21,9 +22,7 @@ use Rattle.planning.proofs.ReachLaws.{reached-near}
 use Rattle.open_memory.specs.Memory.{mostStanding, standing, stands, isFull}
 use Rattle.open_memory.proofs.RuleLaws.{Admitted, admitted, admits}
 use Rattle.open_memory.proofs.PlaceLaws.{other-name}
-use Rattle.open_job.specs.Open.{testAdd, addTo, replied}
-use Rattle.kept_states.specs.States.{addIn}
-use Rattle.kept_states.proofs.StateLaws.{now-open}
+use Rattle.open_job.specs.Calls.{testAdd, addTo, addIn}
 use Rattle.open_promises.specs.Adding.{InTable, MayBeAdded, AddPromise}
 use Rattle.open_promises.proofs.HazardLaws.{stands-none}
 use Rattle.open_promises.proofs.ReplyLaws.{add-now}
@@ -80,7 +79,7 @@ unfolding addTo
 add-promise m name z good =
     let h = m .present .header in
     let past = standing (m .present) in
-    let same : replied (addIn m name z) ≡ (testAdd h past name z >>= λ _. accepted 0) = add-now m good name z ∙ rw (now-open m good) (behind (testAdd h past name z) _ _) in (
+    let same : replied (addIn m name z) ≡ (testAdd h past name z >>= λ _. accepted 0) = add-now m good name z ∙ bind-assoc (testAdd h past name z) _ _ in (
       λ e. let b = bound (testAdd h past name z) (λ _. accepted 0) 0 (sym same ∙ e) in to-words h z past name (b .first) (b .taken),
       λ w. same ∙ rw (from-words h z past name w),
     )

@@ -10,8 +10,8 @@ use mathlib.Core.List.{List, [], _∷_, _++_, map, foldl, foldl-append, append-a
 use lib.ListN.{length, length-append}
 use lib.Dec.{eqb}
 use borrow.Author.Tests.{lt-leb, le-ltb, eq-eqb, ne-eqb}
-use Rattle.refusal.specs.Choice.{if_then_else_, someOf, keep}
-use Rattle.refusal.proofs.TestLaws.{impossible}
+use Rattle.base.specs.Choice.{if_then_else_, someOf, filter}
+use Rattle.base.proofs.TestLaws.{impossible}
 use Rattle.job.specs.declared.Header.{Header}
 use Rattle.job.specs.declared.NamedHazard.{NamedHazard}
 use Rattle.job.specs.Job.{unnamed}
@@ -69,7 +69,7 @@ module _ (h : Header) where
       rw (last-fresh h p ps 0 qs t, lt-leb mostStanding (length qs) room, admits h (p .name) (unnamed p) (stand-each h 0 (qs ++ p ∷ ps) t (Memᴰ·append-right qs (List·Memᴰ·head refl)))) (last-inserted h p ps 0 qs t)
 
   withdraw-first : (low : ℕ) (p : NamedHazard) (ps : List NamedHazard) → Stand h low (p ∷ ps) → placedAfter h (p ∷ ps) (withdraw (p .name)) ≡ ps
-  unfolding placedAfter without keep
+  unfolding placedAfter without filter
   withdraw-first low p ps t = rw (eq-eqb (p .name) (p .name) refl) (none-taken (p .name) ps (none-below h (p .name + 1) (p .name) ps (t .3) (omega arith)))
 
   module _ (kept : ℕ → Kept (List NamedHazard)) where

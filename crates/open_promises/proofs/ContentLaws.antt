@@ -7,24 +7,24 @@ use mathlib.Core.Bool.{true}
 use mathlib.Core.List.{List}
 use lib.ListN.{length, set, length-take}
 use borrow.Author.Tests.{leb-true, lt-leb, eq-eqb, ne-eqb}
-use Rattle.refusal.specs.Answer.{Answer, accepted, _>>=_}
-use Rattle.refusal.specs.Refusal.{unless-refuse}
+use Rattle.base.specs.Answer.{Answer, accepted, replied}
 use Rattle.refusal.specs.declared.Refusal.the-variants as Row
-use Rattle.refusal.proofs.AnswerLaws.{bound, passed, behind, beside-or-made}
+use Rattle.base.proofs.AnswerLaws.{bound, bind-assoc, beside-or-made}
+use Rattle.refusal.proofs.RefuseLaws.{passed}
 use Rattle.job.specs.declared.Header.{Header}
 use Rattle.job.specs.declared.Hazard.{Hazard}
 use Rattle.job.specs.declared.NamedHazard.{NamedHazard}
 use Rattle.job.specs.declared.StoredJob.{StoredJob}
 use Rattle.job.specs.Fits.{HeaderFits}
-use Rattle.open_memory.specs.Memory.{mostStanding, standing, laidOut, stands, without, admit, isOpenJob}
+use Rattle.open_memory.specs.Memory.{mostStanding, standing, laidOut, stands, without, admit}
 use Rattle.open_memory.proofs.RuleLaws.{Stand, open-header, open-standing, open-count}
 use Rattle.open_memory.proofs.PlaceLaws.{without-stand}
-use Rattle.open_job.specs.Open.{testAdd, underRules, addTo, withdrawFrom, memoryAfter, replied}
+use Rattle.open_job.specs.States.{greatestStateNumber, keptFrom, keptSound, keptStates, keptUnder, statesFrom, areOpenStates}
+use Rattle.open_job.specs.Calls.{testAdd, underRules, changedIn, addTo, withdrawFrom, memoryAfter, testState, keptJob, addIn, withdrawIn, keepIn, returnIn}
 use Rattle.open_job.proofs.LayoutLaws.{laid-standing, laid-open, add-laid}
-use Rattle.kept_states.specs.declared.KeptState.{KeptState}
-use Rattle.kept_states.specs.declared.OpenStates.{OpenStates}
-use Rattle.kept_states.specs.States.{greatestStateNumber, keptFrom, isUsed, keptSound, keptStates, keptUnder, statesFrom, areOpenStates, testState, addIn, withdrawIn, keepIn, returnIn}
-use Rattle.kept_states.proofs.StateLaws.{kept-set, states-sound, now-open, each-sound, number-most}
+use Rattle.open_job.specs.declared.KeptState.{KeptState}
+use Rattle.open_job.specs.declared.OpenStates.{OpenStates}
+use Rattle.open_job.proofs.StateLaws.{kept-set, states-sound, now-open, each-sound, number-most}
 use Rattle.open_promises.specs.Lists.{add, withdraw, Call, edit, schedule, keepAs, returnTo, afterCall, testNameAndHazard, AgainPromise, RoomPromise, UntouchedPromise, KeepPromise}
 use Rattle.open_promises.proofs.HazardLaws.{stand-distinct, without-stands, one-less}
 use Rattle.open_promises.proofs.ReplyLaws.{add-now}
@@ -33,7 +33,7 @@ use Rattle.job.specs.Job.{counted}
 pub keep-promise : KeepPromise
 unfolding keepIn
 keep-promise m next number e =
-    let b = bound (testState m number) _ next e in
+    let b = bound (underRules (areOpenStates m) (testState number)) _ next e in
     let most : number ≤ greatestStateNumber = leb-true _ _ (number-most m number (b .first) (b .taken)) in
     let made : statesFrom (m .present) (set (keptStates m) number (keptFrom (m .present))) ≡ next = let q = b .rest in cc in
     (sym (ap (λ (x : OpenStates). keptUnder x number) made) ∙ kept-set m number number (keptFrom (m .present)) most ∙ rw (eq-eqb number number refl), sym (ap (λ (x : OpenStates). x .present) made))
@@ -45,15 +45,17 @@ untouched-promise m c number other = go c other
     Untouched : OpenStates → Type 0
     Untouched x = keptUnder x number ≡ keptUnder m number
 
-    edit-leaves : (a : Answer StoredJob) → Untouched (memoryAfter (underRules (areOpenStates m) (a >>= λ x. accepted (statesFrom x (keptStates m)))) m)
-    edit-leaves a = beside-or-made Untouched m (unless-refuse (areOpenStates m) (Row.HeaderRange 0)) _ refl (λ u e. beside-or-made Untouched m a _ refl (λ x f. refl))
+    change-leaves : (a : Answer StoredJob) → Untouched (memoryAfter (changedIn m a) m)
+    change-leaves a = beside-or-made Untouched m (underRules (areOpenStates m) a) _ refl (λ x f. refl)
 
     go : (c : Call) → (c ≡ keepAs number → ⊥) → Untouched (afterCall m c)
-    go (edit (add name z)) other = edit-leaves (addTo (m .present) name z)
-    go (edit (withdraw name)) other = edit-leaves (withdrawFrom (m .present) name)
+    go (edit (add name z)) other = change-leaves (addTo (m .present) name z)
+    go (edit (withdraw name)) other = change-leaves (withdrawFrom (m .present) name)
     go (schedule side room) other = refl
-    go (keepAs n) other = beside-or-made Untouched m (testState m n) _ refl (λ u e. kept-set m n number (keptFrom (m .present)) (leb-true _ _ (number-most m n u e)) ∙ rw (ne-eqb n number (λ q. other (ap keepAs q))))
-    go (returnTo n) other = beside-or-made Untouched m (testState m n) _ refl (λ u e. beside-or-made Untouched m (unless-refuse (isUsed (keptUnder m n)) Row.State) _ refl (λ v f. refl))
+    go (keepAs n) other =
+        beside-or-made Untouched m (underRules (areOpenStates m) (testState n)) _ refl (λ u e.
+        kept-set m n number (keptFrom (m .present)) (leb-true _ _ (number-most m n u e)) ∙ rw (ne-eqb n number (λ q. other (ap keepAs q))))
+    go (returnTo n) other = change-leaves (keptJob (m .present .header) n (keptUnder m n))
 
 -- After a withdrawal its name stands no more, and there is room.
 
@@ -91,7 +93,7 @@ module _ (m : OpenStates) (good : areOpenStates m ≡ true) (name : ℕ) (stood 
   -- So an add is refused by its name and its hazard alone.
   next-added : (other : ℕ) (z : Hazard) → replied (addIn next other z) ≡ replied (testNameAndHazard h left other z)
   next-added other z =
-      add-now next left-open other z ∙ ap replied (add-laid h left header rules (omega (arith, fewer)) other z) ∙ behind (testAdd h left other z) _ _ ∙ rw (lt-leb mostStanding (length left) fewer)
+      add-now next left-open other z ∙ ap replied (add-laid h left other z) ∙ bind-assoc (testAdd h left other z) _ _ ∙ rw (lt-leb mostStanding (length left) fewer)
 
 -- A withdrawal that is not refused.
 record Withdrawn (m after : OpenStates) (name : ℕ) : Type 0 where
@@ -102,9 +104,9 @@ record Withdrawn (m after : OpenStates) (name : ℕ) : Type 0 where
 withdrawn : (m after : OpenStates) (name : ℕ) → withdrawIn m name ≡ accepted after → Withdrawn m after name
 unfolding withdrawIn withdrawFrom
 withdrawn m after name e =
-    let rule = passed (areOpenStates m) (Row.HeaderRange 0) _ after e in
-    let b = bound (withdrawFrom (m .present) name) _ after (rule .1) in
-    let stood = passed (stands name (standing (m .present))) (Row.Name name) _ (b .first) (passed (isOpenJob (m .present)) (Row.HeaderRange 0) _ (b .first) (b .taken) .1) in
+    let b = bound (underRules (areOpenStates m) (withdrawFrom (m .present) name)) _ after e in
+    let rule = passed (areOpenStates m) (Row.HeaderRange 0) _ (b .first) (b .taken) in
+    let stood = passed (stands name (standing (m .present))) (Row.Name name) _ (b .first) (rule .1) in
     let first : laidOut (m .present .header) (without name (standing (m .present))) ≡ b .first = let q = stood .1 in cc in
     let whole : statesFrom (b .first) (keptStates m) ≡ after = let q = b .rest in cc in
     record { good = rule .0; stood = stood .0; same = ap (λ (a : StoredJob). statesFrom a (keptStates m)) first ∙ whole }

@@ -17,10 +17,10 @@ use Rattle.demands.specs.Demands.{Alike}
 use Rattle.open_memory.specs.Memory.{standing, laidOut, isOpenJob}
 use Rattle.open_memory.proofs.RuleLaws.{Stand}
 use Rattle.open_job.proofs.LayoutLaws.{open-exactly}
-use Rattle.kept_states.specs.declared.KeptState.{KeptState}
-use Rattle.kept_states.specs.declared.OpenStates.{OpenStates}
-use Rattle.kept_states.specs.States.{keptFrom, stateOf, isUsed, keptSound, keptUnder}
-use Rattle.kept_states.proofs.StateLaws.{states-same, none-above, nothing-is, sound-used, sound-unused, now-open, each-sound}
+use Rattle.open_job.specs.declared.KeptState.{KeptState}
+use Rattle.open_job.specs.declared.OpenStates.{OpenStates}
+use Rattle.open_job.specs.States.{keptFrom, stateOf, isUsed, keptSound, keptUnder}
+use Rattle.open_job.proofs.StateLaws.{states-same, none-above, nothing-is, sound-used, sound-unused, now-open, each-sound}
 use Rattle.open_promises.specs.Rules.{SameHazards, SameKept, both-nothing, both-states, SameOpenJob, EqualPromise}
 use Rattle.open_promises.proofs.MeaningLaws.{places-under}
 

@@ -9,8 +9,8 @@ use mathlib.Core.List.{List, [], _∷_, _++_, map, List·Memᴰ, List·Memᴰ·h
 use lib.ListN.{length, take, drop, take-append-drop}
 use lib.Dec.{eqb}
 use borrow.Author.Tests.{eq-eqb, ne-eqb, eqb-true}
-use Rattle.refusal.specs.Choice.{if_then_else_, someOf, keep}
-use Rattle.refusal.proofs.TestLaws.{decided, any-elim, keep-elim, keep-intro}
+use Rattle.base.specs.Choice.{if_then_else_, someOf, filter}
+use Rattle.base.proofs.TestLaws.{decided, any-elim, filter-elim, filter-intro}
 use Rattle.job.specs.declared.Header.{Header}
 use Rattle.job.specs.declared.Hazard.{Hazard}
 use Rattle.job.specs.declared.NamedHazard.{NamedHazard}
@@ -35,12 +35,12 @@ inserted-which p x ps fresh = let n = rank (p .name) ps in rw (inserted-at p ps 
 pub without-cases : (name : ℕ) (x : NamedHazard) (ps : List NamedHazard) → List·Memᴰ x (without name ps) → List·Memᴰ x ps × (x .name ≡ name → ⊥)
 unfolding without
 without-cases name x ps m =
-    let w = keep-elim (λ (p : NamedHazard). not (eqb (p .name) name)) ps m in
+    let w = filter-elim (λ (p : NamedHazard). not (eqb (p .name) name)) ps m in
     (w .0, λ same. absurd (false≢true (rw (eq-eqb (x .name) name same) at (w .1))))
 
 pub without-other : (name : ℕ) (x : NamedHazard) (ps : List NamedHazard) → List·Memᴰ x ps → (x .name ≡ name → ⊥) → List·Memᴰ x (without name ps)
 unfolding without
-without-other name x ps m differ = keep-intro (λ (p : NamedHazard). not (eqb (p .name) name)) m (rw (ne-eqb (x .name) name differ))
+without-other name x ps m differ = filter-intro (λ (p : NamedHazard). not (eqb (p .name) name)) m (rw (ne-eqb (x .name) name differ))
 
 -- The same without their names.
 pub unnamed-among : {ps qs : List NamedHazard} → ((p : NamedHazard) → List·Memᴰ p ps → List·Memᴰ p qs) → (z : Hazard) → List·Memᴰ z (map unnamed ps) → List·Memᴰ z (map unnamed qs)
@@ -68,7 +68,7 @@ pub without-stands : (name : ℕ) (ps : List NamedHazard) → stands name (witho
 without-stands name ps = stands-none name (without name ps) (λ p m. without-cases name p ps m .1)
 
 pub none-taken : (name : ℕ) (ps : List NamedHazard) → stands name ps ≡ false → without name ps ≡ ps
-unfolding without keep
+unfolding without filter
 none-taken name [] e = refl
 none-taken name (p ∷ ps) e = rw (ne-eqb (p .name) name (other-name name (p ∷ ps) p e (List·Memᴰ·head refl))) (ap (_∷_ p) (none-taken name ps (stands-fewer name (p ∷ ps) ps (λ x m. List·Memᴰ·tail m) e)))
 
@@ -103,7 +103,7 @@ distinct-more (q ∷ qs) p d e = (stands-none (q .name) (qs ++ p ∷ []) there, 
         (λ k. other-name (p .name) (q ∷ qs) q e (List·Memᴰ·head refl) (sym same ∙ ap (λ (y : NamedHazard). y .name) (List·Memᴰ·eq-of-singleton k))) (List·Memᴰ·append-cases qs m)
 
 pub distinct-less : (name : ℕ) (ps : List NamedHazard) → Distinct ps → Distinct (without name ps)
-unfolding without keep
+unfolding without filter
 distinct-less name [] d = tt
 distinct-less name (p ∷ ps) d = go (eqb (p .name) name) (distinct-less name ps (d .1))
   where
@@ -114,7 +114,7 @@ distinct-less name (p ∷ ps) d = go (eqb (p .name) name) (distinct-less name ps
 -- How many
 
 pub without-length : (name : ℕ) (ps : List NamedHazard) → length (without name ps) ≤ length ps
-unfolding without keep
+unfolding without filter
 without-length name [] = omega arith
 without-length name (p ∷ ps) = go (eqb (p .name) name) (without-length name ps)
   where
@@ -124,7 +124,7 @@ without-length name (p ∷ ps) = go (eqb (p .name) name) (without-length name ps
 
 -- One hazard less, where the name stands.
 pub one-less : (name : ℕ) (ps : List NamedHazard) → Distinct ps → stands name ps ≡ true → suc (length (without name ps)) ≡ length ps
-unfolding without keep stands someOf
+unfolding without filter stands someOf
 one-less name [] d e = absurd (false≢true e)
 one-less name (p ∷ ps) d e = go (eqb (p .name) name) refl e (one-less name ps (d .1))
   where

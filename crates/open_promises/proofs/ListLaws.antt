@@ -7,26 +7,28 @@ use mathlib.Core.Logic.{_↔_}
 use mathlib.Core.Bool.{Bool, true}
 use mathlib.Core.List.{List, [], _∷_, _++_, map, foldl, List·Memᴰ, Memᴰ·of-map}
 use lib.ListN.{length, length-map}
-use Rattle.refusal.specs.Answer.{Answer}
+use Rattle.base.specs.Answer.{Answer, replied}
 use Rattle.refusal.specs.Refusal.{unless-refuse}
 use Rattle.refusal.specs.declared.Refusal.the-variants as Row
-use Rattle.refusal.proofs.AnswerLaws.{behind}
+use Rattle.base.proofs.AnswerLaws.{bind-assoc}
 use Rattle.job.specs.declared.Header.{Header}
 use Rattle.job.specs.declared.Hazard.{Hazard}
 use Rattle.job.specs.declared.NamedHazard.{NamedHazard}
 use Rattle.job.specs.declared.StoredJob.{StoredJob}
-use Rattle.job.specs.Job.{Job, unnamed}
+use Rattle.job.specs.Job.{Job, unnamed, jobOf, madeFrom}
+use Rattle.job.specs.Writing.{writeJob}
 use Rattle.job.specs.Fits.{HeaderFits}
 use Rattle.planning.proofs.EnvelopeLaws.{accepted-fits}
 use Rattle.planning.proofs.AcceptedLaws.{fitting-accepted}
-use Rattle.open_memory.specs.Memory.{mostStanding, laidOut, madeFrom, stands}
+use Rattle.schedule.specs.Plan.{plan}
+use Rattle.open_memory.specs.Memory.{mostStanding, laidOut, stands}
 use Rattle.open_memory.proofs.RuleLaws.{Admitted, made-fits, stand-each}
-use Rattle.open_job.specs.Open.{testAdd, addTo, withdrawFrom, scheduleOf, memoryAfter, replied}
+use Rattle.open_job.specs.States.{isUsed, keptUnder, areOpenStates}
+use Rattle.open_job.specs.Calls.{testAdd, addTo, withdrawFrom, memoryAfter}
 use Rattle.open_job.proofs.LayoutLaws.{laid-standing, add-laid, withdraw-laid, schedule-laid}
-use Rattle.kept_states.specs.declared.KeptState.{KeptState}
-use Rattle.kept_states.specs.declared.OpenStates.{OpenStates}
-use Rattle.kept_states.specs.States.{isUsed, keptUnder, areOpenStates}
-use Rattle.kept_states.proofs.StateLaws.{not-used, kept-used}
+use Rattle.open_job.specs.declared.KeptState.{KeptState}
+use Rattle.open_job.specs.declared.OpenStates.{OpenStates}
+use Rattle.open_job.proofs.StateLaws.{not-used, kept-used}
 use Rattle.open_promises.specs.Opening.{emptyStates, openedFrom}
 use Rattle.open_promises.specs.Lists.{Call, keepAs, returnTo, Kept, nothing, state, States, isKept, opened, statesAfter, hazardsAfter, afterCall, CallsFrom, AnswersAs, SchedulePromise, Holds, HoldsKept, Standing, StandingPromise, ReturnPromise}
 use Rattle.open_promises.proofs.OpeningLaws.{opening-accepted}
@@ -94,8 +96,8 @@ module _ (s : List ℕ) (j : Job) (calls : List Call) (m : OpenStates) (from : C
     is-open = good;
     present-state = rw now-laid (holds h same);
     states-kept = kept-holds;
-    next-add = λ name z. add-now m good name z ∙ ap (λ (a : StoredJob). replied (addTo a name z)) now-laid ∙ ap replied (add-laid h (placed .present) fits (same .rules) (same .few) name z) ∙ behind (testAdd h (placed .present) name z) _ _ ∙ ap replied (tests-same h same name z);
-    next-withdrawal = λ name. withdraw-now m good name ∙ ap (λ (a : StoredJob). replied (withdrawFrom a name)) now-laid ∙ ap replied (withdraw-laid h (placed .present) fits (same .rules) (same .few) name) ∙ behind (unless-refuse (stands name (placed .present)) (Row.Name name)) _ _
+    next-add = λ name z. add-now m good name z ∙ ap (λ (a : StoredJob). replied (addTo a name z)) now-laid ∙ ap replied (add-laid h (placed .present) name z) ∙ bind-assoc (testAdd h (placed .present) name z) _ _ ∙ ap replied (tests-same h same name z);
+    next-withdrawal = λ name. withdraw-now m good name ∙ ap (λ (a : StoredJob). replied (withdrawFrom a name)) now-laid ∙ ap replied (withdraw-laid h (placed .present) name) ∙ bind-assoc (unless-refuse (stands name (placed .present)) (Row.Name name)) _ _
         ∙ ap (λ (b : Bool). replied (unless-refuse b (Row.Name name))) (stands-same h same name);
     next-keep = keep-replied m good;
     next-return = λ number. return-replied m good number ∙ ap (λ (b : Bool). replied (unless-refuse b Row.State)) (used-kept h (are .kept number) (keptUnder m number) (kept-holds number));
@@ -105,7 +107,7 @@ module _ (s : List ℕ) (j : Job) (calls : List Call) (m : OpenStates) (from : C
   answers zs most each = record {
     is-accepted = fitting-accepted (madeFrom h zs) (made-fits h zs fits most (λ z k. may z (back z k)));
     planned = λ side room.
-        schedule-now m good side room ∙ ap (λ (a : StoredJob). scheduleOf a side room) now-laid ∙ schedule-laid h (placed .present) fits (same .rules) (same .few) side room
+        schedule-now m good side room ∙ ap (λ (a : StoredJob). plan (writeJob (jobOf a)) side room) now-laid ∙ schedule-laid h (placed .present) side room
         ∙ same-plans h fits (map unnamed (placed .present)) zs (rw (length-map (placed .present) unnamed) (same .few)) most may (λ z k. each z .1 (unnamed-among (λ p. same .same p .0) z k)) back side room;
   }
     where

@@ -10,25 +10,25 @@ use mathlib.Core.Bool.{true}
 use mathlib.Core.List.{List, [], _∷_, _++_, foldl, foldl-append, List·Memᴰ·not-nil}
 use lib.ListN.{length, length-take}
 use borrow.Author.Tests.{eqb-true}
-use Rattle.refusal.specs.Answer.{Answer, accepted}
-use Rattle.refusal.proofs.EachLaws.{getD-member}
+use Rattle.base.specs.Answer.{Answer, accepted}
+use Rattle.base.proofs.ListLaws.{getD-member}
 use Rattle.job.specs.declared.Header.{Header}
 use Rattle.job.specs.declared.NamedHazard.{NamedHazard}
-use Rattle.job.specs.Job.{unnamed, counted}
+use Rattle.job.specs.Job.{unnamed, counted, madeFrom}
 use Rattle.job.specs.Writing.{writeJob}
 use Rattle.job.specs.Fits.{HeaderFits}
 use Rattle.job.proofs.RangeLaws.{header-bounds}
 use Rattle.planning.specs.Envelope.{acceptJob}
 use Rattle.planning.proofs.AcceptedLaws.{fitting-accepted}
-use Rattle.open_memory.specs.Memory.{standing, madeFrom, isOpenJob}
+use Rattle.open_memory.specs.Memory.{standing, isOpenJob}
 use Rattle.open_memory.proofs.RangeLaws.{counted-fits}
 use Rattle.open_memory.proofs.RuleLaws.{counted-hazard, counted-passed, made-fits, Stand}
-use Rattle.open_job.specs.Open.{memoryAfter}
+use Rattle.open_job.specs.States.{nothingKept, keptFrom, stateOf, isUsed, isNothingKept, keptStates, keptUnder, areOpenStates}
+use Rattle.open_job.specs.Calls.{memoryAfter, addIn, withdrawIn, scheduleIn, keepIn, returnIn}
 use Rattle.open_job.proofs.LayoutLaws.{KeepsRules, open-exactly}
-use Rattle.kept_states.specs.declared.KeptState.{KeptState}
-use Rattle.kept_states.specs.declared.OpenStates.{OpenStates}
-use Rattle.kept_states.specs.States.{nothingKept, keptFrom, stateOf, isUsed, isNothingKept, keptStates, keptUnder, areOpenStates, addIn, withdrawIn, scheduleIn, keepIn, returnIn}
-use Rattle.kept_states.proofs.StateLaws.{states-same, none-above, nothing-is, sound-cases, now-open, each-sound}
+use Rattle.open_job.specs.declared.KeptState.{KeptState}
+use Rattle.open_job.specs.declared.OpenStates.{OpenStates}
+use Rattle.open_job.proofs.StateLaws.{states-same, none-above, nothing-is, sound-cases, now-open, each-sound}
 use Rattle.open_promises.specs.Opening.{emptyStates}
 use Rattle.open_promises.specs.Lists.{Call, Kept, nothing, state, States, opened, afterCall, CallsFrom}
 use Rattle.open_promises.specs.Rules.{RulesPromise, HasPlaces, MemoryPromise}

@@ -8,8 +8,8 @@ use mathlib.Core.List.{List, [], _∷_, foldl, List·Memᴰ, List·Memᴰ·head,
 use lib.ListN.{length, set, replicate}
 use lib.Dec.{leb, eqb}
 use borrow.Author.Tests.{leb-true, leb-false}
-use Rattle.refusal.specs.Choice.{if_then_else_}
-use Rattle.refusal.specs.Answer.{accepted, _>>=_}
+use Rattle.base.specs.Choice.{if_then_else_}
+use Rattle.base.specs.Answer.{Answer, accepted, _>>=_}
 use Rattle.refusal.specs.Refusal.{unless-refuse}
 use Rattle.refusal.specs.declared.Refusal.the-variants as Row
 use Rattle.job.specs.declared.Header.{Header}
@@ -17,13 +17,13 @@ use Rattle.job.specs.declared.NamedHazard.{NamedHazard}
 use Rattle.job.specs.declared.StoredJob.{StoredJob}
 use Rattle.job.specs.Fits.{HeaderFits}
 use Rattle.open_memory.specs.Memory.{laidOut, isOpenJob}
-use Rattle.open_job.specs.Open.{testAdd, memoryAfter, addTo, withdrawFrom}
+use Rattle.open_job.specs.States.{mostKept, greatestStateNumber, nothingKept, keptFrom, stateOf, isUsed, keptSound, keptStates, keptUnder, statesFrom, areOpenStates}
+use Rattle.open_job.specs.Calls.{testAdd, memoryAfter, addTo, withdrawFrom, addIn, withdrawIn, keepIn, keptJob, returnIn}
 use Rattle.open_job.proofs.LayoutLaws.{laid-open}
-use Rattle.kept_states.specs.declared.KeptState.{KeptState}
-use Rattle.kept_states.specs.declared.OpenStates.{OpenStates}
-use Rattle.kept_states.specs.States.{mostKept, greatestStateNumber, nothingKept, keptFrom, stateOf, isUsed, keptSound, keptStates, keptUnder, statesFrom, areOpenStates, addIn, withdrawIn, keepIn, returnIn}
-use Rattle.kept_states.proofs.StateLaws.{kept-under, kept-set, none-under, none-above, nothing-sound, not-used, kept-used, sound-used, states-sound}
-use Rattle.kept_states.proofs.WholeLaws.{now-carried}
+use Rattle.open_job.specs.declared.KeptState.{KeptState}
+use Rattle.open_job.specs.declared.OpenStates.{OpenStates}
+use Rattle.open_job.proofs.StateLaws.{kept-under, kept-set, none-under, none-above, nothing-sound, not-used, kept-used, sound-used, states-sound}
+use Rattle.open_job.proofs.WholeLaws.{change-whole}
 use Rattle.open_promises.specs.Lists.{Edit, add, withdraw, Call, edit, schedule, keepAs, returnTo, Nameable, Kept, nothing, state, States, opened, returnedTo, statesAfter, standAfter, afterCall}
 use Rattle.open_promises.proofs.StandingLaws.{placedAfter, edited, edit-memory, Agree, agree-edit}
 use Rattle.open_promises.proofs.ModelLaws.{AgreeKept, AgreeAll, agree-opened, agree-call}
@@ -58,12 +58,12 @@ module _ (h : Header) (fits : HeaderFits h) {t s : States (List NamedHazard)} {m
 
   edit-after : (e : Edit) → afterCall m (edit e) ≡ statesFrom (memoryAfter (edited (m .present) e) (m .present)) (keptStates m)
   unfolding afterCall addIn withdrawIn
-  edit-after (add name z) = rw laid-states (sym (now-carried m (addTo (m .present) name z) .0))
-  edit-after (withdraw name) = rw laid-states (sym (now-carried m (withdrawFrom (m .present) name) .0))
+  edit-after (add name z) = rw laid-states (rw laid-states at (sym (change-whole m (addTo (m .present) name z) .0)))
+  edit-after (withdraw name) = rw laid-states (rw laid-states at (sym (change-whole m (withdrawFrom (m .present) name) .0)))
 
   laid-edit : (e : Edit) → Laid h (record { present = placedAfter h (t .present) e; kept = t .kept }) (afterCall m (edit e))
   laid-edit e = subst (Laid h (record { present = placedAfter h (t .present) e; kept = t .kept })) (sym (edit-after e)) (record {
-    present = ap (λ (a : StoredJob). memoryAfter (edited a e) a) (f .laid .present) ∙ edit-memory h (t .present) fits (f .agree .present .rules) (f .agree .present .few) e;
+    present = ap (λ (a : StoredJob). memoryAfter (edited a e) a) (f .laid .present) ∙ edit-memory h (t .present) e;
     kept = f .laid .kept;
   })
 
@@ -82,11 +82,13 @@ module _ (h : Header) (fits : HeaderFits h) {t s : States (List NamedHazard)} {m
       go false e = f .laid
 
   laid-return : (n : ℕ) → Laid h (returnedTo (t .kept n) t) (afterCall m (returnTo n))
-  unfolding afterCall returnIn
+  unfolding afterCall returnIn keptJob
   laid-return n = rw laid-states (go (leb n greatestStateNumber) refl (t .kept n) (keptUnder m n) refl (f .laid .kept n))
     where
       back : Bool → KeptState → OpenStates
-      back b k = memoryAfter (unless-refuse b Row.State >>= λ _. unless-refuse (isUsed k) Row.State >>= λ _. accepted (statesFrom (stateOf (m .present .header) k) (keptStates m))) m
+      back b k =
+          let kept : Answer StoredJob = unless-refuse b Row.State >>= λ _. unless-refuse (isUsed k) Row.State >>= λ _. accepted (stateOf (m .present .header) k) in
+          memoryAfter (kept >>= λ a. accepted (statesFrom a (keptStates m))) m
 
       go : (b : Bool) → leb n greatestStateNumber ≡ b → (x : Kept (List NamedHazard)) (k : KeptState) → keptUnder m n ≡ k → k ≡ laidKept h x → Laid h (returnedTo x t) (back b k)
       go false e nothing k u l = f .laid

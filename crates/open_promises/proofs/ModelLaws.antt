@@ -6,8 +6,8 @@ use mathlib.Core.Bool.{Bool, true, false}
 use mathlib.Core.List.{List, [], _∷_, _++_, foldl, foldl-append, List·Memᴰ, List·Memᴰ·head, List·Memᴰ·tail}
 use lib.Dec.{leb, eqb}
 use borrow.Author.Tests.{le-leb, eq-eqb, ne-eqb}
-use Rattle.refusal.specs.Choice.{if_then_else_}
-use Rattle.kept_states.specs.States.{greatestStateNumber}
+use Rattle.base.specs.Choice.{if_then_else_}
+use Rattle.open_job.specs.States.{greatestStateNumber}
 use Rattle.open_promises.specs.Lists.{Edit, Call, edit, schedule, keepAs, returnTo, Kept, nothing, state, States, opened, returnedTo, statesAfter}
 
 -- A state returned to

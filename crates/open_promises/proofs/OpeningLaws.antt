@@ -6,8 +6,8 @@ use mathlib.Core.Path.{_≡_, refl, sym, ap, _∙_}
 use mathlib.Core.List.{List, [], _∷_}
 use lib.ListN.{length}
 use borrow.Author.Tests.{eq-eqb, ne-eqb}
-use Rattle.refusal.specs.Answer.{Answer, accepted, refused, _>>=_}
-use Rattle.refusal.proofs.AnswerLaws.{bound, behind}
+use Rattle.base.specs.Answer.{Answer, accepted, refused, _>>=_}
+use Rattle.base.proofs.AnswerLaws.{bound, bind-assoc}
 use Rattle.job.specs.declared.Header.{Header}
 use Rattle.job.specs.declared.Hazard.{Hazard}
 use Rattle.job.specs.Job.{Job, Fields, headerSize, readHeader, headerOf, readJob}
@@ -17,9 +17,8 @@ use Rattle.planning.specs.Envelope.{acceptJob}
 use Rattle.planning.proofs.EnvelopeLaws.{accepted-fits}
 use Rattle.planning.proofs.AcceptedLaws.{accepted-read}
 use Rattle.demands.proofs.RefusalLaws.{answer-refuses}
-use Rattle.open_job.specs.Open.{openJob}
-use Rattle.kept_states.specs.declared.OpenStates.{OpenStates}
-use Rattle.kept_states.specs.States.{openStates}
+use Rattle.open_job.specs.Calls.{openJob, openStates}
+use Rattle.open_job.specs.declared.OpenStates.{OpenStates}
 use Rattle.open_promises.specs.Opening.{CarriesNoHazard, Opening-refusals, Opening-with-hazards, emptyStates, openedFrom, Opening-accepted}
 
 -- Without hazards, opening answers for each accepted job.
@@ -33,7 +32,7 @@ module _ (s : List ℕ) where
 
   counted-none : (f : Fields) → readHeader s ≡ accepted f → headerOf (f .numbers) .count ≡ 0 → openStates s ≡ forEachJob s
   unfolding openStates openJob
-  counted-none f e none = rw (e, eq-eqb (headerOf (f .numbers) .count) 0 none) (behind (acceptJob s) _ _)
+  counted-none f e none = rw (e, eq-eqb (headerOf (f .numbers) .count) 0 none) (bind-assoc (acceptJob s) _ _)
 
   no-hazard : CarriesNoHazard s → openStates s ≡ forEachJob s
   no-hazard none = go (readHeader s) refl

@@ -12,7 +12,7 @@ use Rattle.planning.proofs.AcceptedLaws.{fitting-accepted}
 use Rattle.schedule.specs.Plan.{plan}
 use Rattle.demands.proofs.DemandLaws.{counted-alike}
 use Rattle.demands.proofs.AlikeLaws.{same-plan}
-use Rattle.open_memory.specs.Memory.{madeFrom}
+use Rattle.job.specs.Job.{madeFrom}
 use Rattle.open_memory.proofs.RuleLaws.{Admitted, made-fits}
 
 pub same-plans : (h : Header) → HeaderFits h → (xs ys : List Hazard) → length xs ≤ 256 → length ys ≤ 256 → ((z : Hazard) → List·Memᴰ z xs → Admitted h z)

@@ -8,21 +8,20 @@ use mathlib.Core.Bool.{Bool, true, false, not}
 use mathlib.Core.List.{List, [], _∷_, _++_, List·Memᴰ, List·Memᴰ·head, List·Memᴰ·append-cases, List·Memᴰ·eq-of-singleton, Memᴰ·append-left, Memᴰ·append-right}
 use lib.ListN.{length, length-append}
 use borrow.Author.Tests.{leb-false}
-use Rattle.refusal.specs.Choice.{if_then_else_}
-use Rattle.refusal.specs.Answer.{Answer, accepted, refused, _>>=_, isAccepted}
+use Rattle.base.specs.Choice.{if_then_else_}
+use Rattle.base.specs.Answer.{Answer, accepted, refused, _>>=_, isAccepted}
 use Rattle.refusal.specs.Refusal.{unless-refuse}
 use Rattle.refusal.specs.declared.Refusal.the-variants as Row
-use Rattle.refusal.proofs.TestLaws.{decided, impossible}
+use Rattle.base.proofs.TestLaws.{decided, impossible}
 use Rattle.job.specs.declared.Header.{Header}
 use Rattle.job.specs.declared.Hazard.{Hazard}
 use Rattle.job.specs.declared.NamedHazard.{NamedHazard}
 use Rattle.job.specs.declared.StoredJob.{StoredJob}
 use Rattle.job.specs.Job.{named}
-use Rattle.job.specs.Fits.{HeaderFits}
 use Rattle.open_memory.specs.Memory.{mostStanding, laidOut, stands, isFull, inserted, without, admit}
 use Rattle.open_memory.proofs.RuleLaws.{admitted, Stand}
 use Rattle.open_memory.proofs.PlaceLaws.{other-name, standing-named, inserted-stand, inserted-length, without-stand}
-use Rattle.open_job.specs.Open.{testAdd, memoryAfter, addTo, withdrawFrom}
+use Rattle.open_job.specs.Calls.{testAdd, memoryAfter, addTo, withdrawFrom}
 use Rattle.open_job.proofs.LayoutLaws.{add-laid, withdraw-laid}
 use Rattle.open_promises.specs.Lists.{Edit, add, withdraw, Nameable, standAfter}
 use Rattle.open_promises.proofs.HazardLaws.{inserted-which, without-cases, without-other, stands-which, stands-none, none-taken, Distinct, stand-distinct, distinct-more, distinct-less, without-length, one-less}
@@ -52,14 +51,14 @@ edited a (add name z) = addTo a name z
 edited a (withdraw name) = withdrawFrom a name
 
 -- So the memory is changed.
-pub edit-memory : (h : Header) (ps : List NamedHazard) → HeaderFits h → Stand h 0 ps → length ps ≤ mostStanding → (e : Edit) → memoryAfter (edited (laidOut h ps) e) (laidOut h ps) ≡ laidOut h (placedAfter h ps e)
+pub edit-memory : (h : Header) (ps : List NamedHazard) (e : Edit) → memoryAfter (edited (laidOut h ps) e) (laidOut h ps) ≡ laidOut h (placedAfter h ps e)
 unfolding placedAfter
-edit-memory h ps fits rules few (add name z) = ap (λ (x : Answer StoredJob). memoryAfter x (laidOut h ps)) (add-laid h ps fits rules few name z) ∙ go (testAdd h ps name z)
+edit-memory h ps (add name z) = ap (λ (x : Answer StoredJob). memoryAfter x (laidOut h ps)) (add-laid h ps name z) ∙ go (testAdd h ps name z)
   where
     go : (a : Answer (Unit {0})) → memoryAfter (a >>= λ _. accepted (laidOut h (inserted (named name z) ps))) (laidOut h ps) ≡ laidOut h (if isAccepted a then inserted (named name z) ps else ps)
     go (accepted u) = refl
     go (refused k v) = refl
-edit-memory h ps fits rules few (withdraw name) = ap (λ (x : Answer StoredJob). memoryAfter x (laidOut h ps)) (withdraw-laid h ps fits rules few name) ∙ go (stands name ps) refl
+edit-memory h ps (withdraw name) = ap (λ (x : Answer StoredJob). memoryAfter x (laidOut h ps)) (withdraw-laid h ps name) ∙ go (stands name ps) refl
   where
     go : (b : Bool) → stands name ps ≡ b → memoryAfter (unless-refuse b (Row.Name name) >>= λ _. accepted (laidOut h (without name ps))) (laidOut h ps) ≡ laidOut h (without name ps)
     go true e = refl

@@ -7,13 +7,13 @@ use mathlib.Core.Logic.{_⊎_, inl, inr, ⊎-elim}
 use mathlib.Core.Bool.{true}
 use mathlib.Core.List.{List, [], _∷_, map, foldl-append, List·Memᴰ, List·Memᴰ·append-cases, List·Memᴰ·eq-of-singleton, Memᴰ·map, Memᴰ·of-map}
 use lib.ListN.{length, length-map}
-use Rattle.refusal.specs.Answer.{Answer, accepted}
+use Rattle.base.specs.Answer.{Answer, accepted, replied}
 use Rattle.refusal.specs.declared.Refusal.the-variants as Row
-use Rattle.refusal.proofs.AnswerLaws.{passed}
+use Rattle.refusal.proofs.RefuseLaws.{passed}
 use Rattle.job.specs.declared.Header.{Header}
 use Rattle.job.specs.declared.Hazard.{Hazard}
 use Rattle.job.specs.declared.NamedHazard.{NamedHazard}
-use Rattle.job.specs.Job.{Job, unnamed, counted}
+use Rattle.job.specs.Job.{Job, unnamed, counted, madeFrom}
 use Rattle.job.specs.Writing.{writeJob}
 use Rattle.planning.specs.Envelope.{farther, reaches, reached, reachOf, offsetOf, lengthening, envelope, cutToRoad, cutEnvelope}
 use Rattle.planning.specs.Required.{jobLevel}
@@ -25,12 +25,11 @@ use Rattle.demands.specs.Demands.{Alike}
 use Rattle.demands.specs.Withdrawal.{lengthenedAtBothEnds, withdrawalReach, Unaltered, no-envelope, other-side, Beyond, outside, unaltered, SameBeyond}
 use Rattle.demands.proofs.DemandLaws.{counted-alike}
 use Rattle.demands.proofs.WithdrawalLaws.{same-beyond, side-plans, same-shown}
-use Rattle.open_memory.specs.Memory.{standing, madeFrom, stands, without}
+use Rattle.open_memory.specs.Memory.{standing, stands, without}
 use Rattle.open_memory.proofs.RuleLaws.{open-standing}
-use Rattle.open_job.specs.Open.{testAdd, memoryAfter, replied}
-use Rattle.kept_states.specs.declared.OpenStates.{OpenStates}
-use Rattle.kept_states.specs.States.{openStates, withdrawIn}
-use Rattle.kept_states.proofs.StateLaws.{now-open}
+use Rattle.open_job.specs.Calls.{testAdd, memoryAfter, openStates, withdrawIn}
+use Rattle.open_job.specs.declared.OpenStates.{OpenStates}
+use Rattle.open_job.proofs.StateLaws.{now-open}
 use Rattle.open_promises.specs.Lists.{withdraw, Nameable, Call, edit, States, opened, statesAfter, standAfter, addedSince, afterCall, CallsFrom, AnswersAs, Standing}
 use Rattle.open_promises.specs.Withdrawal.{thenWithdrawn, jobAfter, Scheduled, StandsUnder, WithdrawalPromise}
 use Rattle.open_promises.proofs.HazardLaws.{unnamed-among, stands-which, stand-distinct, distinct-alone, without-cases, without-other}

@@ -6,14 +6,14 @@ use mathlib.Core.Logic.{_↔_}
 use mathlib.Core.Bool.{true}
 use mathlib.Core.List.{List, List·Memᴰ}
 use lib.ListN.{length}
-use Rattle.refusal.specs.Answer.{accepted}
+use Rattle.base.specs.Answer.{accepted, replied}
 use Rattle.job.specs.declared.Header.{Header}
 use Rattle.job.specs.declared.Hazard.{Hazard}
 use Rattle.job.specs.declared.NamedHazard.{NamedHazard}
 use Rattle.open_memory.specs.Memory.{mostStanding, standing}
-use Rattle.open_job.specs.Open.{replied}
-use Rattle.kept_states.specs.declared.OpenStates.{OpenStates}
-use Rattle.kept_states.specs.States.{areOpenStates, addIn}
+use Rattle.open_job.specs.States.{areOpenStates}
+use Rattle.open_job.specs.Calls.{addIn}
+use Rattle.open_job.specs.declared.OpenStates.{OpenStates}
 
 -- Each of the six numbers lies in its range.
 pub record InTable (h : Header) (z : Hazard) : Type 0 where

@@ -8,23 +8,23 @@ use mathlib.Core.Bool.{Bool, true, false, not}
 use mathlib.Core.List.{List, [], _∷_, _++_, map, foldl, List·Memᴰ}
 use lib.ListN.{length}
 use lib.Dec.{leb, eqb}
-use Rattle.refusal.specs.Choice.{if_then_else_}
-use Rattle.refusal.specs.Answer.{Answer, accepted, _>>=_, isAccepted}
+use Rattle.base.specs.Choice.{if_then_else_}
+use Rattle.base.specs.Answer.{Answer, accepted, _>>=_, isAccepted, replied}
 use Rattle.refusal.specs.Refusal.{unless-refuse}
 use Rattle.refusal.specs.declared.Refusal.the-variants as Row
 use Rattle.job.specs.declared.Header.{Header}
 use Rattle.job.specs.declared.Hazard.{Hazard}
 use Rattle.job.specs.declared.NamedHazard.{NamedHazard}
 use Rattle.job.specs.declared.StoredJob.{StoredJob}
-use Rattle.job.specs.Job.{Job, named, unnamed}
+use Rattle.job.specs.Job.{Job, named, unnamed, madeFrom}
 use Rattle.job.specs.Writing.{writeJob}
 use Rattle.planning.specs.Envelope.{acceptJob}
 use Rattle.schedule.specs.Plan.{plan}
-use Rattle.open_memory.specs.Memory.{mostStanding, greatestName, standing, laidOut, madeFrom, stands, without, admit}
-use Rattle.open_job.specs.Open.{testAdd, memoryAfter, replied}
-use Rattle.kept_states.specs.declared.KeptState.{KeptState}
-use Rattle.kept_states.specs.declared.OpenStates.{OpenStates}
-use Rattle.kept_states.specs.States.{greatestStateNumber, nothingKept, keptFrom, stateOf, isUsed, keptUnder, areOpenStates, openStates, addIn, withdrawIn, scheduleIn, keepIn, returnIn}
+use Rattle.open_memory.specs.Memory.{mostStanding, greatestName, standing, laidOut, stands, without, admit}
+use Rattle.open_job.specs.States.{greatestStateNumber, nothingKept, keptFrom, stateOf, isUsed, keptUnder, areOpenStates}
+use Rattle.open_job.specs.Calls.{testAdd, memoryAfter, openStates, addIn, withdrawIn, scheduleIn, keepIn, returnIn}
+use Rattle.open_job.specs.declared.KeptState.{KeptState}
+use Rattle.open_job.specs.declared.OpenStates.{OpenStates}
 
 -- The calls
 

@@ -5,15 +5,16 @@ use mathlib.Core.Path.{_≡_}
 use mathlib.Core.Logic.{_↔_, _≢_}
 use mathlib.Core.List.{List, [], _∷_}
 use lib.ListN.{replicate}
-use Rattle.refusal.specs.Answer.{Answer, accepted, refused}
+use Rattle.base.specs.Answer.{Answer, accepted, refused}
 use Rattle.job.specs.declared.Header.{Header}
 use Rattle.job.specs.declared.Hazard.{Hazard}
 use Rattle.job.specs.Job.{Job, Fields, headerSize, readHeader, headerOf}
 use Rattle.planning.specs.Envelope.{acceptJob}
 use Rattle.schedule.specs.Plan.{plan}
 use Rattle.open_memory.specs.Memory.{laidOut}
-use Rattle.kept_states.specs.declared.OpenStates.{OpenStates}
-use Rattle.kept_states.specs.States.{mostKept, nothingKept, statesFrom, openStates}
+use Rattle.open_job.specs.declared.OpenStates.{OpenStates}
+use Rattle.open_job.specs.States.{mostKept, nothingKept, statesFrom}
+use Rattle.open_job.specs.Calls.{openStates}
 
 -- "Job bytes that carry no hazard": where their header can be read, its hazard count is 0.
 abbrev pub CarriesNoHazard : (s : List ℕ) → Type 0

@@ -6,15 +6,16 @@ use mathlib.Core.Logic.{_↔_}
 use mathlib.Core.Bool.{true, false}
 use mathlib.Core.List.{List, List·Memᴰ}
 use lib.ListN.{length, take}
-use Rattle.refusal.specs.Answer.{refused}
+use Rattle.base.specs.Answer.{refused}
 use Rattle.job.specs.declared.Hazard.{Hazard}
 use Rattle.job.specs.declared.NamedHazard.{NamedHazard}
 use Rattle.job.specs.Job.{Job}
 use Rattle.demands.specs.Demands.{Alike}
 use Rattle.open_memory.specs.Memory.{mostStanding, standing}
-use Rattle.kept_states.specs.declared.KeptState.{KeptState}
-use Rattle.kept_states.specs.declared.OpenStates.{OpenStates}
-use Rattle.kept_states.specs.States.{greatestStateNumber, isUsed, keptStates, keptUnder, areOpenStates, addIn, withdrawIn, scheduleIn, keepIn, returnIn}
+use Rattle.open_job.specs.declared.KeptState.{KeptState}
+use Rattle.open_job.specs.declared.OpenStates.{OpenStates}
+use Rattle.open_job.specs.States.{greatestStateNumber, isUsed, keptStates, keptUnder, areOpenStates}
+use Rattle.open_job.specs.Calls.{addIn, withdrawIn, scheduleIn, keepIn, returnIn}
 use Rattle.open_promises.specs.Lists.{Call, CallsFrom}
 
 -- Memory that breaks the rules

@@ -4,16 +4,15 @@ use Prim.Native.Nat.{ℕ, _≤_}
 use mathlib.Core.Path.{_≡_}
 use mathlib.Core.List.{List, [], _∷_, _++_, map, List·Memᴰ}
 use lib.ListN.{length}
-use Rattle.refusal.specs.Answer.{accepted}
+use Rattle.base.specs.Answer.{accepted}
 use Rattle.job.specs.declared.Header.{Header}
 use Rattle.job.specs.declared.NamedHazard.{NamedHazard}
-use Rattle.job.specs.Job.{Job, unnamed}
+use Rattle.job.specs.Job.{Job, unnamed, madeFrom}
 use Rattle.planning.specs.Required.{jobLevel}
 use Rattle.schedule.specs.Planned.{scheduleAlone}
 use Rattle.demands.specs.Withdrawal.{Unaltered, SameBeyond, SameShown}
-use Rattle.open_memory.specs.Memory.{madeFrom}
-use Rattle.kept_states.specs.declared.OpenStates.{OpenStates}
-use Rattle.kept_states.specs.States.{withdrawIn, scheduleIn}
+use Rattle.open_job.specs.declared.OpenStates.{OpenStates}
+use Rattle.open_job.specs.Calls.{withdrawIn, scheduleIn}
 use Rattle.open_promises.specs.Lists.{withdraw, Call, edit, addedSince, CallsFrom, AnswersAs}
 
 -- The calls, and behind them the withdrawal of a name.

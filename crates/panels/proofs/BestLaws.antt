@@ -9,17 +9,17 @@ use mathlib.Core.List.{List, [], _∷_, _++_, List·Memᴰ, List·Memᴰ·head, 
 use lib.ListN.{getD}
 use lib.Dec.{leb}
 use borrow.Author.Tests.{le-leb, lt-leb, leb-true, leb-false}
-use Rattle.refusal.specs.Choice.{if_then_else_}
-use Rattle.refusal.proofs.TestLaws.{decided, not-both, impossible}
-use Rattle.panels.specs.Layout.{covers, overrun, Found, none, found, judged, better, best}
+use Rattle.base.specs.Choice.{if_then_else_}
+use Rattle.base.proofs.TestLaws.{decided, not-both, impossible}
+use Rattle.panels.specs.Layout.{covers, overrun, BestLayout, none, found, ifCovering, better, best}
 use Rattle.panels.specs.Promised.{FirstSmallest, NoneCovers}
 
 -- Of three, it does not matter which two are compared first.
-pub better-none : (a : Found) → better a none ≡ a
+pub better-none : (a : BestLayout) → better a none ≡ a
 better-none none = refl
 better-none (found o l) = refl
 
-pub better-assoc : (a b c : Found) → better (better a b) c ≡ better a (better b c)
+pub better-assoc : (a b c : BestLayout) → better (better a b) c ≡ better a (better b c)
 better-assoc none b c = refl
 better-assoc (found o l) none c = refl
 better-assoc (found o l) (found p m) none = better-none (if leb o p then found o l else found p m)
@@ -35,21 +35,21 @@ module _ (lengths : List ℕ) (run : ℕ) where
   pub best-append : (xs ys : List (List ℕ)) → best lengths run (xs ++ ys) ≡ better (best lengths run xs) (best lengths run ys)
   unfolding best
   best-append [] ys = refl
-  best-append (x ∷ xs) ys = ap (better (judged lengths run x)) (best-append xs ys) ∙ sym (better-assoc (judged lengths run x) (best lengths run xs) (best lengths run ys))
+  best-append (x ∷ xs) ys = ap (better (ifCovering lengths run x)) (best-append xs ys) ∙ sym (better-assoc (ifCovering lengths run x) (best lengths run xs) (best lengths run ys))
 
-  pub judged-covers : (l : List ℕ) → covers lengths run l ≡ true → judged lengths run l ≡ found (overrun lengths run l) l
-  unfolding judged
+  pub judged-covers : (l : List ℕ) → covers lengths run l ≡ true → ifCovering lengths run l ≡ found (overrun lengths run l) l
+  unfolding ifCovering
   judged-covers l e = rw e
 
-  pub judged-short : (l : List ℕ) → covers lengths run l ≡ false → judged lengths run l ≡ none
-  unfolding judged
+  pub judged-short : (l : List ℕ) → covers lengths run l ≡ false → ifCovering lengths run l ≡ none
+  unfolding ifCovering
   judged-short l e = rw e
 
   -- None exactly if no layout of the list covers.
   found-not-none : {o : ℕ} {c : List ℕ} {A : Type 0} → found o c ≡ none → A
   found-not-none e = impossible cc
 
-  better-is-none : (a b : Found) → better a b ≡ none → (a ≡ none) × (b ≡ none)
+  better-is-none : (a b : BestLayout) → better a b ≡ none → (a ≡ none) × (b ≡ none)
   better-is-none none b e = (refl, e)
   better-is-none (found o l) none e = found-not-none e
   better-is-none (found o l) (found p m) e = go (leb o p) e
@@ -58,7 +58,7 @@ module _ (lengths : List ℕ) (run : ℕ) where
       go true q = found-not-none q
       go false q = found-not-none q
 
-  judged-none : (l : List ℕ) → judged lengths run l ≡ none → covers lengths run l ≡ false
+  judged-none : (l : List ℕ) → ifCovering lengths run l ≡ none → covers lengths run l ≡ false
   judged-none l e = go (decided (covers lengths run l))
     where
       go : (covers lengths run l ≡ true) ⊎ (covers lengths run l ≡ false) → covers lengths run l ≡ false
@@ -69,7 +69,7 @@ module _ (lengths : List ℕ) (run : ℕ) where
   unfolding best
   none-short [] e l m = absurd (List·Memᴰ·not-nil m)
   none-short (x ∷ xs) e l m =
-      let p = better-is-none (judged lengths run x) (best lengths run xs) e in
+      let p = better-is-none (ifCovering lengths run x) (best lengths run xs) e in
       go (judged-none x (p .0)) (none-short xs (p .1) l) (List·Memᴰ·cases-cons m)
     where
       go : covers lengths run x ≡ false → (List·Memᴰ l xs → covers lengths run l ≡ false) → (l ≡ x) ⊎ List·Memᴰ l xs → covers lengths run l ≡ false
@@ -142,13 +142,13 @@ module _ (lengths : List ℕ) (run : ℕ) where
           (subst (λ (y : List ℕ). FirstSmallest lengths run (x ∷ xs) p y) (s .1)
           (later p m f (λ w. leb-false (overrun lengths run x) p l)))
 
-      go : (covers lengths run x ≡ true) ⊎ (covers lengths run x ≡ false) → (b : Found) → best lengths run xs ≡ b → IH → FirstSmallest lengths run (x ∷ xs) o c
-      go (inr h) b q r = later o c (r o c (sym (ap (λ (j : Found). better j (best lengths run xs)) (judged-short x h)) ∙ e)) (λ w. absurd (not-both w h))
+      go : (covers lengths run x ≡ true) ⊎ (covers lengths run x ≡ false) → (b : BestLayout) → best lengths run xs ≡ b → IH → FirstSmallest lengths run (x ∷ xs) o c
+      go (inr h) b q r = later o c (r o c (sym (ap (λ (j : BestLayout). better j (best lengths run xs)) (judged-short x h)) ∙ e)) (λ w. absurd (not-both w h))
       go (inl h) none q r =
-          let s = found-same (sym (ap (λ (j : Found). better j (best lengths run xs)) (judged-covers x h) ∙ ap (better (found (overrun lengths run x) x)) q) ∙ e) in
+          let s = found-same (sym (ap (λ (j : BestLayout). better j (best lengths run xs)) (judged-covers x h) ∙ ap (better (found (overrun lengths run x) x)) q) ∙ e) in
           subst (λ (y : ℕ). FirstSmallest lengths run (x ∷ xs) y c) (s .0)
           (subst (λ (y : List ℕ). FirstSmallest lengths run (x ∷ xs) (overrun lengths run x) y) (s .1)
           (at-once h (λ y k w. absurd (not-both w (none-short xs q y k)))))
       go (inl h) (found p m) q r =
           both h p m (r p m q) (leb (overrun lengths run x) p) refl
-          (sym (ap (λ (j : Found). better j (best lengths run xs)) (judged-covers x h) ∙ ap (better (found (overrun lengths run x) x)) q) ∙ e)
+          (sym (ap (λ (j : BestLayout). better j (best lengths run xs)) (judged-covers x h) ∙ ap (better (found (overrun lengths run x) x)) q) ∙ e)

@@ -1,8 +1,8 @@
--- The greatest common divisor is one and is the greatest; the least multiple not below a number; and the floor under every covering layout's overrun.
+-- The greatest common divisor is one and is the greatest; and the floor under every covering layout's overrun.
 -- Assumes nothing.
 use Prim.Native.Nat.{ℕ, zero, suc, _+_, _-_, _*_, _/_, _%_, _≤_, _<_, _∣_}
 use native.Mathlib.Omega.{arith}
-use native.Mathlib.Nat.{lt-div-mul-add, div-lt-iff-lt-mul, dvd-zero, dvd-add, dvd-mul-left, dvd-mul-left-of-dvd, le-of-dvd, mod-eq-zero-of-dvd, dvd-of-mod-eq-zero, div-mul-cancel, mul-le-mul-right, one-dvd, suc-mul, dvd-mod-iff, dvd-refl, pos-of-dvd-of-pos, div-add-mod', mod-lt, lt-of-mul-lt-mul-right}
+use native.Mathlib.Nat.{dvd-zero, dvd-add, dvd-mul-left, dvd-mul-left-of-dvd, le-of-dvd, mod-eq-zero-of-dvd, dvd-of-mod-eq-zero, div-mul-cancel, mul-le-mul-right, one-dvd, suc-mul, dvd-mod-iff, dvd-refl, pos-of-dvd-of-pos, div-add-mod', mod-lt, lt-of-mul-lt-mul-right}
 use native.Mathlib.Decide.{ℕ-discrete}
 use mathlib.Core.Path.{_≡_, refl, sym, ap, _∙_, subst}
 use mathlib.Core.Logic.{_↔_, _⊎_, inl, inr}
@@ -11,11 +11,13 @@ use mathlib.Core.List.{List, [], _∷_, List·Memᴰ, List·Memᴰ·head, List·
 use lib.ListN.{length, getD}
 use lib.Dec.{eqb}
 use borrow.Author.Tests.{eqb-true, eq-eqb, leb-true}
-use Rattle.refusal.specs.Choice.{if_then_else_, allOf}
-use Rattle.refusal.proofs.EachLaws.{getD-member}
-use Rattle.refusal.proofs.TestLaws.{and-left, and-right, and-intro, not-both}
+use Rattle.base.specs.Choice.{if_then_else_, allOf}
+use Rattle.base.specs.Least.{LeastMultiple, nextMultiple}
+use Rattle.base.proofs.ListLaws.{getD-member}
+use Rattle.base.proofs.LeastLaws.{multiple-divided, multiple-from, multiple-least, next-multiple}
+use Rattle.base.proofs.TestLaws.{and-left, and-right, and-intro, not-both}
 use Rattle.panels.specs.Layout.{total, covers, overrun}
-use Rattle.panels.specs.Panels.{greatest, dividesAll, gcd, multipleFrom, floor}
+use Rattle.panels.specs.Panels.{greatest, dividesAll, gcd, floor}
 use Rattle.panels.specs.Promised.{SomeLengths, FloorOf}
 use Rattle.panels.specs.Steps.{CommonDivisors}
 
@@ -76,23 +78,6 @@ unfolding gcd
 gcd-greatest [] f d g = absurd (let h = f .some in omega arith)
 gcd-greatest (l ∷ ls) f d g = greatest-greatest (dividesAll (l ∷ ls)) l d (le-of-dvd (f .each l (List·Memᴰ·head refl)) (g l (List·Memᴰ·head refl))) (divided-all (l ∷ ls) d g)
 
--- "The least multiple, not below it".
-pub multiple-divided : (g n : ℕ) → g ∣ multipleFrom g n
-unfolding multipleFrom
-multiple-divided g n = dvd-mul-left g _
-
-pub multiple-from : (g n : ℕ) → 0 < g → n ≤ multipleFrom g n
-unfolding multipleFrom
-multiple-from g n h = let a = lt-div-mul-add {a = n + (g - 1)} {b = g} h in omega arith
-
-pub multiple-least : (g n m : ℕ) → 0 < g → g ∣ m → n ≤ m → multipleFrom g n ≤ m
-unfolding multipleFrom
-multiple-least g n m h d l =
-    let e = div-mul-cancel g d in
-    let a = div-lt-iff-lt-mul {k = g} {x = n + (g - 1)} {y = suc (m / g)} h .1 (omega (arith, suc-mul (m / g) g)) in
-    let b = mul-le-mul-right {m = (n + (g - 1)) / g} {n = m / g} g (omega arith) in
-    omega arith
-
 -- A layout's total is a multiple of every common divisor, whatever its counts.
 total-divided : (ls : List ℕ) (d : ℕ) (cs : List ℕ) → ((l : ℕ) → List·Memᴰ l ls → d ∣ l) → d ∣ total ls cs
 unfolding total
@@ -104,12 +89,9 @@ total-divided (l ∷ ls) d (c ∷ cs) f = dvd-add d (dvd-mul-left-of-dvd d (f l 
 pub floor-distance : (ls : List ℕ) → SomeLengths ls → (run : ℕ) → FloorOf ls run (floor ls run)
 unfolding floor
 floor-distance ls f run =
-    let up = multiple-from (gcd ls) run (gcd-some ls f) in
-    let there : multipleFrom (gcd ls) run ≡ run + (multipleFrom (gcd ls) run - run) = omega arith in
-    record {
-      multiple = subst (λ (x : ℕ). gcd ls ∣ x) there (multiple-divided (gcd ls) run);
-      least = λ m d h. subst (λ (x : ℕ). x ≤ m) there (multiple-least (gcd ls) run m (gcd-some ls f) d h);
-    }
+    let l = next-multiple (gcd ls) run (gcd-some ls f) in
+    let there : nextMultiple (gcd ls) run ≡ run + (nextMultiple (gcd ls) run - run) = omega (arith, l .holds .not-smaller) in
+    subst (LeastMultiple (gcd ls) run) there l
 
 -- "No covering layout, tried or not, overruns by less than the floor": none with any counts at all.
 pub floor-under : (ls : List ℕ) → SomeLengths ls → (run : ℕ) (cs : List ℕ) → covers ls run cs ≡ true → floor ls run ≤ overrun ls run cs
@@ -178,18 +160,18 @@ divisors-gcd ls r n f e s =
     omega arith
 
 -- The distance up to the least multiple.
-pub distance-whole : (g n : ℕ) → 0 < g → n % g ≡ 0 → 0 ≡ multipleFrom g n - n
+pub distance-whole : (g n : ℕ) → 0 < g → n % g ≡ 0 → 0 ≡ nextMultiple g n - n
 distance-whole g n h e = let l = multiple-least g n n h (dvd-of-mod-eq-zero g e) (omega arith) in omega arith
 
-pub distance-rest : (g n : ℕ) → 0 < g → 0 < n % g → g - n % g ≡ multipleFrom g n - n
+pub distance-rest : (g n : ℕ) → 0 < g → 0 < n % g → g - n % g ≡ nextMultiple g n - n
 distance-rest g n h p =
     let q = n / g in
     let a = div-add-mod' n g in
     let b = mod-lt n {m = g} h in
     let s : suc q * g ≡ q * g + g = suc-mul q g in
-    let up : multipleFrom g n ≤ suc q * g = multiple-least g n (suc q * g) h (dvd-mul-left g (suc q)) (omega arith) in
-    let Q = multipleFrom g n / g in
-    let c : Q * g ≡ multipleFrom g n = div-mul-cancel g (multiple-divided g n) in
+    let up : nextMultiple g n ≤ suc q * g = multiple-least g n (suc q * g) h (dvd-mul-left g (suc q)) (omega arith) in
+    let Q = nextMultiple g n / g in
+    let c : Q * g ≡ nextMultiple g n = div-mul-cancel g (multiple-divided g n) in
     let f = multiple-from g n h in
     let d : q < Q = lt-of-mul-lt-mul-right g {m = q} {n = Q} (omega arith) in
     let k : suc q * g ≤ Q * g = mul-le-mul-right g d in

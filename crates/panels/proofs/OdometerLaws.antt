@@ -8,7 +8,7 @@ use mathlib.Core.Path.{_≡_, refl, ap}
 use mathlib.Core.List.{List, [], _∷_}
 use lib.ListN.{length, getD}
 use borrow.Author.Tests.{lt-ltb, le-ltb}
-use Rattle.refusal.proofs.EachLaws.{getD-member}
+use Rattle.base.proofs.ListLaws.{getD-member}
 use Rattle.panels.specs.declared.odometer.Lengths.{Lengths}
 use Rattle.panels.specs.declared.odometer.Odometer.{Odometer}
 use Rattle.panels.specs.Layout.{total}

@@ -11,19 +11,22 @@ use lib.ListN.{length, take, drop, getD, replicate, length-take, take-append-dro
 use lib.Seq.{take-all, take-take, getD-take}
 use lib.Dec.{leb}
 use borrow.Author.Tests.{le-leb, leb-false, not-true}
-use Rattle.refusal.specs.Answer.{accepted}
+use Rattle.base.specs.Answer.{accepted}
 use Rattle.refusal.specs.Refusal.{unless-refuse}
 use Rattle.refusal.specs.declared.Refusal.the-variants as Row
-use Rattle.refusal.specs.Choice.{if_then_else_}
-use Rattle.refusal.proofs.AnswerLaws.{bound, tested}
-use Rattle.refusal.proofs.EachLaws.{getD-member}
-use Rattle.panels.specs.Layout.{IsLayout, zeroToFifteen, eachBefore, layouts, tried, total, covers, overrun, Found, none, found, judged, better, best}
-use Rattle.panels.specs.Panels.{Panels, gcd, multipleFrom, floor, panelsFor}
+use Rattle.base.specs.Choice.{if_then_else_}
+use Rattle.base.specs.Least.{nextMultiple}
+use Rattle.base.proofs.AnswerLaws.{bound}
+use Rattle.refusal.proofs.RefuseLaws.{tested}
+use Rattle.base.proofs.ListLaws.{getD-member}
+use Rattle.base.proofs.LeastLaws.{multiple-least}
+use Rattle.panels.specs.Layout.{IsLayout, zeroToFifteen, eachBefore, layouts, tried, total, covers, overrun, BestLayout, none, found, ifCovering, better, best}
+use Rattle.panels.specs.Panels.{Panels, gcd, floor, panelsFor}
 use Rattle.panels.specs.Promised.{StockLengths, Limit, FirstSmallest, NoneCovers, NoWorse, PanelsGiven, Panels-given, More-tries, Run-zero}
 use Rattle.panels.proofs.RefusedLaws.{unfit, unlimited, fit-yard, fit-limit}
 use Rattle.panels.proofs.PlaceLaws.{layouts-number, layouts-exactly}
 use Rattle.panels.proofs.BestLaws.{best-append, best-first, best-none}
-use Rattle.panels.proofs.FloorLaws.{gcd-some, multiple-least, floor-distance, floor-under}
+use Rattle.panels.proofs.FloorLaws.{gcd-some, floor-distance, floor-under}
 
 -- What an accepted call is known to satisfy, and its reply.
 pub record Taken (lengths : List ℕ) (run limit : ℕ) (p : Panels) : Type 0 where
@@ -97,11 +100,11 @@ module _ (lengths : List ℕ) (run limit : ℕ) (p : Panels) (e : panelsFor leng
 pub panels-given : Panels-given
 panels-given lengths run limit p e = given lengths run limit p e
 
-no-worse-refl : (a : Found) → NoWorse a a
+no-worse-refl : (a : BestLayout) → NoWorse a a
 no-worse-refl none = tt
 no-worse-refl (found o l) = omega arith
 
-better-no-worse : (a b : Found) → NoWorse (better a b) a
+better-no-worse : (a b : BestLayout) → NoWorse (better a b) a
 better-no-worse none b = tt
 better-no-worse (found o l) none = omega arith
 better-no-worse (found o l) (found q m) = go (leb o q) refl
@@ -132,12 +135,12 @@ no-panels [] k = refl
 no-panels (l ∷ ls) zero = refl
 no-panels (l ∷ ls) (suc k) = omega (arith, no-panels ls k)
 
-nothing-over : (l : List ℕ) (b : Found) → better (found 0 l) b ≡ found 0 l
+nothing-over : (l : List ℕ) (b : BestLayout) → better (found 0 l) b ≡ found 0 l
 nothing-over l none = refl
 nothing-over l (found p m) = rw (le-leb 0 p (omega arith))
 
 pub run-zero : Run-zero
-unfolding tried best judged covers overrun floor
+unfolding tried best ifCovering covers overrun floor
 run-zero lengths limit p e =
     let t = taken lengths 0 limit p e in
     let first = first-layout (length lengths) in
@@ -145,6 +148,6 @@ run-zero lengths limit p e =
     let rest = best lengths 0 (take (limit - 1) (first .0)) in
     let some : limit ≡ suc (limit - 1) = omega (arith, t .limit-is .low) in
     let those : take limit (layouts (length lengths)) ≡ zeros ∷ take (limit - 1) (first .0) = ap (take limit) (first .1) ∙ ap (λ (n : ℕ). take n (zeros ∷ first .0)) some in
-    let own : judged lengths 0 zeros ≡ found 0 zeros = rw (no-panels lengths (length lengths)) in
+    let own : ifCovering lengths 0 zeros ≡ found 0 zeros = rw (no-panels lengths (length lengths)) in
     let low = multiple-least (gcd lengths) 0 0 (gcd-some lengths (t .yard .proper)) (dvd-zero (gcd lengths)) (omega arith) in
-    (t .best-is ∙ ap (best lengths 0) those ∙ ap (λ (f : Found). better f rest) own ∙ nothing-over zeros rest, t .floor-is ∙ (let z : multipleFrom (gcd lengths) 0 - 0 ≡ 0 = omega arith in z))
+    (t .best-is ∙ ap (best lengths 0) those ∙ ap (λ (f : BestLayout). better f rest) own ∙ nothing-over zeros rest, t .floor-is ∙ (let z : nextMultiple (gcd lengths) 0 - 0 ≡ 0 = omega arith in z))

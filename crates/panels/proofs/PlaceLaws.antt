@@ -12,8 +12,8 @@ use lib.ListN.{length, take, getD}
 use lib.Seq.{take-at}
 use lib.Dec.{leb}
 use borrow.Author.Tests.{leb-true, le-leb}
-use Rattle.refusal.specs.Choice.{allOf}
-use Rattle.refusal.proofs.TestLaws.{and-left, and-right, and-intro}
+use Rattle.base.specs.Choice.{allOf}
+use Rattle.base.proofs.TestLaws.{and-left, and-right, and-intro}
 use Rattle.panels.specs.Layout.{IsLayout, zeroToFifteen, eachBefore, layouts, Before}
 use Rattle.panels.specs.Steps.{layoutAt, layoutsFrom}
 

@@ -9,9 +9,9 @@ use lib.ListN.{length, getD, drop}
 use lib.Seq.{drop-cons}
 use lib.Dec.{ltb}
 use borrow.Author.Tests.{lt-ltb, le-ltb}
-use Rattle.refusal.proofs.TestLaws.{or-left, or-right}
+use Rattle.base.proofs.TestLaws.{or-left, or-right}
 use Rattle.panels.specs.Panels.{outOfRange}
-use Rattle.refusal.specs.Choice.{someOf}
+use Rattle.base.specs.Choice.{someOf}
 
 module _ (p : ℕ → Bool) (ls : List ℕ) (i : ℕ) (h : i < length ls) where
   pub found-here : p (getD ls i 0) ≡ true → someOf p (drop i ls) ≡ true

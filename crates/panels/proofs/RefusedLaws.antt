@@ -9,11 +9,11 @@ use mathlib.Core.List.{List, List·Memᴰ}
 use lib.ListN.{length}
 use lib.Dec.{ltb, eqb}
 use borrow.Author.Tests.{ltb-true, ltb-false, lt-ltb, le-ltb, eqb-true, eqb-false, eq-eqb, ne-eqb}
-use Rattle.refusal.specs.Answer.{accepted, refused, _>>=_}
+use Rattle.base.specs.Answer.{accepted, refused, _>>=_}
 use Rattle.refusal.specs.Refusal.{unless-refuse}
 use Rattle.refusal.specs.declared.Refusal.the-variants as Row
-use Rattle.refusal.specs.Choice.{someOf}
-use Rattle.refusal.proofs.TestLaws.{or-cases, or-left, or-right, not-both, any-intro, any-elim, decided, impossible, or-false}
+use Rattle.base.specs.Choice.{someOf}
+use Rattle.base.proofs.TestLaws.{or-cases, or-left, or-right, not-both, any-intro, any-elim, decided, impossible, or-false}
 use Rattle.panels.specs.Layout.{none}
 use Rattle.panels.specs.Panels.{Panels, outOfRange, panelsFor}
 use Rattle.panels.specs.Promised.{StockLengths, Limit, Unfit, Panels-sixteen, Panels-seventeen, Panels-answered}

@@ -9,14 +9,14 @@ use mathlib.Core.Bool.{true, false}
 use mathlib.Core.List.{List, []}
 use lib.ListN.{length, take}
 use lib.Seq.{take-all}
-use Rattle.refusal.specs.Choice.{someOf}
-use Rattle.refusal.specs.Answer.{accepted, refused}
-use Rattle.refusal.proofs.TestLaws.{any-elim}
+use Rattle.base.specs.Choice.{someOf}
+use Rattle.base.specs.Answer.{accepted, refused}
+use Rattle.base.proofs.TestLaws.{any-elim}
 use Rattle.panels.specs.declared.search.Tried.{Tried}
 use Rattle.panels.specs.Layout.{layouts, tried, best}
 use Rattle.panels.specs.Panels.{outOfRange, floor, panelsFor}
 use Rattle.panels.specs.Promised.{StockLengths, Limit}
-use Rattle.panels.specs.Reply.{placesOf, repliedBest, replied}
+use Rattle.panels.specs.Reply.{countPlaces, repliedBest, layoutReplied}
 use Rattle.panels.specs.Steps.{layoutAt, layoutsFrom, foundAt, Searched}
 use Rattle.panels.proofs.PlaceLaws.{layouts-from, layouts-taken, layouts-number, from-length}
 use Rattle.panels.proofs.RefusedLaws.{sixteen-exactly, seventeen-exactly, panels-answered}
@@ -52,18 +52,18 @@ tried-from ls limit = go (decLe limit (16 ^ length ls))
 
 -- The reply, from the tries and the floor.
 module _ (ls : List ℕ) (run limit : ℕ) (y : StockLengths ls) (l : Limit limit) (t : Tried) (end f : ℕ) (s : Searched ls run end t) (e : end ≡ min limit (16 ^ length ls)) (g : f ≡ floor ls run) where
-  from-tries : repliedBest (foundAt (length ls) (t .kept)) (t .tries) f ≡ replied (panelsFor ls run limit)
-  unfolding replied
+  from-tries : repliedBest (foundAt (length ls) (t .kept)) (t .tries) f ≡ layoutReplied (panelsFor ls run limit)
+  unfolding layoutReplied
   from-tries =
       let those : layoutsFrom (length ls) 0 (t .tries) ≡ tried ls limit = ap (layoutsFrom (length ls) 0) (s .made ∙ e) ∙ sym (tried-from ls limit) in
       let kept : foundAt (length ls) (t .kept) ≡ best ls run (tried ls limit) = s .kept ∙ ap (best ls run) those in
       let number : t .tries ≡ length (tried ls limit) = sym (from-length (length ls) 0 (t .tries)) ∙ ap length those in
       rw (panels-answered ls run limit y l, kept, number, g)
 
-  pub found-replied : (counts : List ℕ) → t .kept .found ≡ true → counts ≡ placesOf (layoutAt (length ls) (t .kept .place))
-      → record { answer = accepted tt; found = true; overrun = t .kept .overrun; counts = counts; tries = t .tries; floor = f } ≡ replied (panelsFor ls run limit)
+  pub found-replied : (counts : List ℕ) → t .kept .found ≡ true → counts ≡ countPlaces (layoutAt (length ls) (t .kept .place))
+      → record { answer = accepted tt; found = true; overrun = t .kept .overrun; counts = counts; tries = t .tries; floor = f } ≡ layoutReplied (panelsFor ls run limit)
   found-replied counts h c = rw (h, sym c) at from-tries
 
   pub none-replied : t .kept .found ≡ false
-      → record { answer = accepted tt; found = false; overrun = 0; counts = placesOf []; tries = t .tries; floor = f } ≡ replied (panelsFor ls run limit)
+      → record { answer = accepted tt; found = false; overrun = 0; counts = countPlaces []; tries = t .tries; floor = f } ≡ layoutReplied (panelsFor ls run limit)
   none-replied h = rw h at from-tries

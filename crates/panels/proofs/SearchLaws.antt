@@ -8,11 +8,11 @@ use mathlib.Core.List.{List, [], _∷_}
 use lib.ListN.{length}
 use lib.Dec.{leb}
 use borrow.Author.Tests.{le-leb, lt-leb}
-use Rattle.refusal.specs.Choice.{if_then_else_}
+use Rattle.base.specs.Choice.{if_then_else_}
 use Rattle.panels.specs.declared.odometer.Lengths.{Lengths}
 use Rattle.panels.specs.declared.odometer.Odometer.{Odometer}
 use Rattle.panels.specs.declared.search.Kept.{Kept}
-use Rattle.panels.specs.Layout.{total, covers, overrun, none, found, judged, better, best}
+use Rattle.panels.specs.Layout.{total, covers, overrun, none, found, ifCovering, better, best}
 use Rattle.panels.specs.Promised.{StockLengths}
 use Rattle.panels.specs.Steps.{layoutAt, layoutsFrom, fourLengths, Shows, Advances, foundAt, JudgedNext}
 use Rattle.panels.proofs.PlaceLaws.{from-append}
@@ -57,21 +57,21 @@ tried-none ls run l e = record { lengths = e; shows = shows-first l; best-kept =
 
 module _ (ls : List ℕ) (run : ℕ) where
   -- A layout judged by its total.
-  judged-by : (c : List ℕ) (t : ℕ) → total ls c ≡ t → judged ls run c ≡ (if leb run t then found (t - run) c else none)
-  unfolding judged covers overrun
+  judged-by : (c : List ℕ) (t : ℕ) → total ls c ≡ t → ifCovering ls run c ≡ (if leb run t then found (t - run) c else none)
+  unfolding ifCovering covers overrun
   judged-by c t e = rw e
 
-  best-one : (c : List ℕ) → best ls run (c ∷ []) ≡ judged ls run c
+  best-one : (c : List ℕ) → best ls run (c ∷ []) ≡ ifCovering ls run c
   unfolding best
-  best-one c = better-none (judged ls run c)
+  best-one c = better-none (ifCovering ls run c)
 
   -- The tries so far and the next.
-  one-more : (k n : ℕ) → best ls run (layoutsFrom k 0 (n + 1)) ≡ better (best ls run (layoutsFrom k 0 n)) (judged ls run (layoutAt k n))
+  one-more : (k n : ℕ) → best ls run (layoutsFrom k 0 (n + 1)) ≡ better (best ls run (layoutsFrom k 0 n)) (ifCovering ls run (layoutAt k n))
   unfolding layoutsFrom
   one-more k n =
       ap (best ls run) (from-append k 0 n 1)
       ∙ best-append ls run (layoutsFrom k 0 n) (layoutAt k (0 + n) ∷ [])
-      ∙ ap (better (best ls run (layoutsFrom k 0 n))) (best-one (layoutAt k (0 + n)) ∙ ap (λ (i : ℕ). judged ls run (layoutAt k i)) (zero-add n))
+      ∙ ap (better (best ls run (layoutsFrom k 0 n))) (best-one (layoutAt k (0 + n)) ∙ ap (λ (i : ℕ). ifCovering ls run (layoutAt k i)) (zero-add n))
 
   pub tried-next : StockLengths ls → {l : Lengths} {o next : Odometer} {kept after : Kept} {tries : ℕ} → tries < 65536 → TriedSo ls run l o kept tries
       → JudgedNext kept (o .total) run tries after → Advances l o next → TriedSo ls run l next after (tries + 1)

@@ -7,7 +7,7 @@ use mathlib.Core.Bool.{Bool, true}
 use mathlib.Core.List.{List, [], _∷_, _++_, map}
 use lib.ListN.{length, take}
 use lib.Dec.{leb}
-use Rattle.refusal.specs.Choice.{if_then_else_, allOf}
+use Rattle.base.specs.Choice.{if_then_else_, allOf}
 
 -- The layouts, in order
 
@@ -16,7 +16,8 @@ pub record IsLayout (lengths counts : List ℕ) : Type 0 where
   pub each : length counts ≡ length lengths
   pub to-fifteen : allOf (λ c. leb c 15) counts ≡ true
 
--- "Rising order of their counts, the last length's changing fastest": at the first count in which two layouts differ, the lesser comes first.
+-- "Rising order of their counts, the last length's changing fastest": at the first count in which two layouts differ, the lesser
+-- comes first (lexicographic order).
 abbrev pub Before : (l m : List ℕ) → Type 0
 Before [] m = ⊥
 Before (c ∷ l) [] = ⊥
@@ -56,21 +57,21 @@ unfoldable pub overrun : (lengths : List ℕ) (run : ℕ) (counts : List ℕ) �
 overrun lengths run counts = total lengths counts - run
 
 -- "The smallest overrun among those tried, its first layout"; none where no tried layout covers.
-pub data Found : Type 0 where
-  none : Found
-  found : (overrun : ℕ) (counts : List ℕ) → Found
+pub data BestLayout : Type 0 where
+  none : BestLayout
+  found : (overrun : ℕ) (counts : List ℕ) → BestLayout
 
 -- One layout by itself.
-unfoldable pub judged : (lengths : List ℕ) (run : ℕ) (counts : List ℕ) → Found
-judged lengths run counts = if covers lengths run counts then found (overrun lengths run counts) counts else none
+unfoldable pub ifCovering : (lengths : List ℕ) (run : ℕ) (counts : List ℕ) → BestLayout
+ifCovering lengths run counts = if covers lengths run counts then found (overrun lengths run counts) counts else none
 
 -- The smaller overrun; the first of two equal ones.
-abbrev pub better : Found → Found → Found
+abbrev pub better : BestLayout → BestLayout → BestLayout
 better none b = b
 better (found o l) none = found o l
 better (found o l) (found p m) = if leb o p then found o l else found p m
 
 -- The best of a list of layouts (laws best-first, best-none).
-unfoldable pub best : (lengths : List ℕ) (run : ℕ) (layouts : List (List ℕ)) → Found
+unfoldable pub best : (lengths : List ℕ) (run : ℕ) (layouts : List (List ℕ)) → BestLayout
 best lengths run [] = none
-best lengths run (l ∷ ls) = better (judged lengths run l) (best lengths run ls)
+best lengths run (l ∷ ls) = better (ifCovering lengths run l) (best lengths run ls)

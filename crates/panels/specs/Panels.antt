@@ -1,15 +1,16 @@
 -- Panels for one run: the floor, the reply, and refusals 16 and 17. Document 02, request 13.
 -- Assumes nothing.
-use Prim.Native.Nat.{ℕ, zero, suc, _+_, _-_, _*_, _/_, _%_}
+use Prim.Native.Nat.{ℕ, zero, suc, _-_, _%_}
 use mathlib.Core.Bool.{Bool, _||_, not}
 use mathlib.Core.List.{List, [], _∷_}
 use lib.ListN.{length}
 use lib.Dec.{ltb, eqb}
-use Rattle.refusal.specs.Choice.{if_then_else_, someOf, allOf}
-use Rattle.refusal.specs.Answer.{Answer, accepted, _>>=_}
+use Rattle.base.specs.Choice.{if_then_else_, someOf, allOf}
+use Rattle.base.specs.Least.{nextMultiple}
+use Rattle.base.specs.Answer.{Answer, accepted, _>>=_}
 use Rattle.refusal.specs.Refusal.{unless-refuse}
 use Rattle.refusal.specs.declared.Refusal.the-variants as Row
-use Rattle.panels.specs.Layout.{Found, tried, best}
+use Rattle.panels.specs.Layout.{BestLayout, tried, best}
 
 -- The floor
 
@@ -27,20 +28,16 @@ unfoldable pub gcd : (lengths : List ℕ) → ℕ
 gcd [] = 0
 gcd (l ∷ ls) = greatest (dividesAll (l ∷ ls)) l
 
--- "The least multiple" of g that is "not below" n (laws multiple-divided, multiple-from, multiple-least).
-unfoldable pub multipleFrom : (g n : ℕ) → ℕ
-multipleFrom g n = (n + (g - 1)) / g * g
-
 -- "The floor is the distance from the run's length up to the least multiple, not below it, of the lengths' greatest common divisor" (law
 -- panels-given).
 unfoldable pub floor : (lengths : List ℕ) (run : ℕ) → ℕ
-floor lengths run = multipleFrom (gcd lengths) run - run
+floor lengths run = nextMultiple (gcd lengths) run - run
 
 -- The call
 
 -- "The smallest overrun among those tried, its first layout, the tries made, and the floor"; none "still carries tries and floor".
 pub record Panels : Type 0 where
-  pub best : Found
+  pub best : BestLayout
   pub tries : ℕ
   pub floor : ℕ
 

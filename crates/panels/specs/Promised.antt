@@ -1,15 +1,16 @@
 -- Document 02's request 13 as statements about the call: when it is refused, and what is promised of every call that is not.
 -- Assumes nothing.
-use Prim.Native.Nat.{ℕ, _+_, _^_, _≤_, _<_, _∣_, min}
+use Prim.Native.Nat.{ℕ, _+_, _^_, _≤_, _<_, min}
 use mathlib.Core.Path.{_≡_}
 use mathlib.Core.Logic.{_↔_, _⊎_}
 use mathlib.Core.Bool.{true, false}
 use mathlib.Core.List.{List, [], _∷_, List·Memᴰ}
 use lib.ListN.{length, getD, replicate}
-use Rattle.refusal.specs.Choice.{Passing}
-use Rattle.refusal.specs.Answer.{accepted, refused}
+use Rattle.base.specs.Choice.{Passing}
+use Rattle.base.specs.Answer.{accepted, refused}
+use Rattle.base.specs.Least.{LeastMultiple}
 use Rattle.panels.specs.Layout as spec
-use Rattle.panels.specs.Layout.{IsLayout, layouts, tried, Found, none, found}
+use Rattle.panels.specs.Layout.{IsLayout, layouts, tried, BestLayout, none, found}
 use Rattle.panels.specs.Panels.{Panels, gcd, floor, mostLengths, outOfRange, panelsFor}
 
 -- What is refused
@@ -66,16 +67,14 @@ abbrev pub NoneCovers : (lengths : List ℕ) (run : ℕ) (layouts : List (List �
 NoneCovers lengths run layouts = (l : List ℕ) → List·Memᴰ l layouts → spec.covers lengths run l ≡ false
 
 -- The overrun is no worse; none is worse than any.
-abbrev pub NoWorse : (a b : Found) → Type 0
+abbrev pub NoWorse : (a b : BestLayout) → Type 0
 NoWorse a none = Unit {0}
 NoWorse none (found p m) = ⊥
 NoWorse (found o l) (found p m) = o ≤ p
 
--- "The floor is the distance from the run's length up to the least multiple, not below it, of the lengths' greatest common divisor": that far up from
--- the run's length stands a multiple, and no multiple not below the run's length is less.
-pub record FloorOf (lengths : List ℕ) (run distance : ℕ) : Type 0 where
-  pub multiple : gcd lengths ∣ run + distance
-  pub least : (m : ℕ) → gcd lengths ∣ m → run ≤ m → run + distance ≤ m
+-- "The floor is the distance from the run's length up to the least multiple, not below it, of the lengths' greatest common divisor".
+abbrev pub FloorOf : (lengths : List ℕ) (run distance : ℕ) → Type 0
+FloorOf lengths run distance = LeastMultiple (gcd lengths) run (run + distance)
 
 -- What is promised of the reply p of a call that is not refused.
 pub record PanelsGiven (lengths : List ℕ) (run limit : ℕ) (p : Panels) : Type 0 where

@@ -6,12 +6,12 @@ use mathlib.Core.Logic.{_↔_}
 use mathlib.Core.List.{List, [], _∷_, _++_}
 use lib.ListN.{length, getD}
 use lib.Dec.{leb, ltb}
-use Rattle.refusal.specs.Choice.{if_then_else_}
+use Rattle.base.specs.Choice.{if_then_else_}
 use Rattle.panels.specs.declared.odometer.Lengths.{Lengths}
 use Rattle.panels.specs.declared.odometer.Odometer.{Odometer}
 use Rattle.panels.specs.declared.search.Kept.{Kept}
 use Rattle.panels.specs.declared.search.Tried.{Tried}
-use Rattle.panels.specs.Layout.{Found, none, found, better, best}
+use Rattle.panels.specs.Layout.{BestLayout, none, found, better, best}
 
 -- The divisors of r are the common divisors of a and b.
 abbrev pub CommonDivisors : (a b r : ℕ) → Type 0
@@ -65,7 +65,7 @@ Advances l o r = (place : ℕ) → Shows l place o → Shows l (place + 1) r
 -- What is kept
 
 -- The layout at the place kept, of so many lengths.
-abbrev pub foundAt : (number : ℕ) → Kept → Found
+abbrev pub foundAt : (number : ℕ) → Kept → BestLayout
 foundAt k r = if r .found then found (r .overrun) (layoutAt k (r .place)) else none
 
 -- After one more try, of the layout at a place with this total.

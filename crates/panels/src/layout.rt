@@ -2,17 +2,18 @@
 use super::floor::floor_of;
 use super::reply::Layout;
 use super::search::try_layouts;
+use base::min;
 use refusal::Outcome;
 use refusal::Refusal;
 ghost use mathlib.Core.Path.{_≡_};
 ghost use mathlib.Core.Bool.{false};
-ghost use Prim.Native.Nat.{_≤_, _^_, min};
+ghost use Prim.Native.Nat.{_≤_, _^_};
 ghost use lib.ListN.{length};
-ghost use Rattle.refusal.specs.Choice.{someOf};
+ghost use Rattle.base.specs.Choice.{someOf};
 ghost use Rattle.refusal.specs.Refusal.{refusal};
 ghost use Rattle.panels.specs.Panels.{outOfRange, panelsFor};
 ghost use Rattle.panels.specs.Promised.{StockLengths, Limit};
-ghost use Rattle.panels.specs.Reply.{placesOf, replied, layoutReply};
+ghost use Rattle.panels.specs.Reply.{countPlaces, layoutReplied, layoutReply};
 ghost use Rattle.panels.specs.Steps.{layoutAt};
 
 // Whether a length is out of its range.
@@ -50,16 +51,10 @@ fn layout_number(number: usize) -> u64
     65536
 }
 
-fn lesser(a: u64, b: u64) -> u64
-    ensures { λ r. ⌜ r ≡ min a b ⌝ }
-{
-    if a < b { a } else { b }
-}
-
 // The counts of the layout at a place.
 fn counts_at(number: usize, place: u64) -> [u64; 4]
     requires { ⌜ (1 ≤ number) × (number ≤ 4) ⌝ }
-    ensures { λ r. ⌜ r ≡ placesOf (layoutAt number place) ⌝ }
+    ensures { λ r. ⌜ r ≡ countPlaces (layoutAt number place) ⌝ }
 {
     let last = place % 16;
     let before = place / 16;
@@ -81,7 +76,7 @@ fn counts_at(number: usize, place: u64) -> [u64; 4]
 
 // A refusal, and zeros beside it.
 fn refused(why: Refusal) -> Layout
-    ensures { λ r. ⌜ layoutReply r ≡ replied (refusal why) ⌝ }
+    ensures { λ r. ⌜ layoutReply r ≡ layoutReplied (refusal why) ⌝ }
 {
     Layout {
         outcome: Outcome::Refused(why),
@@ -97,11 +92,11 @@ fn refused(why: Refusal) -> Layout
 fn best_layout(lengths: &[u64], run: u64, limit: u64) -> Layout
     requires { ⌜ StockLengths (now lengths) ⌝ }
     requires { ⌜ Limit limit ⌝ }
-    ensures { λ r. ⌜ layoutReply r ≡ replied (panelsFor (now (lengths .entry)) run limit) ⌝ }
+    ensures { λ r. ⌜ layoutReply r ≡ layoutReplied (panelsFor (now (lengths .entry)) run limit) ⌝ }
 {
     let number = lengths.len();
     let floor = floor_of(lengths, run);
-    let tried = try_layouts(lengths, run, lesser(limit, layout_number(number)));
+    let tried = try_layouts(lengths, run, min(limit, layout_number(number)));
     let kept = tried.kept;
     let tries = tried.tries;
     if kept.found {
@@ -127,7 +122,7 @@ fn best_layout(lengths: &[u64], run: u64, limit: u64) -> Layout
 // Of one to four panel lengths, each 1 to 20,000, and counts 0 to 15 of each: the smallest overrun of the run among the first `limit` layouts and
 // its first layout, or none; the tries made; the floor. Or the first refusal: 16, then 17.
 pub fn layout(lengths: &[u64], run: u64, limit: u64) -> Layout
-    ensures { λ r. ⌜ layoutReply r ≡ replied (panelsFor (now (lengths .entry)) run limit) ⌝ }
+    ensures { λ r. ⌜ layoutReply r ≡ layoutReplied (panelsFor (now (lengths .entry)) run limit) ⌝ }
 {
     let number = lengths.len();
     if number == 0 {

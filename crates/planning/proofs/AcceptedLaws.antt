@@ -9,8 +9,8 @@ use mathlib.Core.List.{List, [], _∷_, _++_, append-nil, List·Memᴰ, List·Me
 use lib.ListN.{length}
 use lib.Dec.{ltb}
 use borrow.Author.Tests.{le-ltb}
-use Rattle.refusal.specs.Answer.{accepted}
-use Rattle.refusal.proofs.AnswerLaws.{bound}
+use Rattle.base.specs.Answer.{accepted}
+use Rattle.base.proofs.AnswerLaws.{bound}
 use Rattle.job.specs.declared.Header.{Header}
 use Rattle.job.specs.declared.Hazard.{Hazard}
 use Rattle.job.specs.Job.{Job, readJob}
@@ -20,7 +20,7 @@ use Rattle.number.specs.Form.{Bytes}
 use Rattle.planning.specs.Envelope.{reached, standsNear, testHazard, testHazards, acceptJob}
 use Rattle.planning.specs.Rows.{Passed, AcceptedFits}
 use Rattle.planning.proofs.EnvelopeLaws.{accepted-fits}
-use Rattle.refusal.proofs.TestLaws.{not-and-intro}
+use Rattle.base.proofs.TestLaws.{not-and-intro}
 
 pub hazard-passes : (h : Header) (i : ℕ) (z : Hazard) → Passed h z → testHazard h i z ≡ accepted tt
 unfolding testHazard standsNear

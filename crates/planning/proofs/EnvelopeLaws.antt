@@ -9,11 +9,12 @@ use mathlib.Core.List.{List, [], _∷_, Memᴰ·map, Memᴰ·of-map, List·Mem�
 use lib.ListN.{length, length-map}
 use lib.Dec.{eqb}
 use borrow.Author.Tests.{ltb-false, eqb-true, eq-eqb}
-use Rattle.refusal.specs.Choice.{if_then_else_}
-use Rattle.refusal.specs.Answer.{accepted}
-use Rattle.refusal.proofs.TestLaws.{and-left, and-right, and-intro, or-left, or-right, not-and}
-use Rattle.refusal.proofs.AnswerLaws.{bound, tested}
-use Rattle.refusal.proofs.EachLaws.{cons-each}
+use Rattle.base.specs.Choice.{if_then_else_}
+use Rattle.base.specs.Answer.{accepted}
+use Rattle.base.proofs.TestLaws.{and-left, and-right, and-intro, or-left, or-right, not-and}
+use Rattle.base.proofs.AnswerLaws.{bound}
+use Rattle.refusal.proofs.RefuseLaws.{tested}
+use Rattle.base.proofs.ListLaws.{cons-each}
 use Rattle.approach.specs.Approach.{Domain}
 use Rattle.job.specs.declared.Header.{Header}
 use Rattle.job.specs.declared.Hazard.{Hazard}

@@ -8,8 +8,8 @@ use mathlib.Core.Path.{_≡_, refl}
 use mathlib.Core.Logic.{_↔_}
 use mathlib.Core.Bool.{Bool, true, false}
 use mathlib.Core.List.{List·Memᴰ}
-use Rattle.refusal.specs.Choice.{if_then_else_}
-use Rattle.refusal.proofs.TestLaws.{or-left, or-right}
+use Rattle.base.specs.Choice.{if_then_else_}
+use Rattle.base.proofs.TestLaws.{or-left, or-right}
 use Rattle.approach.specs.Panel.{raisedLength}
 use Rattle.approach.proofs.ApproachLaws.{divisor-some}
 use Rattle.approach.proofs.PanelLaws.{raised-length-below}

@@ -9,10 +9,11 @@ use mathlib.Core.Logic.{_⊎_, inl, inr}
 use mathlib.Core.Bool.{Bool, true, false, _&&_, _||_, and-false}
 use lib.Dec.{ltb, eqb}
 use borrow.Author.Tests.{ltb-true, lt-ltb, le-ltb, eq-eqb}
-use Rattle.refusal.specs.Choice.{if_then_else_}
-use Rattle.refusal.proofs.TestLaws.{and-left, and-right, and-intro, or-cases, or-left, or-right}
+use Rattle.base.specs.Choice.{if_then_else_}
+use Rattle.base.proofs.TestLaws.{and-left, and-right, and-intro, or-cases, or-left, or-right, same-test}
 use Rattle.approach.specs.Approach.{approachLength, Domain}
-use Rattle.approach.specs.Panel.{LeastMultiple, raisedLength}
+use Rattle.base.specs.Least.{LeastMultiple}
+use Rattle.approach.specs.Panel.{raisedLength}
 use Rattle.approach.proofs.PanelLaws.{raised-least, raised-length-fits}
 use Rattle.job.specs.declared.Header.{Header}
 use Rattle.job.specs.declared.Hazard.{Hazard}
@@ -38,12 +39,6 @@ pub reaches-far :
 unfolding reaches reachOf offsetOf farther
 reaches-far h z t e = rw e (refl, refl, refl)
 
--- A hazard is reached exactly if n < C: far traffic reaches only where adjacent traffic does.
-same-test : (a b : Bool) → (a ≡ true → b ≡ true) → (b ≡ true → a ≡ true) → a ≡ b
-same-test true b f g = sym (f refl)
-same-test false true f g = g refl
-same-test false false f g = refl
-
 in-zone : (h : Header) (z : Hazard) (t : Traffic) → reaches h z t ≡ true → z .near + farther h (z .side) t < h .zone
 unfolding reaches
 in-zone h z t r = ltb-true (z .near + farther h (z .side) t) (h .zone) (and-right (present h t) _ r)
@@ -51,6 +46,7 @@ in-zone h z t r = ltb-true (z .near + farther h (z .side) t) (h .zone) (and-righ
 adjacent-reaches : (h : Header) (z : Hazard) (t : Traffic) → present h t ≡ true → adjacent h (z .side) t ≡ true → ltb (z .near) (h .zone) ≡ true → reaches h z t ≡ true
 adjacent-reaches h z t p a l = rw (reaches-adjacent h z t a .0) (and-intro p l)
 
+-- A hazard is reached exactly if n < C: far traffic reaches only where adjacent traffic does.
 pub reached-near : (h : Header) (z : Hazard) → z .side ≤ 1 → reached h z ≡ ltb (z .near) (h .zone)
 unfolding reached
 reached-near h z s = same-test (reached h z) (ltb (z .near) (h .zone)) to from

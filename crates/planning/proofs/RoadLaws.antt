@@ -7,8 +7,8 @@ use mathlib.Core.Path.{_≡_, refl}
 use mathlib.Core.Bool.{Bool, true, false, _&&_}
 use mathlib.Core.List.{List, [], _∷_, map, List·Memᴰ, List·Memᴰ·head, List·Memᴰ·tail}
 use lib.Dec.{eqb}
-use Rattle.refusal.specs.Choice.{if_then_else_}
-use Rattle.refusal.proofs.TestLaws.{and-right}
+use Rattle.base.specs.Choice.{if_then_else_}
+use Rattle.base.proofs.TestLaws.{and-right}
 use Rattle.job.specs.declared.Header.{Header}
 use Rattle.job.specs.declared.Hazard.{Hazard}
 use Rattle.job.specs.Job.{Job}

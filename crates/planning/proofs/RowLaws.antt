@@ -10,12 +10,12 @@ use mathlib.Core.List.{List, [], _∷_, List·Memᴰ·not-nil}
 use lib.ListN.{length}
 use lib.Dec.{ltb}
 use borrow.Author.Tests.{ltb-true, lt-ltb}
-use Rattle.refusal.specs.Answer.{Answer, accepted, refused, _>>=_}
+use Rattle.base.specs.Answer.{Answer, accepted, refused, _>>=_}
 use Rattle.refusal.specs.Refusal.{unless-refuse, numberOf, valueOf, refusal}
 use Rattle.refusal.specs.declared.Refusal.the-variants as Row
 use Rattle.refusal.specs.declared.Refusal.{Refusal}
 use Rattle.refusal.proofs.RowLaws.{same-row}
-use Rattle.refusal.proofs.EachLaws.{cons-each}
+use Rattle.base.proofs.ListLaws.{cons-each}
 use Rattle.job.specs.declared.Header.{Header}
 use Rattle.job.specs.declared.Hazard.{Hazard}
 use Rattle.job.specs.Job.{Job, readJob}
@@ -25,7 +25,7 @@ use Rattle.planning.specs.Envelope.{reached, standsNear, testHazard, tes
 use Rattle.planning.specs.Rows.{Near, Passed, FirstNear, FirstNearOf, JobRow, of-reading, near-barrier}
 use Rattle.planning.proofs.EnvelopeLaws.{hazard-passed}
 use Rattle.planning.proofs.AcceptedLaws.{hazards-pass}
-use Rattle.refusal.proofs.TestLaws.{impossible}
+use Rattle.base.proofs.TestLaws.{impossible}
 
 test-exactly : (h : Header) (i n v : ℕ) (z : Hazard) → (testHazard h i z ≡ refused n v) ↔ ((n ≡ 5) × (v ≡ i) × Near h z)
 unfolding testHazard standsNear

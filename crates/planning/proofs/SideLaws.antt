@@ -4,7 +4,7 @@ use Prim.Native.Nat.{ℕ}
 use native.Mathlib.Omega.{arith}
 use mathlib.Core.Path.{_≡_, refl, sym, _∙_}
 use mathlib.Core.List.{List}
-use Rattle.refusal.specs.Answer.{Answer, accepted, refused, _>>=_}
+use Rattle.base.specs.Answer.{Answer, accepted, refused, _>>=_}
 use Rattle.refusal.specs.Refusal.{refusal, outcome}
 use Rattle.refusal.specs.declared.Refusal.{Refusal}
 use Rattle.refusal.specs.declared.Outcome.{Outcome}
@@ -21,7 +21,7 @@ use Rattle.planning.specs.Reply.{Cuts, cutsOf, testedEnvelopes, testedRu
 use Rattle.planning.specs.declared.accept.SideEnvelopes.{SideEnvelopes}
 use Rattle.planning.proofs.EnvelopeLaws.{tested-fit}
 use Rattle.planning.proofs.AcceptLaws.{Replies}
-use Rattle.refusal.proofs.TestLaws.{impossible}
+use Rattle.base.proofs.TestLaws.{impossible}
 
 -- The runs of a tested job are those of its envelopes.
 runs-tested : (j : Job) (side : ℕ) → testedRuns j side ≡ (testedEnvelopes j side >>= λ c. accepted (requiredRuns (c .envelopes) (j .header .continuity)))

@@ -3,7 +3,7 @@
 use Prim.Native.Nat.{ℕ}
 use mathlib.Core.List.{List, [], _∷_, _++_, map}
 use lib.ListN.{length}
-use Rattle.refusal.specs.Answer.{Answer, accepted, _>>=_}
+use Rattle.base.specs.Answer.{Answer, accepted, _>>=_}
 use Rattle.refusal.specs.Refusal.{refusal, outcome}
 use Rattle.refusal.specs.declared.Outcome.{Outcome}
 use Rattle.job.specs.declared.Header.{Header}
@@ -48,10 +48,10 @@ a followedBy b = record { envelopes = a .envelopes ++ b .envelopes; overhangs = 
 unfoldable pub testedHazard : Header → (side index : ℕ) → Hazard → Answer Cuts
 testedHazard h side i z = spec.testHazard h i z >>= λ _. accepted (cutsOf h side (z ∷ []))
 
-abbrev pub hazardAnswer : Tested → Answer Cuts
-hazardAnswer (Tested.Envelope e) = accepted (record { envelopes = e .stretch ∷ []; overhangs = e .overhangs })
-hazardAnswer Tested.Without = accepted noCuts
-hazardAnswer (Tested.Refused r) = refusal r
+abbrev pub testedAnswer : Tested → Answer Cuts
+testedAnswer (Tested.Envelope e) = accepted (record { envelopes = e .stretch ∷ []; overhangs = e .overhangs })
+testedAnswer Tested.Without = accepted noCuts
+testedAnswer (Tested.Refused r) = refusal r
 
 -- A job's hazards tested, and then the envelopes of a side.
 unfoldable pub testedEnvelopes : Job → (side : ℕ) → Answer Cuts

@@ -2,6 +2,7 @@
 use super::Overhangs;
 use super::envelope::Tested;
 use super::envelope::test_hazard;
+use base::max;
 use job::StoredJob;
 use job::unnamed;
 use refusal::Outcome;
@@ -9,8 +10,7 @@ use refusal::Refusal;
 use runs::Envelopes;
 ghost use mathlib.Core.Path.{_≡_};
 ghost use mathlib.Core.List.{[]};
-ghost use Prim.Native.Nat.{max};
-ghost use Rattle.refusal.specs.Stored.{acceptedOr};
+ghost use Rattle.base.specs.Stored.{acceptedOr};
 ghost use Rattle.refusal.specs.declared.Outcome.the-variants.{Refused};
 ghost use Rattle.job.specs.Job.{jobOf};
 ghost use Rattle.job.specs.Fits.{JobFits};
@@ -24,19 +24,13 @@ pub struct SideEnvelopes {
     pub overhangs: Overhangs,
 }
 
-fn larger(a: u64, b: u64) -> u64
-    ensures { λ r. ⌜ r ≡ max a b ⌝ }
-{
-    if a < b { b } else { a }
-}
-
 // The greater overhang, at each end by itself.
 fn greater_of(a: Overhangs, b: Overhangs) -> Overhangs
     ensures { λ r. ⌜ r ≡ greater a b ⌝ }
 {
     Overhangs {
-        before: larger(a.before, b.before),
-        after: larger(a.after, b.after),
+        before: max(a.before, b.before),
+        after: max(a.after, b.after),
     }
 }
 

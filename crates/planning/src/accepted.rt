@@ -8,7 +8,7 @@ use refusal::Outcome;
 use refusal::Refusal;
 ghost use mathlib.Core.Path.{_≡_};
 ghost use Rattle.refusal.specs.Refusal.{outcome};
-ghost use Rattle.refusal.specs.Stored.{acceptedOr};
+ghost use Rattle.base.specs.Stored.{acceptedOr};
 ghost use Rattle.job.specs.Job.{jobOf, readJob};
 ghost use Rattle.job.specs.Reply.{noJob, storedJob, jobAnswer};
 ghost use Rattle.job.specs.Fits.{JobFits};

@@ -1,15 +1,17 @@
 // Which traffic reaches a hazard, the hazard's envelope, cut at the road's ends, and its test.
 use super::Overhangs;
 use super::near::stands_near;
+use base::min;
+use base::saturating_sub;
 use job::Hazard;
 use job::Header;
 use refusal::Refusal;
 use runs::Stretch;
 ghost use mathlib.Core.Path.{_≡_};
-ghost use Prim.Native.Nat.{_+_, _-_, _≤_, _<_, min};
+ghost use Prim.Native.Nat.{_+_, _≤_, _<_, min};
 ghost use Rattle.job.specs.Fits.{HeaderFits, HazardFits};
 ghost use Rattle.planning.specs.Envelope.{adjacent, adjacentTraffic, runout, farther, lengthening, cutEnvelope, overhang};
-ghost use Rattle.planning.specs.Reply.{trafficOf, hazardAnswer, testedHazard};
+ghost use Rattle.planning.specs.Reply.{trafficOf, testedAnswer, testedHazard};
 
 // Forward traffic drives by rising stations, opposite traffic by falling ones.
 pub enum Traffic {
@@ -30,12 +32,6 @@ pub enum Tested {
     // It gives the side none: nobody reaches it, or it stands on the other one.
     Without,
     Refused(Refusal),
-}
-
-pub fn lesser(a: u64, b: u64) -> u64
-    ensures { λ r. ⌜ r ≡ min a b ⌝ }
-{
-    if a < b { a } else { b }
 }
 
 // The runout length of a traffic; 0 where there is none.
@@ -83,7 +79,7 @@ fn farther_by(header: Header, side: u8, traffic: Traffic) -> u64
 pub fn adjacent_reach(header: Header, hazard: Hazard) -> u64
     ensures { λ r. ⌜ r ≡ min (hazard .far) (header .zone) ⌝ }
 {
-    lesser(hazard.far as u64, header.zone)
+    min(hazard.far as u64, header.zone)
 }
 
 // By how much a traffic lengthens the envelope of a hazard that stands clear of the barrier.
@@ -101,7 +97,7 @@ fn lengthened_by(header: Header, hazard: Hazard, traffic: Traffic) -> u64
     if header.zone <= hazard.near as u64 + farther {
         return 0;
     }
-    let reach = lesser(hazard.far as u64 + farther, header.zone);
+    let reach = min(hazard.far as u64 + farther, header.zone);
     let offset = header.offset + farther;
     approach::raised_length(
         header.panel,
@@ -114,13 +110,6 @@ fn lengthened_by(header: Header, hazard: Hazard, traffic: Traffic) -> u64
     )
 }
 
-// By how much a station lies beyond another; 0 where it does not.
-fn beyond(station: u64, other: u64) -> u64
-    ensures { λ r. ⌜ r ≡ station - other ⌝ }
-{
-    if other < station { station - other } else { 0 }
-}
-
 // A reached hazard that stands clear of the barrier: its envelope, cut, and its overhangs. No sum below 0: the overhang is added before the
 // approach is taken off.
 fn cut_envelope(header: Header, hazard: Hazard) -> CutEnvelope
@@ -131,8 +120,8 @@ fn cut_envelope(header: Header, hazard: Hazard) -> CutEnvelope
 {
     let before = lengthened_by(header, hazard, Traffic::Forward);
     let behind = lengthened_by(header, hazard, Traffic::Opposite);
-    let early = beyond(header.begin + before, hazard.start);
-    let late = beyond(hazard.end + behind, header.end);
+    let early = saturating_sub(header.begin + before, hazard.start);
+    let late = saturating_sub(hazard.end + behind, header.end);
     CutEnvelope {
         stretch: Stretch {
             start: hazard.start + early - before,
@@ -150,7 +139,7 @@ fn cut_envelope(header: Header, hazard: Hazard) -> CutEnvelope
 pub fn test_hazard(header: Header, side: u64, index: usize, hazard: Hazard) -> Tested
     requires { ⌜ HeaderFits header ⌝ }
     requires { ⌜ HazardFits header hazard ⌝ }
-    ensures { λ r. ⌜ hazardAnswer r ≡ testedHazard header side index hazard ⌝ }
+    ensures { λ r. ⌜ testedAnswer r ≡ testedHazard header side index hazard ⌝ }
 {
     if stands_near(header, hazard) {
         return Tested::Refused(Refusal::NearBarrier(index));

@@ -5,7 +5,7 @@ use refusal::Outcome;
 use runs::RunList;
 ghost use mathlib.Core.Path.{_≡_};
 ghost use mathlib.Core.List.{[]};
-ghost use Rattle.refusal.specs.Stored.{acceptedOr};
+ghost use Rattle.base.specs.Stored.{acceptedOr};
 ghost use Rattle.job.specs.Job.{jobOf};
 ghost use Rattle.job.specs.Fits.{JobFits};
 ghost use Rattle.runs.specs.Stored.{storedRuns};

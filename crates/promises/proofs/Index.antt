@@ -83,7 +83,7 @@ pub use Rattle.demands.proofs.OffsetLaws.{offset-refusals}
 pub use Rattle.demands.proofs.LevelLaws.{level-off}
 -- Document 02, request 9: corner points for the drawing
 pub use Rattle.demands.proofs.CornerLaws.{corner-cases-hold, corners-fourteen}
-pub use Rattle.exact.proofs.WholeLaws.{cast-exact, add-cast, sub-cast, whole-is}
+pub use Rattle.corners.proofs.WholeLaws.{cast-exact, add-cast, sub-cast, whole-is}
 -- Document 02, request 10: an offset that keeps the driveway clear
 pub use Rattle.demands.proofs.OffsetLaws.{offset-given, offset-none, offset-zero, offset-fourteen}
 pub use Rattle.clear_offset.proofs.OffsetLaws.{own-offset-unused}
@@ -106,7 +106,7 @@ pub use Rattle.open_promises.proofs.WithdrawalLaws.{withdrawal-promise}
 -- Where literal words and computing forms stand side by side
 pub use Rattle.station_level.proofs.NearestLaws.{level-found, level-lower}
 pub use Rattle.clear_offset.proofs.SearchLaws.{least-exactly, none-exactly}
-pub use Rattle.kept_states.proofs.WholeLaws.{open-whole, add-whole, withdraw-whole, schedule-whole, keep-whole, return-whole}
+pub use Rattle.open_job.proofs.WholeLaws.{test-whole, open-whole, change-whole, keep-whole, return-whole}
 -- What has to be believed
 pub use Rattle.panels.proofs.BestLaws.{best-first, best-none}
-pub use Rattle.panels.proofs.FloorLaws.{multiple-divided, multiple-from, multiple-least}
+pub use Rattle.base.proofs.LeastLaws.{multiple-divided, multiple-from, multiple-least}

@@ -8,11 +8,11 @@ use mathlib.Core.List.{List, [], _∷_}
 use lib.ListN.{length}
 use lib.Dec.{eqb}
 use borrow.Author.Tests.{ne-eqb}
-use Rattle.refusal.specs.Choice.{if_then_else_}
-use Rattle.refusal.specs.Answer.{accepted}
+use Rattle.base.specs.Choice.{if_then_else_}
+use Rattle.base.specs.Answer.{accepted}
 use Rattle.number.specs.Number.{Reading}
 use Rattle.runs.specs.declared.Stretch.{Stretch}
-use Rattle.runs.specs.RunList.{shownLevel, Next, Rising}
+use Rattle.runs.specs.RunList.{shownLevel, MayFollow, Rising}
 use Rattle.runs.specs.Count.{countFrom}
 use Rattle.runs.proofs.RunLaws.{shown-nothing}
 use Rattle.runs.proofs.CountLaws.{count-none, count-run}
@@ -34,7 +34,7 @@ unfolding millimetres
 millimetres-overlaps rs up v p q h l = count-overlaps 0 0 rs up v h p (q - p) ∙ ap (λ (x : ℕ). overlaps rs v p x) (let e : p + (q - p) ≡ q = omega arith in e)
 
 -- A run that follows one which ended at e has no more millimetres than there are from there to its end.
-pub overlap-most : (e u : ℕ) (r : Stretch) → Next e u r → (v p q : ℕ) → e + overlapAt r v p q ≤ r .end
+pub overlap-most : (e u : ℕ) (r : Stretch) → MayFollow e u r → (v p q : ℕ) → e + overlapAt r v p q ≤ r .end
 unfolding overlap
 overlap-most e u r n v p q = go (eqb (r .level) v)
   where

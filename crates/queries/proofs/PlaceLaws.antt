@@ -9,11 +9,11 @@ use lib.ListN.{length, length-append}
 use lib.Dec.{leb, ltb, eqb}
 use borrow.Author.Tests.{le-leb, lt-leb, lt-ltb, le-ltb}
 use denote.Ref.{RefT, now}
-use Rattle.refusal.specs.Choice.{if_then_else_}
-use Rattle.refusal.specs.Answer.{Answer, accepted, refused}
+use Rattle.base.specs.Choice.{if_then_else_}
+use Rattle.base.specs.Answer.{Answer, accepted, refused}
 use Rattle.refusal.specs.Refusal.{unless-refuse}
 use Rattle.refusal.specs.declared.Refusal.the-variants as Row
-use Rattle.refusal.proofs.AnswerLaws.{bound}
+use Rattle.base.proofs.AnswerLaws.{bound}
 use Rattle.number.specs.Number.{Reading, writeNumber}
 use Rattle.number.specs.Form.{Bytes}
 use Rattle.number.proofs.WriteLaws.{small-length}
@@ -22,14 +22,14 @@ use Rattle.runs.specs.RunList.{Rising}
 use Rattle.schedule.specs.Schedule.{writeRecord, writeRecords, writeSchedule, ReadRun, readSchedule}
 use Rattle.queries.specs.Walk.{headAt, recordAt}
 use Rattle.queries.specs.Lookup.{Part, Found, found, nowhere, findRecord, placeIn, asked, lookup, partOf}
-use Rattle.queries.specs.Place.{IsPart, between}
+use Rattle.queries.specs.Place.{IsPart, partBetween}
 use Rattle.queries.specs.Query.{soFar, orLater}
 use Rattle.schedule.proofs.ScheduleLaws.{or-ten, record-stands, schedule-read}
 use Rattle.queries.proofs.QuantityLaws.{read-rising}
 use Rattle.queries.proofs.StepLaws.{Rest, walk-start, head-length, record-follows, walk-passed, walk-over}
-use Rattle.refusal.proofs.TestLaws.{impossible}
+use Rattle.base.proofs.TestLaws.{impossible}
 
-pub so-far : (from to reached t : ℕ) → t < reached → soFar from to reached t ≡ found (between from to)
+pub so-far : (from to reached t : ℕ) → t < reached → soFar from to reached t ≡ found (partBetween from to)
 so-far from to reached t h = rw (lt-ltb t reached h)
 
 pub so-far-none : (from to reached t : ℕ) → reached ≤ t → soFar from to reached t ≡ nowhere

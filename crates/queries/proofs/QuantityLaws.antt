@@ -7,11 +7,11 @@ use mathlib.Core.Bool.{Bool, true, false, _&&_}
 use mathlib.Core.List.{List}
 use lib.Dec.{leb}
 use borrow.Author.Tests.{le-leb, leb-true}
-use Rattle.refusal.specs.Answer.{Answer, accepted, refused, _>>=_}
+use Rattle.base.specs.Answer.{Answer, accepted, refused, _>>=_}
 use Rattle.refusal.specs.Refusal.{unless-refuse}
 use Rattle.refusal.specs.declared.Refusal.the-variants as Row
-use Rattle.refusal.proofs.AnswerLaws.{same-behind}
-use Rattle.refusal.proofs.TestLaws.{and-left, and-right, and-intro}
+use Rattle.base.proofs.AnswerLaws.{bind-same}
+use Rattle.base.proofs.TestLaws.{and-left, and-right, and-intro}
 use Rattle.runs.specs.declared.Stretch.{Stretch}
 use Rattle.runs.specs.RunList.{shownLevel, Rising}
 use Rattle.runs.proofs.RunLaws.{run-list-rising}
@@ -44,7 +44,7 @@ pub quantity-sum : (s : List ℕ) (v p q : ℕ) → Ranged v p q → quantity s 
 unfolding quantity overlapSum
 quantity-sum s v p q h =
     rw (ranged v p q .1 h)
-    (same-behind (readSchedule s) (λ rs. accepted (millimetres (shownLevel rs) v p q)) (λ rs. accepted (overlaps rs v p q)) (λ rs e. ap accepted (millimetres-overlaps rs (read-rising s rs e) v p q (h .0) (h .2))))
+    (bind-same (readSchedule s) (λ rs. accepted (millimetres (shownLevel rs) v p q)) (λ rs. accepted (overlaps rs v p q)) (λ rs e. ap accepted (millimetres-overlaps rs (read-rising s rs e) v p q (h .0) (h .2))))
 
 pub quantity-argument : (s : List ℕ) (v p q : ℕ) → (Ranged v p q → ⊥) → quantity s v p q ≡ refused 8 0
 unfolding quantity

@@ -11,9 +11,9 @@ use lib.ListN.{length, getD, drop, replicate, length-append, length-replicate, d
 use lib.Seq.{drop-cons, getD-append-add}
 use lib.Dec.{leb}
 use borrow.Author.Tests.{le-leb, lt-leb, leb-true}
-use Rattle.refusal.proofs.TestLaws.{and-left, and-right, and-intro}
+use Rattle.base.proofs.TestLaws.{and-left, and-right, and-intro}
 use Rattle.runs.proofs.IndexLaws.{zeros}
-use Rattle.queries.specs.Ranges.{Range, rangesOf, areRanges, mostRanges, placesOf, rangeAt, WholeRanges}
+use Rattle.queries.specs.Ranges.{Range, rangesOf, areRanges, mostRanges, quantityPlaces, rangeAt, WholeRanges}
 
 -- One after the other
 
@@ -88,13 +88,13 @@ whole-ranges l = (are-whole l, whole-are l)
 
 -- Places: the quantities, and zeros behind them.
 module _ (l : List ℕ) where
-  pub places-count : length l ≤ mostRanges → length (placesOf l) ≡ mostRanges
+  pub places-count : length l ≤ mostRanges → length (quantityPlaces l) ≡ mostRanges
   places-count few = length-append l (replicate (mostRanges - length l) 0) ∙ ap (λ (k : ℕ). length l + k) (length-replicate (mostRanges - length l) 0) ∙ omega arith
 
-  pub places-in : (i : ℕ) → i < length l → getD (placesOf l) i 0 ≡ getD l i 0
+  pub places-in : (i : ℕ) → i < length l → getD (quantityPlaces l) i 0 ≡ getD l i 0
   places-in i h = List·getD-append l (replicate (mostRanges - length l) 0) 0 i h
 
-  pub places-behind : (i : ℕ) → length l ≤ i → getD (placesOf l) i 0 ≡ 0
+  pub places-behind : (i : ℕ) → length l ≤ i → getD (quantityPlaces l) i 0 ≡ 0
   places-behind i h =
       let back : i ≡ length l + (i - length l) = omega arith in
-      ap (λ (k : ℕ). getD (placesOf l) k 0) back ∙ getD-append-add l (replicate (mostRanges - length l) 0) (i - length l) 0 ∙ zeros (mostRanges - length l) (i - length l)
+      ap (λ (k : ℕ). getD (quantityPlaces l) k 0) back ∙ getD-append-add l (replicate (mostRanges - length l) 0) (i - length l) 0 ∙ zeros (mostRanges - length l) (i - length l)

@@ -5,7 +5,7 @@ use native.Mathlib.Omega.{arith}
 use mathlib.Core.Path.{_≡_, refl}
 use mathlib.Core.Logic.{_⊎_, inl, inr}
 use mathlib.Core.List.{List}
-use Rattle.refusal.specs.Answer.{accepted}
+use Rattle.base.specs.Answer.{accepted}
 use Rattle.number.specs.Number.{Reading}
 use Rattle.number.specs.Form.{Bytes}
 use Rattle.runs.specs.RunList.{lastStation}

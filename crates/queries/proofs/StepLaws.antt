@@ -6,14 +6,14 @@ use mathlib.Core.Path.{_≡_, refl, sym, ap, _∙_}
 use mathlib.Core.List.{List, [], _∷_}
 use lib.ListN.{length}
 use borrow.Author.Tests.{eq-eqb, ne-eqb}
-use Rattle.refusal.specs.Answer.{Answer, accepted, refused, _>>=_}
-use Rattle.refusal.proofs.AnswerLaws.{same-behind}
-use Rattle.refusal.proofs.TestLaws.{impossible}
+use Rattle.base.specs.Answer.{Answer, accepted, refused, _>>=_}
+use Rattle.base.proofs.AnswerLaws.{bind-same}
+use Rattle.base.proofs.TestLaws.{impossible}
 use Rattle.number.specs.Number.{Reading, writeNumber}
 use Rattle.number.specs.Form.{Bytes}
 use Rattle.number.proofs.ReadLaws.{number-read}
 use Rattle.runs.specs.declared.Stretch.{Stretch}
-use Rattle.runs.specs.RunList.{Next}
+use Rattle.runs.specs.RunList.{MayFollow}
 use Rattle.runs.proofs.RunLaws.{follows}
 use Rattle.schedule.specs.Schedule.{readHead, ReadRun, readRecord, orTen, readRecords, readSchedule}
 use Rattle.schedule.proofs.ScheduleLaws.{or-ten, record-read, schedule-parts, records-rise}
@@ -46,7 +46,7 @@ module _ (s : List ℕ) where
   module _ (n : Reading) (h : headAt s ≡ accepted n) where
     pub walk-start : {A : Type 0} (f g : List Stretch → A) → ((rs : List Stretch) → readSchedule s ≡ accepted rs → f rs ≡ g rs) → Rest s f (n .value) 0 0 (n .next) g
     unfolding readSchedule
-    walk-start f g same = record { same = same-behind (readSchedule s) (λ rs. accepted (f rs)) (λ rs. accepted (g rs)) (λ rs e. ap accepted (same rs e)) ∙ rw (or-ten (readHead s) n h) }
+    walk-start f g same = record { same = bind-same (readSchedule s) (λ rs. accepted (f rs)) (λ rs. accepted (g rs)) (λ rs e. ap accepted (same rs e)) ∙ rw (or-ten (readHead s) n h) }
 
     -- The index behind the head is that behind the writing of the run count.
     pub head-length : (rs : List Stretch) → Bytes s → readSchedule s ≡ accepted rs → length (writeNumber (length rs)) ≡ n .next
@@ -58,7 +58,7 @@ module _ (s : List ℕ) where
 
 -- A record
 
-pub record-follows : (e v : ℕ) (s : List ℕ) (at : ℕ) (p : ReadRun) → recordAt e v s at ≡ accepted p → Next e v (p .run)
+pub record-follows : (e v : ℕ) (s : List ℕ) (at : ℕ) (p : ReadRun) → recordAt e v s at ≡ accepted p → MayFollow e v (p .run)
 record-follows e v s at p r = follows e v (p .run) (record-read s e v at p (or-ten _ p r) .may)
 
 walk-step : (k e v : ℕ) (s : List ℕ) (at : ℕ) → 0 < k → readRecords k e v s at ≡ (readRecord e v s at >>= λ p. readRecords (k - 1) (p .run .end) (p .run .level) s (p .next) >>= λ rs. accepted (p .run ∷ rs))

@@ -8,15 +8,15 @@ use mathlib.Core.List.{List, map}
 use lib.ListN.{length, getD, set, replicate, length-map}
 use lib.Seq.{ext-getD, getD-set-same, getD-set-other}
 use borrow.Author.Tests.{eq-eqb, ne-eqb}
-use Rattle.refusal.specs.Answer.{Answer, accepted, refused}
-use Rattle.refusal.proofs.TestLaws.{impossible}
+use Rattle.base.specs.Answer.{Answer, accepted, refused}
+use Rattle.base.proofs.TestLaws.{impossible}
 use Rattle.number.specs.Number.{Reading}
 use Rattle.runs.specs.declared.Stretch.{Stretch}
-use Rattle.runs.specs.RunList.{lastStation, Next}
+use Rattle.runs.specs.RunList.{lastStation, MayFollow}
 use Rattle.runs.proofs.IndexLaws.{zeros}
 use Rattle.schedule.specs.Schedule.{ReadRun, readSchedule}
 use Rattle.queries.specs.Walk.{headAt, recordAt, overlap, overlapAt, overlaps, overlapSum}
-use Rattle.queries.specs.Ranges.{mostRanges, rangesOf, quantities, placesOf, replied, rangeAt, AllRanged}
+use Rattle.queries.specs.Ranges.{mostRanges, rangesOf, quantities, quantityPlaces, quantitiesReplied, rangeAt, AllRanged}
 use Rattle.queries.specs.Sums.{Sums, Grown, runCount, Tallied}
 use Rattle.queries.specs.declared.quantities.Tally.the-variants as Tally
 use Rattle.queries.proofs.StepLaws.{thenRuns, runs-refused, Rest, head-refused, walk-start, record-follows, walk-passed, walk-refused, walk-over, walk-left-over}
@@ -100,7 +100,7 @@ tallying-turn s level numbers sums sums′ count records at end last p some read
       ranges = λ i h. rw one-less (summed-turn s level _ _ (getD sums i 0) (getD sums′ i 0) p (b .ranges i h) more read (grown .ranges i h));
     }
   where
-    next : Next end last (p .run)
+    next : MayFollow end last (p .run)
     next = record-follows end last s at p read
 
     fits : (i : ℕ) → Dec (i < length numbers / 2) → getD sums′ i 0 ≤ p .run .end
@@ -139,13 +139,13 @@ module _ (s : List ℕ) (level : ℕ) (numbers sums : List ℕ) (count records a
 -- The sums are the quantities
 
 module _ (s : List ℕ) (v : ℕ) (l sums : List ℕ) (a : AllRanged v l) (few : length (rangesOf l) ≤ mostRanges) where
-  pub quantities-bad : Tallied s v l sums Tally.Bad → replied (quantities s v l) ≡ replied (refused 10 0)
+  pub quantities-bad : Tallied s v l sums Tally.Bad → quantitiesReplied (quantities s v l) ≡ quantitiesReplied (refused 10 0)
   unfolding runCount
-  quantities-bad w = ap replied (quantities-none s v l a few (runs-refused (readSchedule s) (λ rs. length rs) 10 0 (sym (w .count))))
+  quantities-bad w = ap quantitiesReplied (quantities-none s v l a few (runs-refused (readSchedule s) (λ rs. length rs) 10 0 (sym (w .count))))
 
-  sums-priced : (rs : List Stretch) → readSchedule s ≡ accepted rs → (n : ℕ) → Tallied s v l sums (Tally.Over n) → sums ≡ placesOf (map (priced rs v) (rangesOf l))
+  sums-priced : (rs : List Stretch) → readSchedule s ≡ accepted rs → (n : ℕ) → Tallied s v l sums (Tally.Over n) → sums ≡ quantityPlaces (map (priced rs v) (rangesOf l))
   unfolding overlapSum
-  sums-priced rs e n w = ext-getD 0 sums (placesOf got) (w .places ∙ sym (places-count got (omega (arith, got-length)))) (λ i h. at i (decLt i (length (rangesOf l))))
+  sums-priced rs e n w = ext-getD 0 sums (quantityPlaces got) (w .places ∙ sym (places-count got (omega (arith, got-length)))) (λ i h. at i (decLt i (length (rangesOf l))))
     where
       got : List ℕ
       got = map (priced rs v) (rangesOf l)
@@ -159,16 +159,16 @@ module _ (s : List ℕ) (v : ℕ) (l sums : List ℕ) (a : AllRanged v l) (few :
           let same : getD sums i 0 ≡ overlaps rs v (rangeAt l i .p) (rangeAt l i .q) = cc in
           same ∙ sym (millimetres-overlaps rs (read-rising s rs e) v (rangeAt l i .p) (rangeAt l i .q) (a .0) (a .2 .ordered i h))
 
-      at : (i : ℕ) → Dec (i < length (rangesOf l)) → getD sums i 0 ≡ getD (placesOf got) i 0
+      at : (i : ℕ) → Dec (i < length (rangesOf l)) → getD sums i 0 ≡ getD (quantityPlaces got) i 0
       at i (yes h) = sum-at i h ∙ sym (places-in got i (omega (arith, got-length)) ∙ priced-at (priced rs v) l i h)
       at i (no h) = w .behind i (omega (arith, ranges-count l)) ∙ sym (places-behind got i (omega (arith, got-length)))
 
-  pub quantities-over : (n : ℕ) → Tallied s v l sums (Tally.Over n) → replied (quantities s v l) ≡ record { answer = accepted tt; records = n; places = sums }
-  unfolding runCount replied
+  pub quantities-over : (n : ℕ) → Tallied s v l sums (Tally.Over n) → quantitiesReplied (quantities s v l) ≡ record { answer = accepted tt; records = n; places = sums }
+  unfolding runCount quantitiesReplied
   quantities-over n w = go (readSchedule s) refl (w .count)
     where
-      go : (r : Answer (List Stretch)) → readSchedule s ≡ r → accepted n ≡ thenRuns r (λ rs. length rs) → replied (quantities s v l) ≡ record { answer = accepted tt; records = n; places = sums }
+      go : (r : Answer (List Stretch)) → readSchedule s ≡ r → accepted n ≡ thenRuns r (λ rs. length rs) → quantitiesReplied (quantities s v l) ≡ record { answer = accepted tt; records = n; places = sums }
       go (accepted rs) e q =
           let same : n ≡ length rs = cc in
-          ap replied (quantities-accepted s v l a few rs e) ∙ rw (same, sums-priced rs e n w)
+          ap quantitiesReplied (quantities-accepted s v l a few rs e) ∙ rw (same, sums-priced rs e n w)
       go (refused x y) e q = impossible cc

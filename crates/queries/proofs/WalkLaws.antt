@@ -11,7 +11,7 @@ use lib.ListN.{length, getD, drop}
 use lib.Seq.{drop-cons}
 use denote.Enum.Declared.{tagOf}
 use types.Run.{OneOf}
-use Rattle.refusal.specs.Answer.{Answer, accepted, refused, _>>=_}
+use Rattle.base.specs.Answer.{Answer, accepted, refused, _>>=_}
 use Rattle.refusal.specs.Refusal.{unless-refuse}
 use Rattle.refusal.specs.declared.Refusal.the-variants as Row
 use Rattle.number.specs.Number.{Reading, readingOf, numberAt, readNumber, writeNumber}
@@ -22,11 +22,11 @@ use Rattle.number.specs.Form.{Bytes}
 use Rattle.number.proofs.WriteLaws.{write-one}
 use Rattle.number.proofs.ReadLaws.{read-stands}
 use Rattle.number.proofs.GroupWalk.{read-none, read-one}
-use Rattle.runs.specs.RunList.{mayFollow, Next}
+use Rattle.runs.specs.RunList.{mayFollow, MayFollow}
 use Rattle.runs.proofs.RunLaws.{follows}
 use Rattle.schedule.specs.Schedule.{orTen, ReadRun, readRecord}
 use Rattle.schedule.proofs.ScheduleLaws.{runAfter, may-follow}
-use Rattle.queries.specs.Walk.{recordAt, followingRun, levelAt}
+use Rattle.queries.specs.Walk.{recordAt, followingRun, runWithLevelAt}
 
 -- Where a `let` finds no number, by the tag that it tests.
 pub no-number : {B : Type 0} (at : ℕ) (f : Reading → Answer B) (r : Read) → OneOf (1 ∷ 2 ∷ []) (tagOf Read.the-type r) → orTen (readingOf at r >>= f) ≡ refused 10 0
@@ -47,18 +47,18 @@ module _ (e v : ℕ) (s : List ℕ) (at : ℕ) where
     unfolding readRecord numberAt
     no-length r q k = rw (first, q) (no-number i _ r k)
 
-    pub two-numbers : (len j : ℕ) → readNumber s i ≡ Number len j → recordAt e v s at ≡ levelAt e v gap len s j
-    unfolding readRecord levelAt followingRun numberAt
+    pub two-numbers : (len j : ℕ) → readNumber s i ≡ Number len j → recordAt e v s at ≡ runWithLevelAt e v gap len s j
+    unfolding readRecord runWithLevelAt followingRun numberAt
     two-numbers len j second = rw (first, second)
 
 -- The run
 
 module _ (e v gap len lev next : ℕ) where
-  pub run-follows : Next e v (runAfter e gap len lev) → followingRun e v gap len lev next ≡ accepted (record { run = runAfter e gap len lev; next = next })
+  pub run-follows : MayFollow e v (runAfter e gap len lev) → followingRun e v gap len lev next ≡ accepted (record { run = runAfter e gap len lev; next = next })
   unfolding followingRun
   run-follows n = rw (may-follow e v (runAfter e gap len lev) n)
 
-  pub run-refused : (Next e v (runAfter e gap len lev) → ⊥) → followingRun e v gap len lev next ≡ refused 10 0
+  pub run-refused : (MayFollow e v (runAfter e gap len lev) → ⊥) → followingRun e v gap len lev next ≡ refused 10 0
   unfolding followingRun
   run-refused n = go (mayFollow e v (runAfter e gap len lev)) refl
     where
@@ -69,8 +69,8 @@ module _ (e v gap len lev next : ℕ) where
 -- The level's byte
 
 module _ (e v gap len : ℕ) (s : List ℕ) (at : ℕ) where
-  pub level-ended : length s ≤ at → levelAt e v gap len s at ≡ refused 10 0
-  unfolding levelAt numberAt
+  pub level-ended : length s ≤ at → runWithLevelAt e v gap len s at ≡ refused 10 0
+  unfolding runWithLevelAt numberAt
   level-ended h = rw (read-none s at h)
 
   or-ten-run : (lev next : ℕ) → orTen (followingRun e v gap len lev next) ≡ followingRun e v gap len lev next
@@ -86,11 +86,11 @@ module _ (e v gap len : ℕ) (s : List ℕ) (at : ℕ) where
   no-level lev next h = run-refused e v gap len lev next (λ n. omega (arith, n .top))
 
   -- The number that stands at an index is its byte, or has no level's value.
-  pub level-byte : Bytes s → at < length s → levelAt e v gap len s at ≡ followingRun e v gap len (getD s at 0) (at + 1)
-  unfolding levelAt numberAt
+  pub level-byte : Bytes s → at < length s → runWithLevelAt e v gap len s at ≡ followingRun e v gap len (getD s at 0) (at + 1)
+  unfolding runWithLevelAt numberAt
   level-byte b there = go (decLt (getD s at 0) 128)
     where
-      go : Dec (getD s at 0 < 128) → levelAt e v gap len s at ≡ followingRun e v gap len (getD s at 0) (at + 1)
+      go : Dec (getD s at 0 < 128) → runWithLevelAt e v gap len s at ≡ followingRun e v gap len (getD s at 0) (at + 1)
       go (yes h) = rw (read-one s at there h) (or-ten-run (getD s at 0) (at + 1))
       go (no h) = turn (readNumber s at) refl ∙ sym (no-level (getD s at 0) (at + 1) (omega arith))
         where

@@ -4,7 +4,7 @@ use Prim.Native.Nat.{ℕ, _+_, _-_}
 use mathlib.Core.Path.{_≡_}
 use mathlib.Core.List.{List}
 use denote.Ref.{RefT, now, ptr}
-use Rattle.refusal.specs.Answer.{Answer, accepted}
+use Rattle.base.specs.Answer.{Answer, accepted}
 use Rattle.refusal.specs.Refusal.{refusal}
 use Rattle.queries.specs.Lookup.{Part, Found, found, nowhere, partBytes}
 use Rattle.queries.specs.declared.reply.Located.{Located}
@@ -17,10 +17,10 @@ pub record IsPart (r s : RefT (List ℕ)) (p : Part) : Type 0 where
   pub offset : ptr r .1 ≡ ptr s .1 + p .at
 
 -- The part between two indices.
-abbrev pub between : (start end : ℕ) → Part
-between start end = record { at = start; len = end - start }
+abbrev pub partBetween : (start end : ℕ) → Part
+partBetween start end = record { at = start; len = end - start }
 
 abbrev pub locatedReply : Located → Answer Found
-locatedReply (Located.Found start end) = accepted (found (between start end))
+locatedReply (Located.Found start end) = accepted (found (partBetween start end))
 locatedReply Located.Nothing = accepted nowhere
 locatedReply (Located.Refused r) = refusal r

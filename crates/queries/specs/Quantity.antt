@@ -4,7 +4,7 @@ use Prim.Native.Nat.{ℕ, _-_, _≤_}
 use mathlib.Core.Bool.{_&&_}
 use mathlib.Core.List.{List}
 use lib.Dec.{leb, eqb}
-use Rattle.refusal.specs.Answer.{Answer, accepted, _>>=_}
+use Rattle.base.specs.Answer.{Answer, accepted, _>>=_}
 use Rattle.refusal.specs.Refusal.{unless-refuse, refusal}
 use Rattle.refusal.specs.declared.Refusal.the-variants as Row
 use Rattle.runs.specs.RunList.{shownLevel}

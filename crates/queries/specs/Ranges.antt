@@ -6,10 +6,10 @@ use mathlib.Core.Bool.{Bool, true, false, _&&_}
 use mathlib.Core.List.{List, [], _∷_, map}
 use lib.ListN.{length, getD}
 use lib.Dec.{leb}
-use Rattle.refusal.specs.Answer.{Answer, accepted, refused, _>>=_}
+use Rattle.base.specs.Answer.{Answer, accepted, refused, _>>=_}
 use Rattle.refusal.specs.Refusal.{unless-refuse, outcome}
 use Rattle.refusal.specs.declared.Refusal.the-variants as Row
-use Rattle.refusal.specs.Stored.{padded}
+use Rattle.base.specs.Stored.{padded}
 use Rattle.runs.specs.RunList.{shownLevel}
 use Rattle.schedule.specs.Schedule.{readSchedule}
 use Rattle.queries.specs.Quantity.{millimetres}
@@ -62,19 +62,19 @@ quantities s level numbers =
     accepted (record { records = length rs; quantities = map (λ z. millimetres (shownLevel rs) level (z .p) (z .q)) (rangesOf numbers) })
 
 -- The reply, complete: done or the refusal, the count, and 64 places.
-pub record Replied : Type 0 where
+pub record QuantitiesReplied : Type 0 where
   pub answer : Answer (Unit {0})
   pub records : ℕ
   pub places : List ℕ
 
 -- A quantity for each range, in their order, and zeros behind them.
-abbrev pub placesOf : List ℕ → List ℕ
-placesOf quantities = padded mostRanges 0 quantities
+abbrev pub quantityPlaces : List ℕ → List ℕ
+quantityPlaces quantities = padded mostRanges 0 quantities
 
 -- "A refusal gives no quantities and a count of 0."
-unfoldable pub replied : Answer Counted → Replied
-replied (accepted c) = record { answer = accepted tt; records = c .records; places = placesOf (c .quantities) }
-replied (refused number value) = record { answer = refused number value; records = 0; places = placesOf [] }
+unfoldable pub quantitiesReplied : Answer Counted → QuantitiesReplied
+quantitiesReplied (accepted c) = record { answer = accepted tt; records = c .records; places = quantityPlaces (c .quantities) }
+quantitiesReplied (refused number value) = record { answer = refused number value; records = 0; places = quantityPlaces [] }
 
-abbrev pub quantitiesReply : Quantities → Replied
+abbrev pub quantitiesReply : Quantities → QuantitiesReplied
 quantitiesReply r = record { answer = outcome (r .outcome) tt; records = r .records; places = r .quantities }

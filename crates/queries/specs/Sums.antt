@@ -4,7 +4,7 @@ use Prim.Native.Nat.{ℕ, _+_, _*_, _/_, _≤_, _<_}
 use mathlib.Core.Path.{_≡_}
 use mathlib.Core.List.{List}
 use lib.ListN.{length, getD}
-use Rattle.refusal.specs.Answer.{Answer, accepted, _>>=_}
+use Rattle.base.specs.Answer.{Answer, accepted, _>>=_}
 use Rattle.schedule.specs.Schedule.{readSchedule}
 use Rattle.queries.specs.Walk.{overlapSum}
 use Rattle.queries.specs.Ranges.{mostRanges}

@@ -3,8 +3,8 @@
 use Prim.Native.Nat.{ℕ, _+_, _-_, min, max}
 use mathlib.Core.List.{List, [], _∷_}
 use lib.Dec.{eqb}
-use Rattle.refusal.specs.Choice.{if_then_else_}
-use Rattle.refusal.specs.Answer.{Answer, accepted, _>>=_}
+use Rattle.base.specs.Choice.{if_then_else_}
+use Rattle.base.specs.Answer.{Answer, accepted, _>>=_}
 use Rattle.refusal.specs.Refusal.{unless-refuse, refusal}
 use Rattle.refusal.specs.declared.Refusal.the-variants as Row
 use Rattle.number.specs.Number.{Reading, numberAt}
@@ -38,8 +38,8 @@ followingRun e v gap len lev next =
     let r : Stretch = record { start = e + gap; end = e + gap + len; level = lev } in
     unless-refuse (mayFollow e v r) Row.Schedule >>= λ _. accepted (record { run = r; next = next })
 
-unfoldable pub levelAt : (e v gap len : ℕ) → List ℕ → (at : ℕ) → Answer ReadRun
-levelAt e v gap len s at = orTen (numberAt s at >>= λ lev. followingRun e v gap len (lev .value) (lev .next))
+unfoldable pub runWithLevelAt : (e v gap len : ℕ) → List ℕ → (at : ℕ) → Answer ReadRun
+runWithLevelAt e v gap len s at = orTen (numberAt s at >>= λ lev. followingRun e v gap len (lev .value) (lev .next))
 
 -- Sums
 

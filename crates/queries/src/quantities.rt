@@ -17,7 +17,7 @@ ghost use Rattle.refusal.specs.Refusal.{refusal};
 ghost use Rattle.runs.specs.RunList.{lastStation};
 ghost use Rattle.queries.specs.Walk as walk;
 ghost use Rattle.queries.specs.Sums.{Sums, Grown, Tallied};
-ghost use Rattle.queries.specs.Ranges.{areRanges, quantitiesReply, replied};
+ghost use Rattle.queries.specs.Ranges.{areRanges, quantitiesReply, quantitiesReplied};
 ghost use Rattle.queries.specs.Ranges as Ranges;
 
 // How a walk over the ranges ends, beside their sums.
@@ -139,7 +139,7 @@ fn walk_ranges(s: &[u8], level: u32, numbers: &[u64], sums: &mut [u64; 64]) -> T
 
 // No quantities, beside a refusal.
 fn no_quantities(refused: Refusal) -> Quantities
-    ensures { λ r. ⌜ quantitiesReply r ≡ replied (refusal refused) ⌝ }
+    ensures { λ r. ⌜ quantitiesReply r ≡ quantitiesReplied (refusal refused) ⌝ }
 {
     Quantities {
         outcome: Outcome::Refused(refused),
@@ -149,7 +149,7 @@ fn no_quantities(refused: Refusal) -> Quantities
 }
 
 pub fn quantities(schedule: &[u8], level: u64, ranges: &[u64]) -> Quantities
-    ensures { λ r. ⌜ quantitiesReply r ≡ replied (Ranges.quantities (now (schedule .entry)) level (now (ranges .entry))) ⌝ }
+    ensures { λ r. ⌜ quantitiesReply r ≡ quantitiesReplied (Ranges.quantities (now (schedule .entry)) level (now (ranges .entry))) ⌝ }
 {
     if !well_asked(level, ranges) {
         return no_quantities(Refusal::Argument);

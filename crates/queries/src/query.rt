@@ -3,6 +3,9 @@ use super::walk::Head;
 use super::walk::Record;
 use super::walk::read_head;
 use super::walk::read_record;
+use base::max;
+use base::min;
+use base::saturating_sub;
 ghost use mathlib.Core.Path.{_≡_};
 ghost use Prim.Native.Nat.{_-_, min, max};
 ghost use Rattle.queries.specs.Walk.{overlapSum};
@@ -23,25 +26,13 @@ pub enum Walked {
     Bad,
 }
 
-fn lesser(a: u64, b: u64) -> u64
-    ensures { λ r. ⌜ r ≡ min a b ⌝ }
-{
-    if a < b { a } else { b }
-}
-
-fn greater(a: u64, b: u64) -> u64
-    ensures { λ r. ⌜ r ≡ max a b ⌝ }
-{
-    if a < b { b } else { a }
-}
-
 // How many millimetres [start, end) and [p, q) have in common.
 pub fn overlap(start: u64, end: u64, p: u64, q: u64) -> u64
     ensures { λ r. ⌜ r ≡ min q end - max p start ⌝ }
 {
-    let from = greater(p, start);
-    let to = lesser(q, end);
-    if from < to { to - from } else { 0 }
+    let from = max(p, start);
+    let to = min(q, end);
+    saturating_sub(to, from)
 }
 
 // The millimetres of [p, q) that the runs of the level have, and the place of the record that has the station. Runs rise, so that

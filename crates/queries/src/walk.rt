@@ -3,9 +3,9 @@ use number::Read;
 use runs::Stretch;
 ghost use mathlib.Core.Path.{_≡_};
 ghost use Prim.Native.Nat.{_≤_};
-ghost use Rattle.number.specs.Number.{greatest};
+ghost use Rattle.number.specs.Number.{greatestNumber};
 ghost use Rattle.runs.specs.RunList.{lastStation};
-ghost use Rattle.queries.specs.Walk.{headAt, headReply, followingRun, levelAt, recordAt, recordReply};
+ghost use Rattle.queries.specs.Walk.{headAt, headReply, followingRun, runWithLevelAt, recordAt, recordReply};
 
 // What stands at the head of a schedule.
 pub enum Head {
@@ -38,8 +38,8 @@ pub fn read_head(s: &[u8]) -> Head
 // The run of a record's three numbers, behind a run that ended at `end` with `level`.
 fn following_run(end: u64, level: u32, gap: u64, length: u64, own: u32, next: usize) -> Record
     requires { ⌜ end ≤ lastStation ⌝ }
-    requires { ⌜ gap ≤ greatest ⌝ }
-    requires { ⌜ length ≤ greatest ⌝ }
+    requires { ⌜ gap ≤ greatestNumber ⌝ }
+    requires { ⌜ length ≤ greatestNumber ⌝ }
     ensures { λ r. ⌜ recordReply r ≡ followingRun end level gap length own next ⌝ }
 {
     let start = end + gap;
@@ -75,9 +75,9 @@ fn following_run(end: u64, level: u32, gap: u64, length: u64, own: u32, next: us
 // more is none.
 pub fn read_run(s: &[u8], at: usize, end: u64, level: u32, gap: u64, length: u64) -> Record
     requires { ⌜ end ≤ lastStation ⌝ }
-    requires { ⌜ gap ≤ greatest ⌝ }
-    requires { ⌜ length ≤ greatest ⌝ }
-    ensures { λ r. ⌜ recordReply r ≡ levelAt end level gap length (now (s .entry)) at ⌝ }
+    requires { ⌜ gap ≤ greatestNumber ⌝ }
+    requires { ⌜ length ≤ greatestNumber ⌝ }
+    ensures { λ r. ⌜ recordReply r ≡ runWithLevelAt end level gap length (now (s .entry)) at ⌝ }
 {
     if s.len() <= at {
         return Record::Bad;

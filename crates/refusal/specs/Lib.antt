@@ -1,4 +1,1 @@
-pub mod Choice
-pub mod Answer
 pub mod Refusal
-pub mod Stored

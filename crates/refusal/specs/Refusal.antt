@@ -6,7 +6,7 @@ use Rattle.refusal.specs.declared.Refusal.{Refusal}
 use Rattle.refusal.specs.declared.Refusal.the-variants.{Ended, Malformed, HeaderRange, HazardRange, NearBarrier, LeftOver, Argument, Room, Schedule, Ranges, Name, State, Hazard, Full, Lengths, Tries}
 use Rattle.refusal.specs.declared.Outcome.{Outcome}
 use Rattle.refusal.specs.declared.Outcome.the-variants.{Done, Refused}
-use Rattle.refusal.specs.Answer.{Answer, accepted, refused}
+use Rattle.base.specs.Answer.{Answer, accepted, refused}
 
 abbrev pub row : Refusal → ℕ × ℕ
 row (Ended at) = (1, at)

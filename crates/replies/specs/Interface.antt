@@ -1,17 +1,16 @@
 -- The C interface's structs for each answer of the calls.
 -- Assumes nothing.
 use Prim.Native.Nat.{ℕ, _+_, _*_}
-use mathlib.Core.List.{[]}
-use Rattle.refusal.specs.Answer.{Answer, accepted, refused}
+use Rattle.base.specs.Choice.{if_then_else_}
+use Rattle.base.specs.Answer.{Answer, accepted, refused, replied}
 use Rattle.schedule.specs.declared.reply.Written.{Written}
 use Rattle.corners.specs.Corners.{Points}
-use Rattle.corners.specs.Reply.{cornerOf, noPoints}
+use Rattle.corners.specs.Reply.{cornersReplied}
 use Rattle.clear_offset.specs.Offset.{Smallest, offset, none}
-use Rattle.panels.specs.Layout as panels
 use Rattle.panels.specs.Panels.{Panels}
-use Rattle.panels.specs.Reply as layout
+use Rattle.panels.specs.Reply.{layoutReplied}
 use Rattle.queries.specs.Lookup.{Found, found, nowhere}
-use Rattle.queries.specs.Ranges.{Counted, placesOf}
+use Rattle.queries.specs.Ranges.{Counted, quantitiesReplied}
 use Rattle.replies.specs.declared.Reply.{Reply}
 use Rattle.replies.specs.declared.PlanReply.{PlanReply}
 use Rattle.replies.specs.declared.Record.{Record}
@@ -29,12 +28,12 @@ replyOf (accepted value) = reply 0 value
 replyOf (refused number value) = reply number value
 
 -- Plan's reply: the bytes written and the overhangs; 0 and 0 after a refusal.
-abbrev pub planned : (number value before after : ℕ) → PlanReply
-planned number value before after = record { number = number; value = value; before = before; after = after }
+abbrev pub planReplyWith : (number value before after : ℕ) → PlanReply
+planReplyWith number value before after = record { number = number; value = value; before = before; after = after }
 
 unfoldable pub planReplyOf : Answer Written → PlanReply
-planReplyOf (accepted w) = planned 0 (w .bytes) (w .overhangs .before) (w .overhangs .after)
-planReplyOf (refused number value) = planned number value 0 0
+planReplyOf (accepted w) = planReplyWith 0 (w .bytes) (w .overhangs .before) (w .overhangs .after)
+planReplyOf (refused number value) = planReplyWith number value 0 0
 
 -- The record's first byte, and the index behind its last.
 unfoldable pub recordOf : Answer Found → Record
@@ -42,18 +41,19 @@ recordOf (accepted (found p)) = record { number = 0; found = 1; start = p .at; e
 recordOf (accepted nowhere) = record { number = 0; found = 0; start = 0; end = 0 }
 recordOf (refused number value) = record { number = number; found = 0; start = 0; end = 0 }
 
--- The records read, a quantity for each range and zeros behind them; after a refusal zeros alone.
+-- What the call replies: the records read, a quantity for each range and zeros after them; beside a refusal zeros only.
 unfoldable pub quantitiesOf : Answer Counted → Quantities
-quantitiesOf (accepted c) = record { number = 0; value = 0; records = c .records; quantities = placesOf (c .quantities) }
-quantitiesOf (refused number value) = record { number = number; value = value; records = 0; quantities = placesOf [] }
+quantitiesOf a =
+    let r = quantitiesReplied a in
+    let how = replyOf (replied (r .answer)) in
+    record { number = how .number; value = how .value; records = r .records; quantities = r .places }
 
--- The corners as floats; zeros after a refusal.
-abbrev pub cornersAt : (number value : ℕ) → Points → Corners
-cornersAt number value p = record { number = number; value = value; upstream = cornerOf (p .upstream); flare = cornerOf (p .flare); hazard = cornerOf (p .hazard) }
-
+-- The corners as floats; zeros beside a refusal.
 unfoldable pub cornersReplyOf : Answer Points → Corners
-cornersReplyOf (accepted p) = cornersAt 0 0 p
-cornersReplyOf (refused number value) = cornersAt number value noPoints
+cornersReplyOf a =
+    let r = cornersReplied a in
+    let how = replyOf (replied (r .answer)) in
+    record { number = how .number; value = how .value; upstream = r .upstream; flare = r .flare; hazard = r .hazard }
 
 -- The smallest offset, or that there is none.
 unfoldable pub smallestOf : Answer Smallest → SmallestOffset
@@ -61,16 +61,15 @@ smallestOf (accepted (offset M)) = record { number = 0; value = M; found = 1 }
 smallestOf (accepted none) = record { number = 0; value = 0; found = 0 }
 smallestOf (refused number value) = record { number = number; value = value; found = 0 }
 
--- The smallest overrun and its first layout, a count for each length and zeros behind them; zeros where no tried layout covers. Tries and floor
--- stand in both; after a refusal zeros alone.
-abbrev pub bestOf : panels.Found → (tries floor : ℕ) → LayoutReply
-bestOf (panels.found o counts) t f = record { number = 0; value = 0; found = 1; overrun = o; counts = layout.placesOf counts; tries = t; floor = f }
-bestOf panels.none t f = record { number = 0; value = 0; found = 0; overrun = 0; counts = layout.placesOf []; tries = t; floor = f }
-
+-- The smallest overrun and its first layout, a count for each length and zeros after them; zeros where no tried layout covers. Tries and floor
+-- stand in both; beside a refusal zeros only.
 unfoldable pub layoutOf : Answer Panels → LayoutReply
-layoutOf (accepted p) = bestOf (p .best) (p .tries) (p .floor)
-layoutOf (refused number value) = record { number = number; value = value; found = 0; overrun = 0; counts = layout.placesOf []; tries = 0; floor = 0 }
+layoutOf a =
+    let r = layoutReplied a in
+    let how = replyOf (replied (r .answer)) in
+    let some : ℕ = if r .found then 1 else 0 in
+    record { number = how .number; value = how .value; found = some; overrun = r .overrun; counts = r .counts; tries = r .tries; floor = r .floor }
 
--- Version 3.2.2, as one number.
+-- Version 3.2.3, as one number.
 abbrev pub version : ℕ
-version = 3 * 1000000 + 2 * 1000 + 2
+version = 3 * 1000000 + 2 * 1000 + 3

@@ -4,14 +4,22 @@ use super::Reply;
 use super::ended;
 use super::plan_reply;
 use job::StoredJob;
-use kept_states::KeptState;
 use open_job::Change;
+use open_job::KeptState;
 use open_memory::GivenHazard;
 use refusal::Outcome;
 ghost use mathlib.Core.Path.{_≡_};
+ghost use mathlib.Core.Bool.{_&&_};
+ghost use lib.ListN.{length};
 ghost use Rattle.refusal.specs.Refusal.{outcome};
-ghost use Rattle.replies.specs.Interface.{replyOf};
-ghost use Rattle.replies.specs.OpenInterface.{endedBy, afterOpening, afterAdd, afterWithdrawal, afterKeeping, afterReturn, scheduleReply, scheduleOutput};
+ghost use Rattle.job.specs.Job.{jobOf};
+ghost use Rattle.job.specs.Writing.{writeJob};
+ghost use Rattle.schedule.specs.Plan.{plan, bytesWritten, outputAfter};
+ghost use Rattle.open_memory.specs.Memory.{hazardGiven, isOpenJob};
+ghost use Rattle.base.specs.Answer.{replied};
+ghost use Rattle.open_job.specs.Calls.{underRules, addTo, withdrawFrom, testState, keptJob};
+ghost use Rattle.replies.specs.Interface.{replyOf, planReplyOf};
+ghost use Rattle.replies.specs.OpenInterface.{changedBy, endedBy, openedBy};
 
 // The present state after a call, and the reply.
 pub struct Changed {
@@ -54,7 +62,7 @@ fn with_reply(change: Change) -> Changed
 }
 
 pub fn opened(job: StoredJob, bytes: &[u8]) -> Opening
-    ensures { λ r. ⌜ r ≡ afterOpening job (now (bytes .entry)) ⌝ }
+    ensures { λ r. ⌜ r ≡ openedBy job (now (bytes .entry)) ⌝ }
 {
     let change = open_job::calls::open(job, bytes);
     let outcome = change.outcome;
@@ -69,31 +77,31 @@ pub fn opened(job: StoredJob, bytes: &[u8]) -> Opening
 }
 
 pub fn added(sound: bool, job: StoredJob, name: u16, hazard: GivenHazard) -> Changed
-    ensures { λ r. ⌜ r ≡ afterAdd sound job name hazard ⌝ }
+    ensures { λ r. ⌜ r ≡ changedBy job (underRules (isOpenJob job && sound) (addTo job name (hazardGiven hazard))) ⌝ }
 {
-    with_reply(kept_states::calls::add(sound, job, name, hazard))
+    with_reply(open_job::calls::add(sound, job, name, hazard))
 }
 
 pub fn withdrawn(sound: bool, job: StoredJob, name: u16) -> Changed
-    ensures { λ r. ⌜ r ≡ afterWithdrawal sound job name ⌝ }
+    ensures { λ r. ⌜ r ≡ changedBy job (underRules (isOpenJob job && sound) (withdrawFrom job name)) ⌝ }
 {
-    with_reply(kept_states::calls::withdraw(sound, job, name))
+    with_reply(open_job::calls::withdraw(sound, job, name))
 }
 
 pub fn kept(sound: bool, job: StoredJob, number: u64) -> Keeping
-    ensures { λ r. ⌜ r ≡ afterKeeping sound job number ⌝ }
+    ensures { λ r. ⌜ r ≡ endedBy (replied (underRules (isOpenJob job && sound) (testState number))) ⌝ }
 {
-    ending(kept_states::calls::test_number(sound, job, number))
+    ending(open_job::calls::test_state(sound, job, number))
 }
 
 pub fn returned(sound: bool, job: StoredJob, number: u64, kept: KeptState) -> Changed
-    ensures { λ r. ⌜ r ≡ afterReturn sound job number kept ⌝ }
+    ensures { λ r. ⌜ r ≡ changedBy job (underRules (isOpenJob job && sound) (keptJob (job .header) number kept)) ⌝ }
 {
-    with_reply(kept_states::calls::return_to(sound, job, number, kept))
+    with_reply(open_job::calls::return_to(sound, job, number, kept))
 }
 
 pub fn scheduled(sound: bool, job: StoredJob, side: u64, out: &mut [u8]) -> PlanReply
-    ensures { λ r. ⌜ (r ≡ scheduleReply sound job side (now (out .entry))) × (now (out .exit) ≡ scheduleOutput sound job side (now (out .entry))) ⌝ }
+    ensures { λ r. ⌜ (r ≡ planReplyOf (bytesWritten (underRules (isOpenJob job && sound) (plan (writeJob (jobOf job)) side (length (now (out .entry))))))) × (now (out .exit) ≡ outputAfter (underRules (isOpenJob job && sound) (plan (writeJob (jobOf job)) side (length (now (out .entry))))) (now (out .entry))) ⌝ }
 {
-    plan_reply(kept_states::calls::schedule(sound, job, side, out))
+    plan_reply(open_job::calls::schedule(sound, job, side, out))
 }

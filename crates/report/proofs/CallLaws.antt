@@ -8,7 +8,7 @@ use mathlib.Core.List.{List}
 use lib.ListN.{length, take, drop}
 use lib.Seq.{take-append-seam}
 use borrow.Author.Tests.{le-leb, lt-leb}
-use Rattle.refusal.specs.Answer.{Answer, accepted, refused}
+use Rattle.base.specs.Answer.{Answer, accepted, refused}
 use Rattle.refusal.specs.Refusal.{numberOf, valueOf, refusal, outcome}
 use Rattle.refusal.specs.declared.Refusal.{Refusal}
 use Rattle.refusal.specs.declared.Outcome.{Outcome}
@@ -28,7 +28,7 @@ use Rattle.report.specs.Text.{refusedLine, runsReport, reportOf, reporte
 use Rattle.report.specs.Writing.{Written}
 use Rattle.report.specs.Printing.{mostText, printing, textAfter}
 use Rattle.report.proofs.ReportLaws.{report-fits}
-use Rattle.refusal.proofs.TestLaws.{impossible}
+use Rattle.base.proofs.TestLaws.{impossible}
 
 -- A value beside an outcome that is an accepted answer.
 beside : {A : Type 0} (o : Outcome) (a b : A) → outcome o a ≡ accepted b → a ≡ b

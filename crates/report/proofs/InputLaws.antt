@@ -11,14 +11,15 @@ use lib.ListN.{length, getD, take, drop}
 use lib.Seq.{take-all, length-take-le}
 use lib.Dec.{ltb, leb, eqb}
 use borrow.Author.Tests.{leb-true, lt-leb}
-use Rattle.refusal.specs.Choice.{if_then_else_}
-use Rattle.refusal.specs.Answer.{Answer, accepted, _>>=_}
+use Rattle.base.specs.Choice.{if_then_else_}
+use Rattle.base.specs.Answer.{Answer, accepted, _>>=_}
 use Rattle.refusal.specs.Refusal.{unless-refuse}
 use Rattle.refusal.specs.declared.Refusal.{Refusal}
 use Rattle.refusal.specs.declared.Refusal.the-variants as Row
-use Rattle.refusal.proofs.TestLaws.{and-right}
-use Rattle.refusal.proofs.AnswerLaws.{bound, passed, same-behind}
-use Rattle.number.specs.Number.{Scan, whole, prefixed, scan, readNumber, Reading, judged, readingOf, numberAt}
+use Rattle.base.proofs.TestLaws.{and-right}
+use Rattle.base.proofs.AnswerLaws.{bound, bind-same}
+use Rattle.refusal.proofs.RefuseLaws.{passed}
+use Rattle.number.specs.Number.{Scan, whole, prefixed, scan, readNumber, Reading, readOf, readingOf, numberAt}
 use Rattle.number.proofs.ReadLaws.{found, answered, read-bounds}
 use Rattle.number.proofs.WriteLaws.{small-length}
 use Rattle.job.specs.declared.Bounds.{Bounds}
@@ -107,7 +108,7 @@ header-near s f e =
 module _ (n : ℕ) (s : List ℕ) where
   number-cut : (at : ℕ) → at + 6 ≤ n → numberAt (take n s) at ≡ numberAt s at
   unfolding numberAt readNumber
-  number-cut at h = ap (λ (c : Scan). readingOf at (judged at c)) (scan-cut 6 at n s h)
+  number-cut at h = ap (λ (c : Scan). readingOf at (readOf at c)) (scan-cut 6 at n s h)
 
   fields-cut : (rangeOf : List ℕ → Bounds) (outside : List ℕ → Refusal) (k : ℕ) (got : List ℕ) (at : ℕ) → at + 6 * k ≤ n
       → readFields rangeOf outside k got (take n s) at ≡ readFields rangeOf outside k got s at
@@ -115,8 +116,8 @@ module _ (n : ℕ) (s : List ℕ) where
   fields-cut rangeOf outside zero got at h = refl
   fields-cut rangeOf outside (suc k) got at h =
       rw (number-cut at (omega arith))
-      (same-behind (numberAt s at) _ _ (λ x e.
-      same-behind (unless-refuse (within (rangeOf got) (x .value)) (outside got)) _ _ (λ _ _.
+      (bind-same (numberAt s at) _ _ (λ x e.
+      bind-same (unless-refuse (within (rangeOf got) (x .value)) (outside got)) _ _ (λ _ _.
       fields-cut rangeOf outside k (got ++ x .value ∷ []) (x .next) (omega (arith, number-near s at x e)))))
 
   hazards-cut : (h : Header) (k : ℕ) (got : List Hazard) (at : ℕ) → at + 31 * k + 5 ≤ n → readHazards h k got (take n s) at ≡ readHazards h k got s at
@@ -124,7 +125,7 @@ module _ (n : ℕ) (s : List ℕ) where
   hazards-cut h zero got at room = refl
   hazards-cut h (suc k) got at room =
       rw (fields-cut (nextInHazard h) (outsideHazard (length got)) 6 [] at (omega arith))
-      (same-behind (readFields (nextInHazard h) (outsideHazard (length got)) 6 [] s at) _ _ (λ z e.
+      (bind-same (readFields (nextInHazard h) (outsideHazard (length got)) 6 [] s at) _ _ (λ z e.
       hazards-cut h k (got ++ hazardOf (z .numbers) ∷ []) (z .next) (omega (arith, hazard-near h (outsideHazard (length got)) s at z e))))
 
   -- Where there are more, the index behind the last hazard lies before both ends.
@@ -132,7 +133,7 @@ module _ (n : ℕ) (s : List ℕ) where
   unfolding readRest
   rest-cut more h k at room =
       rw (hazards-cut h k [] at room)
-      (same-behind (readHazards h k [] s at) _ _ (λ r e.
+      (bind-same (readHazards h k [] s at) _ _ (λ r e.
       let near = hazards-near h k [] s at r e in
       let cut : leb (length (take n s)) (r .next) ≡ false = lt-leb (length (take n s)) (r .next) (omega (arith, length-take-le n s (omega arith))) in
       let whole : leb (length s) (r .next) ≡ false = lt-leb (length s) (r .next) (omega arith) in
@@ -142,7 +143,7 @@ module _ (n : ℕ) (s : List ℕ) where
   unfolding readHeader
   header-cut h =
       rw (fields-cut nextInHeader outsideHeader 14 [] 0 (omega arith))
-      (same-behind (readFields nextInHeader outsideHeader 14 [] s 0) _ _ (λ g e.
+      (bind-same (readFields nextInHeader outsideHeader 14 [] s 0) _ _ (λ g e.
       fields-cut nextInHeader outsideHeader (moreNumbers (g .numbers)) (g .numbers) (g .next)
       (omega (arith, fields-near nextInHeader outsideHeader 14 [] s 0 g e, one-more (eqb (getD (g .numbers) 0 0) 2)))))
 
@@ -150,7 +151,7 @@ module _ (n : ℕ) (s : List ℕ) where
   unfolding readJob
   job-cut more h =
       rw (header-cut (omega arith))
-      (same-behind (readHeader s) _ _ (λ f e.
+      (bind-same (readHeader s) _ _ (λ f e.
       let fits = header-bounds (headerOf (f .numbers)) (header-fits (f .numbers) (header-in s f e)) in
       rest-cut more (headerOf (f .numbers)) (headerOf (f .numbers) .count) (f .next) (omega (arith, header-near s f e, fits .count))))
 

@@ -6,17 +6,18 @@ use mathlib.Core.Path.{_≡_, refl}
 use mathlib.Core.Bool.{true}
 use mathlib.Core.List.{List, [], _∷_, _++_}
 use lib.ListN.{length, length-append}
-use Rattle.refusal.specs.Choice.{someOf, keep}
-use Rattle.refusal.specs.Answer.{Answer, accepted, refused}
+use Rattle.base.specs.Choice.{someOf, filter}
+use Rattle.base.specs.Answer.{Answer, accepted, refused}
 use Rattle.number.specs.Number.{writeIn, writeNumber, scan, readNumber, numberAt}
 use Rattle.approach.specs.Approach.{ceilDiv, formulaLength, approachLength}
-use Rattle.approach.specs.Panel.{raised, raisedLength}
+use Rattle.base.specs.Least.{nextMultiple}
+use Rattle.approach.specs.Panel.{raisedLength}
 use Rattle.job.specs.Writing.{writeNumbers, printedJob}
 use Rattle.job.specs.Job.{Job, sharedRanges, headerRanges, hazardRanges, readFields, readHeader, readHazards, readJob, readRest}
 use Rattle.runs.specs.declared.Stretch.{Stretch}
 use Rattle.runs.specs.Level.{filled, highest, requiredLevel}
 use Rattle.runs.specs.Required.{insertStation, endPoints, put, runsBetween, requiredRuns}
-use Rattle.runs.specs.RunList.{isRunList, lastStation, Next, Rising}
+use Rattle.runs.specs.RunList.{isRunList, lastStation, MayFollow, Rising}
 use Rattle.runs.proofs.RunLaws.{run-list-rising, run-list-short}
 use Rattle.planning.specs.Envelope.{farther, reachOf, offsetOf, reaches, reached, lengthening, envelope, envelopes, cutToRoad, standsNear, testHazard, testHazards, acceptJob}
 use Rattle.planning.specs.Required.{jobRuns}
@@ -47,7 +48,7 @@ station : (n : ℕ) → n ≤ lastStation → length (decimal n) ≤ 13
 station n h = decimal-within 12 n (omega arith)
 
 -- The line of a run: a letter, two stations and a level.
-run-line-short : (word : List ℕ) (e v : ℕ) (r : Stretch) → length word ≡ 1 → Next e v r → length (lineOf word r) ≤ 32
+run-line-short : (word : List ℕ) (e v : ℕ) (r : Stretch) → length word ≡ 1 → MayFollow e v r → length (lineOf word r) ≤ 32
 run-line-short word e v r w n =
     omega (
       arith,
@@ -105,5 +106,5 @@ report-fits s = go (acceptJob s) refl
 -- The job on paper
 
 pub printed-report : reported (writeNumbers printedJob) ≡ printedText
-unfolding writeNumbers printedJob printedText someOf keep writeIn writeNumber scan readNumber numberAt ceilDiv formulaLength approachLength raised raisedLength sharedRanges headerRanges hazardRanges readFields readHeader readHazards readRest readJob farther reachOf offsetOf reaches reached lengthening envelope envelopes cutToRoad standsNear testHazard testHazards acceptJob filled highest requiredLevel insertStation endPoints put runsBetween requiredRuns jobRuns digitsIn decimal fields line runLines covered runsReport reported
+unfolding writeNumbers printedJob printedText someOf filter writeIn writeNumber scan readNumber numberAt ceilDiv formulaLength approachLength nextMultiple raisedLength sharedRanges headerRanges hazardRanges readFields readHeader readHazards readRest readJob farther reachOf offsetOf reaches reached lengthening envelope envelopes cutToRoad standsNear testHazard testHazards acceptJob filled highest requiredLevel insertStation endPoints put runsBetween requiredRuns jobRuns digitsIn decimal fields line runLines covered runsReport reported
 printed-report = refl

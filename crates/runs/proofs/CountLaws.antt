@@ -8,8 +8,8 @@ use mathlib.Core.Bool.{Bool, true, false, _||_}
 use mathlib.Core.List.{List, _∷_}
 use lib.Dec.{leb}
 use borrow.Author.Tests.{ltb-true, lt-ltb, le-ltb, le-leb, lt-leb}
-use Rattle.refusal.specs.Choice.{if_then_else_}
-use Rattle.refusal.proofs.TestLaws.{and-right, not-both}
+use Rattle.base.specs.Choice.{if_then_else_}
+use Rattle.base.proofs.TestLaws.{and-right, not-both}
 use Rattle.runs.specs.declared.Stretch.{Stretch}
 use Rattle.runs.specs.Level.{has}
 use Rattle.runs.specs.RunList.{shownLevel, Rising}

@@ -1,37 +1,19 @@
 -- Gaps: the gap around a millimetre, and that the executable filling is the paper's.
 -- Assumes nothing.
-use Prim.Native.Nat.{ℕ, zero, suc, _+_, _-_, _≤_, _<_}
+use Prim.Native.Nat.{ℕ, suc, _+_, _-_, _≤_, _<_}
 use native.Mathlib.Omega.{arith}
 use native.Mathlib.Decide.{decLt}
 use mathlib.Core.Path.{_≡_, subst}
 use mathlib.Core.Logic.{_⊎_, inl, inr}
 use mathlib.Core.Bool.{true, false}
 use mathlib.Core.List.{List}
-use Rattle.refusal.specs.Choice.{someOf}
-use Rattle.refusal.proofs.TestLaws.{decided, not-both}
+use Rattle.base.specs.Choice.{someOf}
+use Rattle.base.proofs.TestLaws.{decided, not-both}
 use Rattle.runs.specs.declared.Stretch.{Stretch}
 use Rattle.runs.specs.Level.{InSet, Gap, Filled, Highest, has, atLeast, requiredLevel, Proper}
-use Rattle.refusal.proofs.OrderLaws.{not-lt}
+use Rattle.base.proofs.OrderLaws.{le-of-not-lt}
+use Rattle.base.proofs.LeastLaws.{LeastTo, least-to}
 use Rattle.runs.proofs.LevelLaws.{Joined, covered, bridged, test→set, set→test, level-top, level→joined, joined→level}
-
--- The least number up to k that has a decided property, which k has.
-record Least (P : ℕ → Type 0) (k : ℕ) : Type 0 where
-  at : ℕ
-  by : at ≤ k
-  holds : P at
-  none : (z : ℕ) → z < at → ¬ P z
-
-least : (P : ℕ → Type 0) → ((z : ℕ) → Dec (P z)) → (k : ℕ) → P k → Least P k
-least P dec zero h = record { at = 0; by = omega arith; holds = h; none = λ z a. absurd (omega arith) }
-least P dec (suc k) h = go (dec 0) (least (λ (z : ℕ). P (suc z)) (λ z. dec (suc z)) k h)
-  where
-    go : Dec (P 0) → Least (λ (z : ℕ). P (suc z)) k → Least P (suc k)
-    go (yes p) r = record { at = 0; by = omega arith; holds = p; none = λ z a. absurd (omega arith) }
-    go (no p) r = record { at = suc (r .at); by = omega (arith, r .by); holds = r .holds; none = none′ }
-      where
-        none′ : (z : ℕ) → z < suc (r .at) → ¬ P z
-        none′ zero a = p
-        none′ (suc z) a = r .none z (omega arith)
 
 -- A set of which it is decided what it has.
 module _ (S : ℕ → Type 0) (dec : (t : ℕ) → Dec (S t)) where
@@ -48,10 +30,10 @@ module _ (S : ℕ → Type 0) (dec : (t : ℕ) → Dec (S t)) where
   -- It is found by looking for a member from t downwards and from t upwards.
   pub around : (p t q : ℕ) → S p → p < t → ¬ S t → t < q → S q → Around p t q
   around p t q sp pt nt tq sq =
-      build (least (λ (k : ℕ). S (t - k)) (λ k. dec (t - k)) (t - p) (subst S (let e : p ≡ t - (t - p) = omega arith in e) sp))
-      (least (λ (k : ℕ). S (t + k)) (λ k. dec (t + k)) (q - t) (subst S (let e : q ≡ t + (q - t) = omega arith in e) sq))
+      build (least-to (λ (k : ℕ). S (t - k)) (λ k. dec (t - k)) (t - p) (subst S (let e : p ≡ t - (t - p) = omega arith in e) sp))
+      (least-to (λ (k : ℕ). S (t + k)) (λ k. dec (t + k)) (q - t) (subst S (let e : q ≡ t + (q - t) = omega arith in e) sq))
     where
-      build : Least (λ (k : ℕ). S (t - k)) (t - p) → Least (λ (k : ℕ). S (t + k)) (q - t) → Around p t q
+      build : LeastTo (λ (k : ℕ). S (t - k)) (t - p) → LeastTo (λ (k : ℕ). S (t + k)) (q - t) → Around p t q
       build l f = record {
         from = suc (t - l .at);
         to = t + f .at;
@@ -62,21 +44,21 @@ module _ (S : ℕ → Type 0) (dec : (t : ℕ) → Dec (S t)) where
         gap = record {
           some = omega (arith, l .by, below, above);
           after-start = omega arith;
-          before = subst S (let e : t - l .at ≡ suc (t - l .at) - 1 = omega arith in e) (l .holds);
-          after = f .holds;
+          before = subst S (let e : t - l .at ≡ suc (t - l .at) - 1 = omega arith in e) (l .is .holds);
+          after = f .is .holds;
           none = λ z a b. none′ z a b (decLt t z);
         };
       }
         where
           below : 0 < l .at
-          below = not-lt (λ z. nt (subst S (let e : t - l .at ≡ t = omega arith in e) (l .holds)))
+          below = le-of-not-lt (λ z. nt (subst S (let e : t - l .at ≡ t = omega arith in e) (l .is .holds)))
 
           above : 0 < f .at
-          above = not-lt (λ z. nt (subst S (let e : t + f .at ≡ t = omega arith in e) (f .holds)))
+          above = le-of-not-lt (λ z. nt (subst S (let e : t + f .at ≡ t = omega arith in e) (f .is .holds)))
 
           none′ : (z : ℕ) → suc (t - l .at) ≤ z → z < t + f .at → Dec (t < z) → ¬ S z
-          none′ z a b (yes h) = λ s. f .none (z - t) (omega arith) (subst S (let e : z ≡ t + (z - t) = omega arith in e) s)
-          none′ z a b (no h) = λ s. l .none (t - z) (omega arith) (subst S (let e : z ≡ t - (t - z) = omega arith in e) s)
+          none′ z a b (yes h) = λ s. omega (arith, f .is .least (z - t) (subst S (let e : z ≡ t + (z - t) = omega arith in e) s))
+          none′ z a b (no h) = λ s. omega (arith, l .is .least (t - z) (subst S (let e : z ≡ t - (t - z) = omega arith in e) s))
 
 module _ (es : List Stretch) (v : ℕ) where
   set? : (t : ℕ) → Dec (InSet es v t)
@@ -108,8 +90,8 @@ module _ (es : List Stretch) (v : ℕ) where
         let n = g .gap in
         let b = n .before in
         let a = n .after in
-        let ends : b .one .end ≤ g .from = not-lt (λ l. n .none (g .from) (omega arith) (n .some) (record { one = b .one; member = b .member; high = b .high; has = (omega (arith, b .has .0), l) })) in
-        let starts : g .to ≤ a .one .start = not-lt (λ l. n .none (g .to - 1) (omega (arith, n .some)) (omega (arith, n .some)) (record { one = a .one; member = a .member; high = a .high; has = (omega arith, omega (arith, a .has .1)) })) in
+        let ends : b .one .end ≤ g .from = le-of-not-lt (λ l. n .none (g .from) (omega arith) (n .some) (record { one = b .one; member = b .member; high = b .high; has = (omega (arith, b .has .0), l) })) in
+        let starts : g .to ≤ a .one .start = le-of-not-lt (λ l. n .none (g .to - 1) (omega (arith, n .some)) (omega (arith, n .some)) (record { one = a .one; member = a .member; high = a .high; has = (omega arith, omega (arith, a .has .1)) })) in
         bridged (b .one) (a .one) (b .member) (a .member) (b .high) (a .high) (omega (arith, ends, g .lower)) (omega (arith, starts, g .upper)) (omega (arith, g .short, n .some, b .has .1, a .has .0))
 
 -- The paper's words: the required level is the highest v whose set, gaps added, has t; else 0.

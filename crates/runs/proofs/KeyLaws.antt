@@ -12,9 +12,9 @@ use Rattle.runs.specs.RunList.{envelopesOf}
 use Rattle.runs.specs.Required.{requiredRuns}
 use Rattle.runs.specs.Stored.{StoredEnvelopes}
 use Rattle.runs.specs.Sorted.{Sortable, Sorted}
-use Rattle.runs.specs.Stand.{Sound, AllSound}
+use Rattle.runs.specs.Sweep.{Sound, AllSound}
 use Rattle.runs.specs.Steps.{keyOf, envelopeOf, envelopesTo, Sweepable}
-use Rattle.refusal.proofs.EachLaws.{cons-each}
+use Rattle.base.proofs.ListLaws.{cons-each}
 use Rattle.runs.proofs.IndexLaws.{Indexed, indexed-last, indexed-more, take-indexed, among, store-next}
 use Rattle.runs.proofs.LevelLaws.{level-same}
 use Rattle.runs.proofs.RunsOfLaws.{stretch-path, runs-of-unique}

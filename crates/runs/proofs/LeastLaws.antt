@@ -7,7 +7,7 @@ use mathlib.Core.Logic.{inr}
 use mathlib.Core.List.{List, List·Memᴰ}
 use Rattle.runs.specs.declared.Stretch.{Stretch}
 use Rattle.runs.specs.Level.{Covers, NoShortGap, NoShortGapIn, InSet, Gap, requiredLevel, Proper}
-use Rattle.refusal.proofs.OrderLaws.{not-lt}
+use Rattle.base.proofs.OrderLaws.{le-of-not-lt}
 use Rattle.runs.proofs.LevelLaws.{Joined, covered, bridged, Levelled, level-below, level→joined, joined→level}
 use Rattle.runs.proofs.GapLaws.{around, Filled→joined}
 
@@ -36,7 +36,7 @@ module _ (es : List Stretch) (G : ℕ) where
     -- So a gap of it is one of the envelopes' set, and would be filled if it were short.
     joined-gap : (x y : ℕ) → Gap (λ (t : ℕ). Joined es v G t) x y → G ≤ y - x
     joined-gap x y g =
-        not-lt (λ h. g .none x (omega arith) (g .some)
+        le-of-not-lt (λ h. g .none x (omega arith) (g .some)
         (Filled→joined es v G x (inr (record { from = x; to = y; gap = set-gap; short = h; lower = omega arith; upper = g .some }))))
       where
         set-gap : Gap (InSet es v) x y
@@ -64,7 +64,7 @@ module _ (es : List Stretch) (G : ℕ) where
     where
       at : (v : ℕ) → 1 ≤ v → v ≤ 6 → Joined es v G t → v ≤ f t
       at v p q (covered e m h k) = omega (arith, c e m t k)
-      at v p q (bridged a b m o h k x y z) = not-lt (λ l.
+      at v p q (bridged a b m o h k x y z) = le-of-not-lt (λ l.
           let pa = proper a m in
           let pb = proper b o in
           let ca = c a m (a .end - 1) (omega arith, omega arith) in

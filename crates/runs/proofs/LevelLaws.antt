@@ -8,11 +8,11 @@ use mathlib.Core.Bool.{Bool, true, false, _&&_}
 use mathlib.Core.List.{List, List·Memᴰ}
 use lib.Dec.{ltb, leb}
 use borrow.Author.Tests.{ltb-true, leb-true, lt-ltb, le-leb}
-use Rattle.refusal.specs.Choice.{if_then_else_, someOf, Passing}
+use Rattle.base.specs.Choice.{if_then_else_, someOf, Passing}
 use Rattle.runs.specs.declared.Stretch.{Stretch}
 use Rattle.runs.specs.Level.{Has, InSet, has, between, atLeast, filled, highest, requiredLevel}
-use Rattle.refusal.proofs.TestLaws.{and-left, and-right, and-intro, or-cases, or-left, or-right, not-both, any-elim, any-intro, keep-elim, keep-intro}
-use Rattle.refusal.proofs.OrderLaws.{not-lt}
+use Rattle.base.proofs.TestLaws.{and-left, and-right, and-intro, or-cases, or-left, or-right, not-both, any-elim, any-intro, filter-elim, filter-intro}
+use Rattle.base.proofs.OrderLaws.{le-of-not-lt}
 
 -- t is in an envelope of level v or higher, or between two that are less than G apart.
 pub data Joined (es : List Stretch) (v G t : ℕ) : Type 0 where
@@ -35,17 +35,17 @@ module _ (es : List Stretch) (v t : ℕ) where
   pub test→set : someOf (λ (e : Stretch). has e t) (atLeast v es) ≡ true → InSet es v t
   test→set h =
       let w = any-elim (λ (e : Stretch). has e t) (atLeast v es) h in
-      let k = keep-elim (reaches v) es (w .member) in
+      let k = filter-elim (reaches v) es (w .member) in
       record { one = w .one; member = k .0; high = leb-true _ _ (k .1); has = (leb-true _ _ (and-left _ _ (w .passes)), ltb-true _ _ (and-right (leb (w .one .start) t) _ (w .passes))) }
 
   pub set→test : InSet es v t → someOf (λ (e : Stretch). has e t) (atLeast v es) ≡ true
-  set→test s = any-intro (λ (e : Stretch). has e t) (keep-intro (reaches v) (s .member) (le-leb _ _ (s .high))) (and-intro (le-leb _ _ (s .has .0)) (lt-ltb _ _ (s .has .1)))
+  set→test s = any-intro (λ (e : Stretch). has e t) (filter-intro (reaches v) (s .member) (le-leb _ _ (s .high))) (and-intro (le-leb _ _ (s .has .0)) (lt-ltb _ _ (s .has .1)))
 
   module _ (G : ℕ) where
     in-pair : (a : Stretch) → List·Memᴰ a (atLeast v es) → Passing (between G t a) (atLeast v es) → Joined es v G t
     in-pair a m w =
-        let k = keep-elim (reaches v) es m in
-        let l = keep-elim (reaches v) es (w .member) in
+        let k = filter-elim (reaches v) es m in
+        let l = filter-elim (reaches v) es (w .member) in
         let h = w .passes in
         let b = w .one in
         bridged a b (k .0) (l .0) (leb-true _ _ (k .1)) (leb-true _ _ (l .1))
@@ -66,8 +66,8 @@ module _ (es : List Stretch) (v t : ℕ) where
     joined→filled (covered e m h x) = or-left _ (set→test (record { one = e; member = m; high = h; has = x }))
     joined→filled (bridged a b m n h k x y z) =
         or-right (someOf (λ (e : Stretch). has e t) (atLeast v es))
-        (any-intro (λ (a : Stretch). someOf (between G t a) (atLeast v es)) (keep-intro (reaches v) m (le-leb _ _ h))
-        (any-intro (between G t a) (keep-intro (reaches v) n (le-leb _ _ k)) (and-intro (and-intro (le-leb _ _ x) (lt-ltb _ _ y)) (lt-ltb _ _ z))))
+        (any-intro (λ (a : Stretch). someOf (between G t a) (atLeast v es)) (filter-intro (reaches v) m (le-leb _ _ h))
+        (any-intro (between G t a) (filter-intro (reaches v) n (le-leb _ _ k)) (and-intro (and-intro (le-leb _ _ x) (lt-ltb _ _ y)) (lt-ltb _ _ z))))
 
 -- Filling is monotone in the level and in the envelopes.
 joined-lower : {es : List Stretch} {u v G t : ℕ} → u ≤ v → Joined es v G t → Joined es u G t
@@ -96,7 +96,7 @@ module _ (es : List Stretch) (G t : ℕ) where
     where
       go : (b : Bool) → filled (atLeast (suc n) es) G t ≡ b → (v ≤ n → Joined es v G t → v ≤ highest es G t n) → v ≤ (if b then suc n else highest es G t n)
       go true e r = q
-      go false e r = r (not-lt (λ h. not-both (joined→filled es (suc n) t G (let top : v ≡ suc n = omega arith in rw top at j)) e)) j
+      go false e r = r (le-of-not-lt (λ h. not-both (joined→filled es (suc n) t G (let top : v ≡ suc n = omega arith in rw top at j)) e)) j
 
   highest-joined : (n v : ℕ) → 1 ≤ v → v ≤ highest es G t n → Joined es v G t
   unfolding highest
@@ -122,12 +122,12 @@ module _ (es : List Stretch) (G t : ℕ) where
 
   -- What bounds every level whose filled set has t bounds the required level.
   pub level-below : (n : ℕ) → ((v : ℕ) → 1 ≤ v → v ≤ 6 → Joined es v G t → v ≤ n) → requiredLevel es G t ≤ n
-  level-below n bound = not-lt (λ l. omega (arith, bound (requiredLevel es G t) (omega arith) level-top (level→joined (requiredLevel es G t) (omega arith) (omega arith))))
+  level-below n bound = le-of-not-lt (λ l. omega (arith, bound (requiredLevel es G t) (omega arith) level-top (level→joined (requiredLevel es G t) (omega arith) (omega arith))))
 
   -- The required level is n where the sets of exactly the levels up to n have t.
   pub level-is : (n : ℕ) → n ≤ 6 → (1 ≤ n → Joined es n G t) → ((v : ℕ) → 1 ≤ v → Joined es v G t → v ≤ n) → requiredLevel es G t ≡ n
   level-is n top low high =
-      let up : n ≤ requiredLevel es G t = not-lt (λ l. omega (arith, joined→level n (omega arith) top (low (omega arith)))) in
+      let up : n ≤ requiredLevel es G t = le-of-not-lt (λ l. omega (arith, joined→level n (omega arith) top (low (omega arith)))) in
       omega (arith, up, level-below n (λ v p q j. high v p j))
 
 -- Where each filled set of one list has t, that of another has u: there the other requires no less.

@@ -9,20 +9,20 @@ use mathlib.Core.List.{List, _∷_, List·Memᴰ, List·Memᴰ·head, List·Mem�
 use lib.ListN.{length, getD}
 use lib.Dec.{ltb}
 use borrow.Author.Tests.{ltb-true, ltb-false}
-use Rattle.refusal.specs.Choice.{if_then_else_}
-use Rattle.refusal.proofs.EachLaws.{cons-each}
+use Rattle.base.specs.Choice.{if_then_else_}
+use Rattle.base.proofs.ListLaws.{cons-each}
 use Rattle.runs.specs.declared.Stretch.{Stretch}
 use Rattle.runs.specs.Level.{requiredLevel}
-use Rattle.runs.specs.Breaks.{Break, levelAt, Shape, setFrom}
-use Rattle.runs.specs.Stand.{Sound, Ending, Top, aboveTo, Above, Raised, Begun, Stands, filledFrom, lifted}
-use Rattle.refusal.proofs.OrderLaws.{not-lt}
+use Rattle.runs.specs.Breaks.{Break, breakLevel, Shape, setFrom}
+use Rattle.runs.specs.Sweep.{Sound, Ending, Top, aboveTo, Above, Raised, Begun, SweptTo, filledFrom, lifted}
+use Rattle.base.proofs.OrderLaws.{le-of-not-lt}
 use Rattle.runs.proofs.BreakLaws.{shape-on, set-shape, set-before, set-after, set-more, set-cuts}
 use Rattle.runs.proofs.TopLaws.{raised-high, raised-low, distinct-skip, distinct-lift}
 use Rattle.runs.proofs.SweepLaws.{not-above, above-is, under-top}
 use Rattle.runs.proofs.MoreLaws.{skip-level, lift-here, lift-filled, lift-kept}
 use Rattle.runs.proofs.StandLaws.{level-last}
 
-module _ {es : List Stretch} {G u : ℕ} {tops : List ℕ} {level : ℕ} {bs : List Break} (s : Stands es G u tops level bs) (x : Stretch) (at : x .start ≡ u) (x-sound : Sound x) (tops′ : List ℕ) (raised : Raised (x .level) (x .end) tops tops′) where
+module _ {es : List Stretch} {G u : ℕ} {tops : List ℕ} {level : ℕ} {bs : List Break} (s : SweptTo es G u tops level bs) (x : Stretch) (at : x .start ≡ u) (x-sound : Sound x) (tops′ : List ℕ) (raised : Raised (x .level) (x .end) tops tops′) where
   high-is : (v : ℕ) → v ≤ x .level → getD tops′ v 0 ≡ max (getD tops v 0) (x .end)
   high-is = raised-high (x .level) (x .end) tops tops′ raised
 
@@ -56,7 +56,7 @@ module _ {es : List Stretch} {G u : ℕ} {tops : List ℕ} {level : ℕ} {bs : L
   more-begun = record { sound = cons-each Sound x-sound (s .begun .sound); by = cons-each (λ e. e .start ≤ u) (omega arith) (s .begun .by); top = more-top }
 
   -- The level that stands is as high.
-  pub skip : x .level ≤ level → Stands (x ∷ es) G u tops′ level bs
+  pub skip : x .level ≤ level → SweptTo (x ∷ es) G u tops′ level bs
   skip h = record {
     begun = more-begun;
     above = record { low = λ v p q. low v p q (decLe v (x .level)); high = λ v p. high v p (decLe v (x .level)) };
@@ -95,16 +95,16 @@ module _ {es : List Stretch} {G u : ℕ} {tops : List ℕ} {level : ℕ} {bs : L
         (λ h. shape-on (suc (getD tops k 0)) (suc u) (setFrom (getD tops k 0) k bs) (omega (arith, not-above (s .above) k h)) (set-shape (getD tops k 0) k bs (suc u) (s .shape)))
         (λ _. s .shape)
 
-    filled-shows : (t : ℕ) → t < u → levelAt (filledFrom tops level k bs) t ≡ requiredLevel (x ∷ es) G t
+    filled-shows : (t : ℕ) → t < u → breakLevel (filledFrom tops level k bs) t ≡ requiredLevel (x ∷ es) G t
     filled-shows t l =
-        filled-step (λ (p : List Break). levelAt p t ≡ requiredLevel (x ∷ es) G t)
+        filled-step (λ (p : List Break). breakLevel p t ≡ requiredLevel (x ∷ es) G t)
         (λ h. filling h (decLe (getD tops k 0) t))
         (λ h. s .shows t (omega arith) ∙ sym (kept (λ d. absurd (omega arith))))
       where
         kept : (level < k → t < getD tops k 0) → requiredLevel (x ∷ es) G t ≡ requiredLevel es G t
         kept = lift-kept G (s .begun) x at x-sound (s .above) higher near t l
 
-        filling : level < k → Dec (getD tops k 0 ≤ t) → levelAt (setFrom (getD tops k 0) k bs) t ≡ requiredLevel (x ∷ es) G t
+        filling : level < k → Dec (getD tops k 0 ≤ t) → breakLevel (setFrom (getD tops k 0) k bs) t ≡ requiredLevel (x ∷ es) G t
         filling h (yes d) = set-after (getD tops k 0) k bs (suc u) t (s .shape) d ∙ sym (lift-filled G (s .begun) x at x-sound (s .above) higher near t l h d)
         filling h (no d) = set-before (getD tops k 0) k bs t (omega arith) ∙ s .shows t (omega arith) ∙ sym (kept (λ _. omega arith))
 
@@ -119,17 +119,17 @@ module _ {es : List Stretch} {G u : ℕ} {tops : List ℕ} {level : ℕ} {bs : L
             set-cuts (getD tops k 0) k bs (omega (arith, s .shows (getD tops k 0 - 1) (omega arith), under-top G (s .begun) k (omega arith) (omega arith))) (omega (arith, level-last s))
 
     -- The level rises to that of the new envelope.
-    pub lift : Stands (x ∷ es) G u tops′ (x .level) (lifted tops level u (x .level) G bs)
+    pub lift : SweptTo (x ∷ es) G u tops′ (x .level) (lifted tops level u (x .level) G bs)
     unfolding lifted
     lift = record {
       begun = more-begun;
-      above = record { low = λ v p q. omega (arith, high-is v q, x-sound .long); high = λ v p. not-lt (λ l. omega (arith, s .above .high v (omega (arith, low-is v l)))) };
+      above = record { low = λ v p q. omega (arith, high-is v q, x-sound .long); high = λ v p. le-of-not-lt (λ l. omega (arith, s .above .high v (omega (arith, low-is v l)))) };
       shape = set-shape u (x .level) (filledFrom tops level k bs) (suc u) filled-shape;
       shows = λ t l. shows t l (decLt t u);
       room = omega (arith, s .room, filled-length, set-more u (x .level) (filledFrom tops level k bs), distinct-lift (x .level) (x .end) tops tops′ raised level (λ v h. omega (arith, not-above (s .above) v h, x-sound .long)) (omega arith));
     }
       where
-        shows : (t : ℕ) → t ≤ u → Dec (t < u) → levelAt (setFrom u (x .level) (filledFrom tops level k bs)) t ≡ requiredLevel (x ∷ es) G t
+        shows : (t : ℕ) → t ≤ u → Dec (t < u) → breakLevel (setFrom u (x .level) (filledFrom tops level k bs)) t ≡ requiredLevel (x ∷ es) G t
         shows t l (yes h) = set-before u (x .level) (filledFrom tops level k bs) t h ∙ filled-shows t h
         shows t l (no h) =
             let e : u ≡ t = omega arith in

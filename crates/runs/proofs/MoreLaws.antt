@@ -9,8 +9,8 @@ use mathlib.Core.List.{List, _∷_, List·Memᴰ, List·Memᴰ·head, List·Mem�
 use lib.ListN.{getD}
 use Rattle.runs.specs.declared.Stretch.{Stretch}
 use Rattle.runs.specs.Level.{requiredLevel}
-use Rattle.runs.specs.Stand.{Sound, Ending, Above, Begun}
-use Rattle.refusal.proofs.OrderLaws.{not-lt}
+use Rattle.runs.specs.Sweep.{Sound, Ending, Above, Begun}
+use Rattle.base.proofs.OrderLaws.{le-of-not-lt}
 use Rattle.runs.proofs.LevelLaws.{Joined, covered, bridged, level-is, level-le, required-more}
 use Rattle.runs.proofs.SweepLaws.{tops-fall, below-top, solid}
 
@@ -94,7 +94,7 @@ module _ {es : List Stretch} {s : ℕ} {tops : List ℕ} (G : ℕ) (ok : Begun e
             (λ v p j. go v (joined-cons v t j))
           where
             go : (v : ℕ) → More v t → v ≤ min k (x .level)
-            go v (old j) = not-lt (λ q. omega (arith, below-top G ok v t j, tops-fall ok (min k (x .level)) v (omega arith)))
+            go v (old j) = le-of-not-lt (λ q. omega (arith, below-top G ok v t j, tops-fall ok (min k (x .level)) v (omega arith)))
             go v (within q r) = absurd (omega arith)
             go v (gap-before q r y z) = omega (arith, near .high v r)
 

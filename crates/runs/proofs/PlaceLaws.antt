@@ -13,11 +13,11 @@ use lib.ListN.{length, getD, set, length-append}
 use lib.Seq.{getD-set-same, getD-set-other}
 use lib.Dec.{ltb}
 use borrow.Author.Tests.{le-ltb, lt-leb, le-leb, eq-eqb, ne-eqb}
-use Rattle.refusal.specs.Choice.{if_then_else_}
+use Rattle.base.specs.Choice.{if_then_else_}
 use Rattle.runs.specs.declared.RunList.{RunList}
 use Rattle.runs.specs.Stored.{storedRuns}
-use Rattle.runs.specs.Stand.{bit}
-use Rattle.runs.specs.Breaks.{Break, levelOf, breaksTo, cut, setFrom, runsBelow}
+use Rattle.runs.specs.Sweep.{bit}
+use Rattle.runs.specs.Breaks.{Break, levelOf, breaksTo, breaksBefore, setFrom, runsBelow}
 use Rattle.runs.proofs.StoredLaws.{withNext, cleared, stored-more, stored-same}
 
 module _ (starts levels : List ℕ) where
@@ -41,16 +41,16 @@ module _ (starts levels : List ℕ) where
       rw (q, le-ltb 0 (getD levels k 0) (omega arith)) refl
 
   -- A break point at or after t is cut off; one before t ends the cutting.
-  pub cut-more : (t k : ℕ) → 0 < k → t ≤ getD starts (k - 1) 0 → cut t (breaksTo starts levels k) ≡ cut t (breaksTo starts levels (k - 1))
-  unfolding cut
-  cut-more t k h l = ap (cut t) (breaks-last k h) ∙ rw (le-leb _ _ l)
+  pub cut-more : (t k : ℕ) → 0 < k → t ≤ getD starts (k - 1) 0 → breaksBefore t (breaksTo starts levels k) ≡ breaksBefore t (breaksTo starts levels (k - 1))
+  unfolding breaksBefore
+  cut-more t k h l = ap (breaksBefore t) (breaks-last k h) ∙ rw (le-leb _ _ l)
 
-  pub cut-done : (t k : ℕ) → 0 < k → getD starts (k - 1) 0 < t → cut t (breaksTo starts levels k) ≡ breaksTo starts levels k
-  unfolding cut
-  cut-done t k h l = ap (cut t) (breaks-last k h) ∙ (rw (lt-leb _ _ l)) ∙ sym (breaks-last k h)
+  pub cut-done : (t k : ℕ) → 0 < k → getD starts (k - 1) 0 < t → breaksBefore t (breaksTo starts levels k) ≡ breaksTo starts levels k
+  unfolding breaksBefore
+  cut-done t k h l = ap (breaksBefore t) (breaks-last k h) ∙ (rw (lt-leb _ _ l)) ∙ sym (breaks-last k h)
 
-  pub cut-none : (t k : ℕ) → k ≤ 0 → cut t (breaksTo starts levels k) ≡ breaksTo starts levels k
-  unfolding breaksTo cut
+  pub cut-none : (t k : ℕ) → k ≤ 0 → breaksBefore t (breaksTo starts levels k) ≡ breaksTo starts levels k
+  unfolding breaksTo breaksBefore
   cut-none t k h = let e : k ≡ 0 = omega arith in rw e
 
   pub level-first : (k : ℕ) → k ≡ 0 → levelOf (breaksTo starts levels k) ≡ 0
@@ -74,11 +74,11 @@ module _ (starts levels : List ℕ) where
       rw (add-one k, getD-set-same starts k t 0 h, getD-set-same levels k v 0 l) (ap (λ (r : List Break). record { start = t; level = v } ∷ r) (breaks-set k t v k (omega arith)))
 
   -- The level from t on is v already; or it is set.
-  pub set-same : (t v k count : ℕ) → breaksTo starts levels k ≡ cut t (breaksTo starts levels count) → levelOf (breaksTo starts levels k) ≡ v → breaksTo starts levels k ≡ setFrom t v (breaksTo starts levels count)
+  pub set-same : (t v k count : ℕ) → breaksTo starts levels k ≡ breaksBefore t (breaksTo starts levels count) → levelOf (breaksTo starts levels k) ≡ v → breaksTo starts levels k ≡ setFrom t v (breaksTo starts levels count)
   unfolding setFrom
   set-same t v k count e l = rw (← e, eq-eqb _ _ l)
 
-  pub set-push : (t v k count : ℕ) → breaksTo starts levels k ≡ cut t (breaksTo starts levels count) → levelOf (breaksTo starts levels k) ≢ v → k < length starts → k < length levels
+  pub set-push : (t v k count : ℕ) → breaksTo starts levels k ≡ breaksBefore t (breaksTo starts levels count) → levelOf (breaksTo starts levels k) ≢ v → k < length starts → k < length levels
       → breaksTo (set starts k t) (set levels k v) (k + 1) ≡ setFrom t v (breaksTo starts levels count)
   unfolding setFrom
   set-push t v k count e n h l = rw (← e, ne-eqb _ _ n) (breaks-push k t v h l)

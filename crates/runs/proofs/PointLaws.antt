@@ -8,12 +8,12 @@ use mathlib.Core.List.{List, [], _∷_, List·Memᴰ, List·Memᴰ·head, List·
 use lib.ListN.{length}
 use lib.Dec.{leb}
 use borrow.Author.Tests.{leb-true, leb-false}
-use Rattle.refusal.specs.Choice.{if_then_else_}
-use Rattle.refusal.proofs.EachLaws.{cons-each}
+use Rattle.base.specs.Choice.{if_then_else_}
+use Rattle.base.proofs.ListLaws.{cons-each}
 use Rattle.runs.specs.declared.Stretch.{Stretch}
 use Rattle.runs.specs.Level.{requiredLevel}
 use Rattle.runs.specs.Required.{insertStation, endPoints}
-use Rattle.refusal.proofs.OrderLaws.{not-lt}
+use Rattle.base.proofs.OrderLaws.{le-of-not-lt}
 use Rattle.runs.proofs.LevelLaws.{Joined, covered, bridged, level-is, level-le}
 
 -- 1. A station put into a rising list: what holds of it there, and of the lists so made.
@@ -135,4 +135,4 @@ module _ (es : List Stretch) (G t : ℕ) where
       on v w = w .all t (omega (arith, w .lower)) (clear (w .to) (w .to-point) (w .upper))
 
       back : (v : ℕ) → Amid es v G t → Joined es v G p
-      back v w = w .all p (not-lt (λ h. omega (arith, clear (w .from) (w .from-point) h, w .lower))) (omega (arith, w .upper))
+      back v w = w .all p (le-of-not-lt (λ h. omega (arith, clear (w .from) (w .from-point) h, w .lower))) (omega (arith, w .upper))

@@ -10,14 +10,14 @@ use mathlib.Core.List.{List, [], _∷_, List·Memᴰ, List·Memᴰ·head, List·
 use lib.ListN.{length}
 use lib.Dec.{ltb, eqb}
 use borrow.Author.Tests.{ltb-true, lt-ltb, eqb-true, eq-eqb}
-use Rattle.refusal.specs.Choice.{if_then_else_}
-use Rattle.refusal.proofs.TestLaws.{and-left, and-right, and-intro, not-both}
-use Rattle.refusal.proofs.EachLaws.{cons-each}
+use Rattle.base.specs.Choice.{if_then_else_}
+use Rattle.base.proofs.TestLaws.{and-left, and-right, and-intro, not-both}
+use Rattle.base.proofs.ListLaws.{cons-each}
 use Rattle.runs.specs.declared.Stretch.{Stretch}
 use Rattle.runs.specs.Level.{Has, requiredLevel, Proper}
 use Rattle.runs.specs.Required.{put, endPoints, runsBetween, requiredRuns}
-use Rattle.runs.specs.RunList.{lastStation, isRunList, Next, RunsOf}
-use Rattle.refusal.proofs.OrderLaws.{not-lt}
+use Rattle.runs.specs.RunList.{lastStation, isRunList, MayFollow, RunsOf}
+use Rattle.base.proofs.OrderLaws.{le-of-not-lt}
 use Rattle.runs.proofs.LevelLaws.{EndsBy, level-top}
 use Rattle.runs.proofs.RunLaws.{list-test, follow-other, shown-in, shown-nothing}
 use Rattle.runs.proofs.RunsOfLaws.{RunsFrom, runs-cons, runs-skip, runs-all, runs-rest}
@@ -37,9 +37,9 @@ module _ (f : ℕ → ℕ) (r : Stretch) (order : r .start ≤ r .end) (top : r 
   left-out e rs s = (runs-skip (r .end) 0 (r .start) 0 order (λ _. refl) (λ t a b. omega (arith, flat t (a, b), none t a b)) s, omega arith)
     where
       none : (t : ℕ) → r .start ≤ t → t < r .end → r .level ≤ 0
-      none t a b = not-lt (λ p. not-both (and-intro (lt-ltb (r .start) (r .end) (omega arith)) (lt-ltb 0 (r .level) p)) e)
+      none t a b = le-of-not-lt (λ p. not-both (and-intro (lt-ltb (r .start) (r .end) (omega arith)) (lt-ltb 0 (r .level) p)) e)
 
-  first-run : real ≡ true → Next (r .start) 0 r
+  first-run : real ≡ true → MayFollow (r .start) 0 r
   unfolding real
   first-run e =
       let long : r .start < r .end = ltb-true _ _ (and-left _ (ltb 0 (r .level)) e) in
@@ -100,7 +100,7 @@ module _ (es : List Stretch) (G : ℕ) where
       → RunsFrom f p 0 (runsBetween f (p ∷ ps)) × (length (runsBetween f (p ∷ ps)) ≤ length ps)
   unfolding runsBetween f
   runs-on p [] s by left =
-      (record { rising = tt; shows = λ t h. shown-nothing t ∙ sym (level-past es G t (λ x m. not-lt (λ k. List·Memᴰ·not-nil (left x m (omega arith))))) }, omega arith)
+      (record { rising = tt; shows = λ t h. shown-nothing t ∙ sym (level-past es G t (λ x m. le-of-not-lt (λ k. List·Memᴰ·not-nil (left x m (omega arith))))) }, omega arith)
   runs-on p (q ∷ ps) s by left =
       let le : p ≤ q = s .0 q (List·Memᴰ·head refl) in
       let rest = runs-on q ps (s .1) (λ x m. by x (List·Memᴰ·tail m)) (λ x m h. not-first (left x m (omega arith)) h) in

@@ -10,11 +10,11 @@ use mathlib.Core.List.{List, [], _∷_, _++_}
 use lib.ListN.{length}
 use lib.Dec.{ltb, leb, eqb}
 use borrow.Author.Tests.{ltb-true, leb-true, lt-ltb, le-ltb, lt-leb, le-leb, eqb-true, eq-eqb, not-true}
-use Rattle.refusal.specs.Choice.{if_then_else_}
-use Rattle.refusal.proofs.TestLaws.{and-left, and-right, and-intro, decided, not-both}
+use Rattle.base.specs.Choice.{if_then_else_}
+use Rattle.base.proofs.TestLaws.{and-left, and-right, and-intro, decided, not-both}
 use Rattle.runs.specs.declared.Stretch.{Stretch}
 use Rattle.runs.specs.Level.{Has}
-use Rattle.runs.specs.RunList.{mostRuns, lastStation, mayFollow, risingRuns, isRunList, shownLevel, Next, Rising}
+use Rattle.runs.specs.RunList.{mostRuns, lastStation, mayFollow, risingRuns, isRunList, shownLevel, MayFollow, Rising}
 
 apart : (a b c d : ℕ) → (a ≡ b → c ≢ d) → not (eqb a b && eqb c d) ≡ true
 apart a b c d h = go (decided (eqb a b)) (decided (eqb c d))
@@ -25,7 +25,7 @@ apart a b c d h = go (decided (eqb a b)) (decided (eqb c d))
     go (inr p) d = rw p
 
 -- The tests, and the facts that they tell.
-pub follows : (e v : ℕ) (r : Stretch) → mayFollow e v r ≡ true → Next e v r
+pub follows : (e v : ℕ) (r : Stretch) → mayFollow e v r ≡ true → MayFollow e v r
 unfolding mayFollow
 follows e v r h =
     let c2 = leb e (r .start) && ltb (r .start) (r .end) in
@@ -72,7 +72,7 @@ unfolding isRunList
 list-test rs short h = and-intro (le-leb (length rs) mostRuns short) (rising-test 0 0 rs h)
 
 -- A run that follows one may follow another.
-pub follow-other : {e v p w : ℕ} {r : Stretch} → p ≤ r .start → (p ≡ r .start → w ≢ r .level) → Next e v r → Next p w r
+pub follow-other : {e v p w : ℕ} {r : Stretch} → p ≤ r .start → (p ≡ r .start → w ≢ r .level) → MayFollow e v r → MayFollow p w r
 follow-other after differs n = record { after = after; long = n .long; ends = n .ends; low = n .low; top = n .top; differs = differs }
 
 -- Rising runs may be seen from further back; where that is no further, with nothing before them.
@@ -144,7 +144,7 @@ unfolding shownLevel
 not-shown e v [] h p q = absurd (omega arith)
 not-shown e v (r ∷ rs) h p q = go (decLt e (r .start))
   where
-    n : Next e v r
+    n : MayFollow e v r
     n = h .0
 
     go : Dec (e < r .start) → ⊥

@@ -6,11 +6,11 @@ use native.Mathlib.Decide.{decLt}
 use mathlib.Core.Path.{_≡_, refl, sym, subst, ap, _∙_}
 use mathlib.Core.Logic.{_⊎_, inl, inr, _≢_}
 use mathlib.Core.List.{List, [], _∷_, List·Memᴰ, List·Memᴰ·head, List·Memᴰ·tail, List·Memᴰ·cases-cons, List·Memᴰ·not-nil, Memᴰ·append-right}
-use Rattle.refusal.proofs.EachLaws.{cons-each}
+use Rattle.base.proofs.ListLaws.{cons-each}
 use Rattle.runs.specs.declared.Stretch.{Stretch}
 use Rattle.runs.specs.Level.{Has}
-use Rattle.runs.specs.RunList.{IsRun, shownLevel, Next, Rising, RunsOf}
-use Rattle.refusal.proofs.OrderLaws.{not-lt}
+use Rattle.runs.specs.RunList.{IsRun, shownLevel, MayFollow, Rising, RunsOf}
+use Rattle.base.proofs.OrderLaws.{le-of-not-lt}
 use Rattle.runs.proofs.RunLaws.{rising-back, shown-in, shown-before, shown-after, shown-zero, not-shown, shown-run}
 
 -- From e on, where level v ended, the runs show f.
@@ -22,7 +22,7 @@ pub record RunsFrom (f : ℕ → ℕ) (e v : ℕ) (rs : List Stretch) : Type 0 w
 
 module _ {f : ℕ → ℕ} {rs : List Stretch} where
   -- A stretch of one level, in front.
-  pub runs-cons : (r : Stretch) (v : ℕ) → Next (r .start) v r → ((t : ℕ) → Has r t → r .level ≡ f t) → RunsFrom f (r .end) (r .level) rs → RunsFrom f (r .start) v (r ∷ rs)
+  pub runs-cons : (r : Stretch) (v : ℕ) → MayFollow (r .start) v r → ((t : ℕ) → Has r t → r .level ≡ f t) → RunsFrom f (r .end) (r .level) rs → RunsFrom f (r .start) v (r ∷ rs)
   runs-cons r v n flat s = record { rising = (n, s .rising); shows = λ t h. at t h (decLt t (r .end)) }
     where
       at : (t : ℕ) → r .start ≤ t → Dec (t < r .end) → shownLevel (r ∷ rs) t ≡ f t
@@ -55,7 +55,7 @@ member-run : {f : ℕ → ℕ} (e v : ℕ) (rs : List Stretch) → RunsFrom f e 
 member-run e v [] s last = λ r m. absurd (List·Memᴰ·not-nil m)
 member-run {f} e v (x ∷ xs) s last = cons-each (IsRun f) first (member-run (x .end) (x .level) xs rest (λ _. flat (x .end - 1) (omega (arith, n .long), omega (arith, n .long))))
   where
-    n : Next e v x
+    n : MayFollow e v x
     n = s .rising .0
 
     rest : RunsFrom f (x .end) (x .level) xs
@@ -87,8 +87,8 @@ stretch-path r s p q w = λ i. record { start = p i; end = q i; level = w i }
 -- Two longest stretches of one level that have a common millimetre are one: neither reaches further.
 run-within : {f : ℕ → ℕ} (r s : Stretch) (t : ℕ) → IsRun f r → IsRun f s → Has r t → Has s t → r .level ≡ s .level → (s .start ≤ r .start) × (r .end ≤ s .end)
 run-within r s t p q h k l = (
-  not-lt (λ a. q .starts (omega arith) (p .one-level (s .start - 1) (omega arith, omega (arith, h .1, k .0)) ∙ l)),
-  not-lt (λ a. q .ends (p .one-level (s .end) (omega (arith, h .0, k .1), a) ∙ l)),
+  le-of-not-lt (λ a. q .starts (omega arith) (p .one-level (s .start - 1) (omega arith, omega (arith, h .1, k .0)) ∙ l)),
+  le-of-not-lt (λ a. q .ends (p .one-level (s .end) (omega (arith, h .0, k .1), a) ∙ l)),
 )
 
 run-same : {f : ℕ → ℕ} (r s : Stretch) (t : ℕ) → IsRun f r → IsRun f s → Has r t → Has s t → r .level ≡ s .level → r ≡ s

@@ -9,12 +9,12 @@ use mathlib.Core.Bool.{true}
 use mathlib.Core.List.{List, [], _∷_, _++_, map, map-append, append-assoc, List·Memᴰ, List·Memᴰ·head, List·Memᴰ·not-nil, Memᴰ·append-right}
 use lib.ListN.{length, getD, set, length-append, length-map, List·getD-append, List·getD-map}
 use lib.Seq.{ext-getD, getD-at, set-set}
-use Rattle.refusal.proofs.EachLaws.{snoc-each}
-use Rattle.refusal.proofs.StoredLaws.{padded-more, padded-clear}
+use Rattle.base.proofs.ListLaws.{snoc-each}
+use Rattle.base.proofs.StoredLaws.{padded-more, padded-clear}
 use Rattle.runs.specs.declared.Stretch.{Stretch}
 use Rattle.runs.specs.declared.RunList.{RunList}
 use Rattle.runs.specs.declared.Envelopes.{Envelopes}
-use Rattle.runs.specs.RunList.{mostRuns, isRunList, lastEnd, runsTo, runsOf, Next, Rising}
+use Rattle.runs.specs.RunList.{mostRuns, isRunList, lastEnd, runsTo, runsOf, MayFollow, Rising}
 use Rattle.runs.specs.Stored.{column, storedRuns}
 use Rattle.runs.proofs.IndexLaws.{Indexed, indexed-last, indexed-more}
 use Rattle.runs.proofs.RunLaws.{run-list-rising, run-list-short}
@@ -26,7 +26,7 @@ lastLevel v [] = v
 lastLevel v (r ∷ rs) = lastLevel (r .level) rs
 
 -- Behind rising runs the next one follows the last.
-pub next-after : (e v : ℕ) (rs : List Stretch) (r : Stretch) (ss : List Stretch) → Rising e v (rs ++ r ∷ ss) → Next (lastEnd e rs) (lastLevel v rs) r
+pub next-after : (e v : ℕ) (rs : List Stretch) (r : Stretch) (ss : List Stretch) → Rising e v (rs ++ r ∷ ss) → MayFollow (lastEnd e rs) (lastLevel v rs) r
 next-after e v [] r ss h = h .0
 next-after e v (x ∷ rs) r ss h = next-after (x .end) (x .level) rs r ss (h .1)
 
@@ -82,7 +82,7 @@ module _ (starts ends levels : List ℕ) where
 
   module _ (n : ℕ) (list : isRunList (firstRuns n) ≡ true) where
     -- Each run of a run list follows those before it.
-    pub run-next : (i : ℕ) → i < n → Next (lastEnd 0 (firstRuns i)) (lastLevel 0 (firstRuns i)) (run i)
+    pub run-next : (i : ℕ) → i < n → MayFollow (lastEnd 0 (firstRuns i)) (lastLevel 0 (firstRuns i)) (run i)
     run-next i l =
         let b = behind i n l in
         next-after 0 0 (firstRuns i) (run i) (b .rest) (rw (b .split) at (run-list-rising (firstRuns n) list))

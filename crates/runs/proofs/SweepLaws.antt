@@ -7,20 +7,20 @@ use mathlib.Core.List.{List}
 use lib.ListN.{getD}
 use Rattle.runs.specs.declared.Stretch.{Stretch}
 use Rattle.runs.specs.Level.{requiredLevel}
-use Rattle.runs.specs.Stand.{aboveTo, Above, Falling, Begun}
-use Rattle.refusal.proofs.OrderLaws.{not-lt}
+use Rattle.runs.specs.Sweep.{aboveTo, Above, Falling, Begun}
+use Rattle.base.proofs.OrderLaws.{le-of-not-lt}
 use Rattle.runs.proofs.LevelLaws.{Joined, covered, bridged, level-is, joined→level}
 use Rattle.runs.proofs.TopLaws.{above-count}
 
 pub not-above : {tops : List ℕ} {t c : ℕ} → Above tops t c → (v : ℕ) → c < v → getD tops v 0 ≤ t
-not-above a v h = not-lt (λ l. omega (arith, a .high v l))
+not-above a v h = le-of-not-lt (λ l. omega (arith, a .high v l))
 
 pub begun-later : {es : List Stretch} {u t : ℕ} {tops : List ℕ} → u ≤ t → Begun es u tops → Begun es t tops
 begun-later h ok = record { sound = ok .sound; by = λ e m. omega (arith, ok .by e m); top = ok .top }
 
 module _ {es : List Stretch} {s : ℕ} {tops : List ℕ} (ok : Begun es s tops) where
   pub tops-fall : Falling tops
-  tops-fall v u h = not-lt (λ l.
+  tops-fall v u h = le-of-not-lt (λ l.
       let m = ok .top u .met (omega arith) in
       omega (arith, ok .top v .most (m .one) (m .member) (omega (arith, m .high)), m .there))
 
@@ -31,7 +31,7 @@ module _ {es : List Stretch} {s : ℕ} {tops : List ℕ} (ok : Begun es s tops) 
       omega (arith, m .high, ok .sound (m .one) (m .member) .top)
 
   pub above-small : {t c : ℕ} → Above tops t c → c ≤ 6
-  above-small {t} {c} a = not-lt (λ l. omega (arith, topless c (omega (arith, a .low c (omega arith) (omega arith)))))
+  above-small {t} {c} a = le-of-not-lt (λ l. omega (arith, topless c (omega (arith, a .low c (omega arith) (omega arith)))))
 
   pub above-is : (t : ℕ) → Above tops t (aboveTo tops t 6)
   above-is t =

@@ -8,7 +8,7 @@ use mathlib.Core.List.{List}
 use lib.ListN.{length, getD}
 use Rattle.runs.specs.declared.Stretch.{Stretch}
 use Rattle.runs.specs.Breaks.{Break, breaksTo, runsBelow}
-use Rattle.runs.specs.Stand.{AllSound, Raised, distinctTo, Stands}
+use Rattle.runs.specs.Sweep.{AllSound, Raised, distinctTo, SweptTo}
 use Rattle.runs.specs.Steps.{Places, Room, Stepped, envelopesTo, Sweepable, Swept}
 use Rattle.runs.specs.Required.{requiredRuns}
 use Rattle.runs.specs.RunList.{lastStation, mostRuns}
@@ -24,7 +24,7 @@ pub record Sweeping (keys ends : List ℕ) (n G i : ℕ) (tops : List ℕ) (leve
   pub at : ℕ
   pub early : at ≤ lastStation
   pub ahead : (j : ℕ) → i ≤ j → j < n → at ≤ getD keys j 0 / 2048
-  pub stands : Stands (envelopesTo keys ends i) G at tops level bs
+  pub stands : SweptTo (envelopesTo keys ends i) G at tops level bs
 
 pub envelopes-length : (keys ends : List ℕ) (i : ℕ) → length (envelopesTo keys ends i) ≡ i
 unfolding envelopesTo

@@ -10,8 +10,8 @@ use lib.ListN.{length, getD, set}
 use lib.Seq.{getD-set-other}
 use lib.Dec.{ltb}
 use borrow.Author.Tests.{ltb-true, ltb-false, lt-ltb, le-ltb, lt-leb, le-leb}
-use Rattle.runs.specs.Stand.{bit, aboveTo, Falling, raisedTop, Raised, fresh, distinctTo}
-use Rattle.refusal.proofs.OrderLaws.{not-lt}
+use Rattle.runs.specs.Sweep.{bit, aboveTo, Falling, raisedTop, Raised, fresh, distinctTo}
+use Rattle.base.proofs.OrderLaws.{le-of-not-lt}
 use Rattle.runs.proofs.IndexLaws.{store-next}
 
 bit-small : (b : Bool) → bit b ≤ 1
@@ -45,7 +45,7 @@ module _ (tops : List ℕ) where
   -- At the top of a level that stands the level falls to d, the last level whose top is above: one top less is left.
   module _ (level d : ℕ) (some : 0 < level) (low : (v : ℕ) → 1 ≤ v → v ≤ d → getD tops level 0 < getD tops v 0) where
     pub level-falls : d < level
-    level-falls = not-lt (λ l. omega (arith, low level some (omega arith)))
+    level-falls = le-of-not-lt (λ l. omega (arith, low level some (omega arith)))
 
     pub distinct-less : getD tops (suc d) 0 ≤ getD tops level 0 → distinctTo tops d + 1 ≤ distinctTo tops level
     distinct-less h = distinct-falls d level level-falls (λ p. omega (arith, low d p (omega arith), h))
@@ -79,7 +79,7 @@ module _ (tops : List ℕ) (fall : Falling tops) where
   -- Where level 1 has no top above t, no level has.
   pub above-none : (t n : ℕ) → getD tops 1 0 ≤ t → aboveTo tops t n ≡ 0
   above-none t n h =
-      let none : aboveTo tops t n ≤ 0 = not-lt (λ l. omega (arith, above-count t n .low 1 (omega arith) l)) in
+      let none : aboveTo tops t n ≤ 0 = le-of-not-lt (λ l. omega (arith, above-count t n .low 1 (omega arith) l)) in
       omega arith
 
   pub count-falls : (level : ℕ) → 0 < level → aboveTo tops (getD tops level 0) 6 < level
@@ -88,7 +88,7 @@ module _ (tops : List ℕ) (fall : Falling tops) where
   pub count-distinct : (level : ℕ) → 0 < level → level ≤ 6 → distinctTo tops (aboveTo tops (getD tops level 0) 6) + 1 ≤ distinctTo tops level
   count-distinct level p q =
       let c = above-count (getD tops level 0) 6 in
-      distinct-less tops level _ p (c .low) (not-lt (λ l. omega (arith, c .high (suc (aboveTo tops (getD tops level 0) 6)) (omega (arith, count-falls level p)) l)))
+      distinct-less tops level _ p (c .low) (le-of-not-lt (λ l. omega (arith, c .high (suc (aboveTo tops (getD tops level 0) 6)) (omega (arith, count-falls level p)) l)))
 
 module _ (l e : ℕ) (tops tops′ : List ℕ) (raised : Raised l e tops tops′) where
   pub raised-high : (v : ℕ) → v ≤ l → getD tops′ v 0 ≡ max (getD tops v 0) e

@@ -5,7 +5,7 @@ use mathlib.Core.List.{List, [], _∷_, _++_}
 use mathlib.Core.Logic.{_≢_}
 use lib.ListN.{getD}
 use lib.Dec.{ltb, leb, eqb}
-use Rattle.refusal.specs.Choice.{if_then_else_}
+use Rattle.base.specs.Choice.{if_then_else_}
 use Rattle.runs.specs.declared.Stretch.{Stretch}
 
 -- From this station on the level holds, up to the next break point.
@@ -14,9 +14,9 @@ pub record Break : Type 0 where
   pub level : ℕ
 
 -- The level at t: that of the last break point at or before it, else 0.
-unfoldable pub levelAt : List Break → (t : ℕ) → ℕ
-levelAt [] t = 0
-levelAt (b ∷ bs) t = if leb (b .start) t then b .level else levelAt bs t
+unfoldable pub breakLevel : List Break → (t : ℕ) → ℕ
+breakLevel [] t = 0
+breakLevel (b ∷ bs) t = if leb (b .start) t then b .level else breakLevel bs t
 
 -- The level from the last break point on.
 abbrev pub levelOf : List Break → ℕ
@@ -34,13 +34,13 @@ breaksTo starts levels zero = []
 breaksTo starts levels (suc n) = record { start = getD starts n 0; level = getD levels n 0 } ∷ breaksTo starts levels n
 
 -- Those before t.
-unfoldable pub cut : (t : ℕ) → List Break → List Break
-cut t [] = []
-cut t (b ∷ bs) = let r = cut t bs in if leb t (b .start) then r else b ∷ bs
+unfoldable pub breaksBefore : (t : ℕ) → List Break → List Break
+breaksBefore t [] = []
+breaksBefore t (b ∷ bs) = let r = breaksBefore t bs in if leb t (b .start) then r else b ∷ bs
 
 -- Level v from t on.
 unfoldable pub setFrom : (t v : ℕ) → List Break → List Break
-setFrom t v bs = if eqb (levelOf (cut t bs)) v then cut t bs else record { start = t; level = v } ∷ cut t bs
+setFrom t v bs = if eqb (levelOf (breaksBefore t bs)) v then breaksBefore t bs else record { start = t; level = v } ∷ breaksBefore t bs
 
 -- The runs of the break points, the last of them up to e.
 unfoldable pub runsBelow : (e : ℕ) → List Break → List Stretch

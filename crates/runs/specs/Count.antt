@@ -2,7 +2,7 @@
 -- Assumes nothing.
 use Prim.Native.Nat.{ℕ, zero, suc}
 use mathlib.Core.Bool.{Bool}
-use Rattle.refusal.specs.Choice.{if_then_else_}
+use Rattle.base.specs.Choice.{if_then_else_}
 
 -- How many of the n millimetres from p pass the test.
 unfoldable pub countFrom : (ℕ → Bool) → (p n : ℕ) → ℕ

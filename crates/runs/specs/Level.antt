@@ -5,7 +5,7 @@ use mathlib.Core.Logic.{_⊎_}
 use mathlib.Core.Bool.{Bool, _&&_, _||_}
 use mathlib.Core.List.{List, List·Memᴰ}
 use lib.Dec.{ltb, leb}
-use Rattle.refusal.specs.Choice.{if_then_else_, someOf, keep}
+use Rattle.base.specs.Choice.{if_then_else_, someOf, filter}
 use Rattle.runs.specs.declared.Stretch.{Stretch}
 
 -- 1. As the paper says it.
@@ -62,7 +62,7 @@ between G t a b = leb (a .end) t && ltb t (b .start) && ltb (b .start) (a .end +
 
 -- The envelopes of level v or higher.
 abbrev pub atLeast : ℕ → List Stretch → List Stretch
-atLeast v es = keep (λ (e : Stretch). leb v (e .level)) es
+atLeast v es = filter (λ (e : Stretch). leb v (e .level)) es
 
 unfoldable pub filled : List Stretch → ℕ → ℕ → Bool
 filled es G t = someOf (λ (e : Stretch). has e t) es || someOf (λ (a : Stretch). someOf (between G t a) es) es

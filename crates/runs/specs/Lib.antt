@@ -7,6 +7,6 @@ pub mod Required
 pub mod Stored
 -- Steps of the code.
 pub mod Breaks
-pub mod Stand
+pub mod Sweep
 pub mod Steps
 pub mod Sorted

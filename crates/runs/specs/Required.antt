@@ -4,11 +4,11 @@ use Prim.Native.Nat.{ℕ}
 use mathlib.Core.Bool.{_&&_}
 use mathlib.Core.List.{List, [], _∷_}
 use lib.Dec.{ltb, leb, eqb}
-use Rattle.refusal.specs.Choice.{if_then_else_}
+use Rattle.base.specs.Choice.{if_then_else_}
 use Rattle.runs.specs.declared.Stretch.{Stretch}
 use Rattle.runs.specs.Level.{requiredLevel}
 
--- A station put into a rising list.
+-- A station put into a rising list (insertion sort).
 unfoldable pub insertStation : ℕ → List ℕ → List ℕ
 insertStation x [] = x ∷ []
 insertStation x (y ∷ ys) = let r = insertStation x ys in if leb x y then x ∷ y ∷ ys else y ∷ r

@@ -7,7 +7,7 @@ use mathlib.Core.Path.{_≡_}
 use mathlib.Core.Logic.{_≢_}
 use lib.ListN.{length, getD}
 use lib.Dec.{ltb, leb, eqb}
-use Rattle.refusal.specs.Choice.{if_then_else_}
+use Rattle.base.specs.Choice.{if_then_else_}
 use Rattle.runs.specs.declared.Stretch.{Stretch}
 use Rattle.runs.specs.declared.RunList.{RunList}
 use Rattle.runs.specs.declared.Envelopes.{Envelopes}
@@ -50,7 +50,7 @@ shownLevel [] t = 0
 shownLevel (r ∷ rs) t = if has r t then r .level else shownLevel rs t
 
 -- The same as facts: a run that may follow one that ended at e with level v, and runs after it.
-pub record Next (e v : ℕ) (r : Stretch) : Type 0 where
+pub record MayFollow (e v : ℕ) (r : Stretch) : Type 0 where
   pub after : e ≤ r .start
   pub long : r .start < r .end
   pub ends : r .end ≤ lastStation
@@ -60,7 +60,7 @@ pub record Next (e v : ℕ) (r : Stretch) : Type 0 where
 
 abbrev pub Rising : ℕ → ℕ → List Stretch → Type 0
 Rising e v [] = Unit {0}
-Rising e v (r ∷ rs) = Next e v r × Rising (r .end) (r .level) rs
+Rising e v (r ∷ rs) = MayFollow e v r × Rising (r .end) (r .level) rs
 
 -- The run list of the level f.
 pub record RunsOf (f : ℕ → ℕ) (rs : List Stretch) : Type 0 where

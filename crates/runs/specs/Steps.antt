@@ -8,7 +8,7 @@ use Rattle.runs.specs.declared.Stretch.{Stretch}
 use Rattle.runs.specs.RunList.{lastStation}
 use Rattle.runs.specs.Breaks.{Break, breaksTo}
 use Rattle.runs.specs.Sorted.{RisingKeys}
-use Rattle.runs.specs.Stand.{Sound, Raised, Falling, distinctTo, Stands}
+use Rattle.runs.specs.Sweep.{Sound, Raised, Falling, distinctTo, SweptTo}
 
 -- Places for break points: two for each of 256 envelopes.
 abbrev pub breakPlaces : ℕ
@@ -30,13 +30,13 @@ pub record Room (most : ℕ) (starts levels tops : List ℕ) (count level : ℕ)
 pub record Drained (tops : List ℕ) (s count level : ℕ) (bs : List Break) (count′ level′ : ℕ) (bs′ : List Break) : Type 0 where
   pub within : count′ + distinctTo tops level′ ≤ count + distinctTo tops level
   pub small : level′ ≤ 6
-  pub stands : (es : List Stretch) (G u : ℕ) → u ≤ s → Stands es G u tops level bs → Stands es G s tops level′ bs′
+  pub stands : (es : List Stretch) (G u : ℕ) → u ≤ s → SweptTo es G u tops level bs → SweptTo es G s tops level′ bs′
 
 -- The break points go on up to s, where an envelope of level l starts, whatever its end is.
 abbrev pub Stepped : (tops : List ℕ) (s l G level : ℕ) (bs : List Break) (level′ : ℕ) (bs′ : List Break) → Type 0
 Stepped tops s l G level bs level′ bs′ =
-    (es : List Stretch) (u e : ℕ) (tops′ : List ℕ) → u ≤ s → Stands es G u tops level bs → Sound (record { start = s; end = e; level = l }) → Raised l e tops tops′
-    → Stands (record { start = s; end = e; level = l } ∷ es) G s tops′ level′ bs′
+    (es : List Stretch) (u e : ℕ) (tops′ : List ℕ) → u ≤ s → SweptTo es G u tops level bs → Sound (record { start = s; end = e; level = l }) → Raised l e tops tops′
+    → SweptTo (record { start = s; end = e; level = l } ∷ es) G s tops′ level′ bs′
 
 -- The key of the envelope at an index: keys rise as the starts do.
 abbrev pub keyOf : (start level index : ℕ) → ℕ
@@ -64,4 +64,4 @@ pub record Swept (keys ends : List ℕ) (n G : ℕ) (starts levels : List ℕ) (
   pub within : count ≤ breakPlaces
   pub tops : List ℕ
   pub level : ℕ
-  pub stands : Stands (envelopesTo keys ends n) G lastStation tops level (breaksTo starts levels count)
+  pub stands : SweptTo (envelopesTo keys ends n) G lastStation tops level (breaksTo starts levels count)

@@ -3,7 +3,7 @@
 use Prim.Native.Nat.{ℕ, _≤_, _<_}
 use mathlib.Core.List.{List, map, List·Memᴰ}
 use lib.ListN.{length}
-use Rattle.refusal.specs.Stored.{padded}
+use Rattle.base.specs.Stored.{padded}
 use Rattle.runs.specs.declared.Stretch.{Stretch}
 use Rattle.runs.specs.declared.Envelopes.{Envelopes}
 use Rattle.runs.specs.declared.RunList.{RunList}

@@ -1,16 +1,18 @@
 // The sweep over envelopes in order of their starts: the break points of the required level, and its runs.
 use super::RunList;
+use base::max;
+use base::saturating_sub;
 ghost use mathlib.Core.Path.{_≡_};
 ghost use mathlib.Core.Bool.{true};
 ghost use mathlib.Core.List.{List};
 ghost use Prim.Native.Nat.{ℕ, _+_, _-_, _≤_, _<_, min, max};
 ghost use lib.ListN.{length, getD};
-ghost use Rattle.refusal.specs.Choice.{if_then_else_};
+ghost use Rattle.base.specs.Choice.{if_then_else_};
 ghost use Rattle.runs.specs.RunList.{mostRuns};
 ghost use Rattle.runs.specs.Required.{requiredRuns};
 ghost use Rattle.runs.specs.Stored.{storedRuns};
-ghost use Rattle.runs.specs.Breaks.{levelOf, breaksTo, cut, setFrom, runsBelow};
-ghost use Rattle.runs.specs.Stand.{bit, aboveTo, Raised, Falling, filledFrom, lifted};
+ghost use Rattle.runs.specs.Breaks.{levelOf, breaksTo, breaksBefore, setFrom, runsBelow};
+ghost use Rattle.runs.specs.Sweep.{bit, aboveTo, Raised, Falling, filledFrom, lifted};
 ghost use Rattle.runs.specs.Steps.{breakPlaces, Places, Room, Drained, Stepped, envelopesTo, Sweepable, Swept};
 
 // Where a sweep stands: break points in use, and the required level there.
@@ -45,7 +47,7 @@ fn above(tops: &[u64], t: u64) -> usize
 // How many of the break points lie before t.
 fn kept(starts: &[u64], count: usize, t: u64) -> usize
     requires { ⌜ count ≤ length (now starts) ⌝ }
-    ensures { λ r. ⌜ (r ≤ count) × ((levels : List ℕ) → breaksTo (now (starts .entry)) levels r ≡ cut t (breaksTo (now (starts .entry)) levels count)) ⌝ }
+    ensures { λ r. ⌜ (r ≤ count) × ((levels : List ℕ) → breaksTo (now (starts .entry)) levels r ≡ breaksBefore t (breaksTo (now (starts .entry)) levels count)) ⌝ }
 {
     let mut k = count;
     while 0 < k {
@@ -100,16 +102,10 @@ fn fill(starts: &mut [u64], levels: &mut [u8], tops: &[u64], p: Place, v: usize)
     count
 }
 
-fn lesser(x: usize, y: usize) -> usize
+fn min_usize(x: usize, y: usize) -> usize
     ensures { λ r. ⌜ r ≡ min x y ⌝ }
 {
     if x < y { x } else { y }
-}
-
-fn less_or_zero(x: u64, y: u64) -> u64
-    ensures { λ r. ⌜ r ≡ x - y ⌝ }
-{
-    if y <= x { x - y } else { 0 }
 }
 
 // An envelope from s at level l, above the level that stands there.
@@ -129,8 +125,14 @@ fn lift(
     requires { ⌜ l ≤ 6 ⌝ }
     ensures { λ r. ⌜ (r ≤ p .count + 2) × (breaksTo (now (starts .exit)) (now (levels .exit)) r ≡ lifted (now (tops .entry)) (p .level) s l g (breaksTo (now (starts .entry)) (now (levels .entry)) (p .count))) ⌝ }
 {
-    let near = above(tops, less_or_zero(s, g));
-    let count = fill(&mut starts[..], &mut levels[..], tops, p, lesser(near, l));
+    let near = above(tops, saturating_sub(s, g));
+    let count = fill(
+        &mut starts[..],
+        &mut levels[..],
+        tops,
+        p,
+        min_usize(near, l),
+    );
     set_from(&mut starts[..], &mut levels[..], count, s, l)
 }
 
@@ -176,12 +178,6 @@ fn step(
     Place { count, level: l }
 }
 
-pub fn greater(x: u64, y: u64) -> u64
-    ensures { λ r. ⌜ r ≡ max x y ⌝ }
-{
-    if x < y { y } else { x }
-}
-
 // The top of a level after an envelope more; where that ends past every top, no top is looked at.
 fn raised(top: u64, end: u64, within: bool, past: bool) -> u64
     requires { ⌜ (past ≡ true → top ≤ end) ⌝ }
@@ -191,7 +187,7 @@ fn raised(top: u64, end: u64, within: bool, past: bool) -> u64
         if past {
             return end;
         }
-        return greater(top, end);
+        return max(top, end);
     }
     top
 }

@@ -4,7 +4,7 @@ use Prim.Native.Nat.{ℕ, _≤_, _<_, _+_, _-_}
 use mathlib.Core.Path.{_≡_, refl, _∙_, subst, ap}
 use mathlib.Core.List.{List, _++_}
 use borrow.Author.Tests.{le-leb, lt-leb, leb-true}
-use Rattle.refusal.specs.Answer.{Answer, accepted, refused, _>>=_}
+use Rattle.base.specs.Answer.{Answer, accepted, refused, _>>=_}
 use Rattle.refusal.specs.Refusal.{unless-refuse, refusal, outcome}
 use Rattle.refusal.specs.declared.Refusal.the-variants as Row
 use Rattle.refusal.specs.declared.Refusal.{Refusal}
@@ -39,7 +39,8 @@ use lib.ListN.{length, drop, length-append, length-drop}
 use lib.Dec.{leb}
 use Rattle.number.specs.Number.{placed}
 use Rattle.number.proofs.PlaceLaws.{placed-fits}
-use Rattle.refusal.proofs.AnswerLaws.{bound, tested}
+use Rattle.base.proofs.AnswerLaws.{bound}
+use Rattle.refusal.proofs.RefuseLaws.{tested}
 use Rattle.schedule.specs.Steps.{testedPlan}
 use Rattle.schedule.proofs.LengthLaws.{road-bytes}
 

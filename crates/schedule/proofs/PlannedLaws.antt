@@ -8,7 +8,7 @@ use mathlib.Core.Bool.{true}
 use mathlib.Core.List.{List, List·Memᴰ}
 use lib.ListN.{length}
 use borrow.Author.Tests.{le-leb}
-use Rattle.refusal.specs.Answer.{accepted}
+use Rattle.base.specs.Answer.{accepted}
 use Rattle.approach.specs.Panel.{raisedLength}
 use Rattle.approach.proofs.ApproachLaws.{divisor-some}
 use Rattle.approach.proofs.PanelLaws.{raised-length-below}

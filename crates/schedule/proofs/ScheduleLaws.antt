@@ -2,37 +2,35 @@
 -- Assumes nothing.
 use Prim.Native.Nat.{ℕ, zero, suc, _+_, _-_}
 use native.Mathlib.Omega.{arith}
-use mathlib.Core.Path.{_≡_, refl, sym, subst, ap, _∙_}
+use mathlib.Core.Path.{_≡_, refl, subst, ap, _∙_}
 use mathlib.Core.Bool.{true}
 use mathlib.Core.List.{List, [], _∷_, _++_, append-assoc}
 use lib.ListN.{length, drop, length-append}
-use lib.Seq.{drop-length, drop-drop, drop-append-seam}
+use lib.Seq.{drop-length}
 use lib.Dec.{leb, eqb}
 use borrow.Author.Tests.{le-leb, eqb-true, eq-eqb}
-use Rattle.refusal.specs.Answer.{Answer, accepted, refused, _>>=_}
+use Rattle.base.specs.Answer.{Answer, accepted, refused, _>>=_}
 use Rattle.refusal.specs.declared.Refusal.the-variants as Row
-use Rattle.refusal.proofs.AnswerLaws.{bound, passed}
-use Rattle.refusal.proofs.TestLaws.{and-left, and-intro, impossible}
+use Rattle.base.proofs.AnswerLaws.{bound}
+use Rattle.base.proofs.ListLaws.{drop-after}
+use Rattle.refusal.proofs.RefuseLaws.{passed}
+use Rattle.base.proofs.TestLaws.{and-left, and-intro, impossible}
 use Rattle.number.specs.Number.{writeNumber, Reading, numberAt}
-use Rattle.number.proofs.ReadLaws.{read-number, after-number, number-read}
+use Rattle.number.proofs.ReadLaws.{read-number, number-read}
 use Rattle.number.specs.Form.{Bytes}
 use Rattle.runs.specs.declared.Stretch.{Stretch}
-use Rattle.runs.specs.RunList.{mostRuns, mayFollow, risingRuns, isRunList, Next, Rising}
+use Rattle.runs.specs.RunList.{mostRuns, mayFollow, risingRuns, isRunList, MayFollow, Rising}
 use Rattle.runs.proofs.RunLaws.{rising-test, run-list-rising, run-list-short}
 use Rattle.schedule.specs.Schedule.{writeRecord, writeRecords, writeSchedule, IsSchedule, orTen, readHead, ReadRun, readRecord, readRecords, readSchedule}
 
 -- Which run may follow another.
-pub may-follow : (e v : ℕ) (r : Stretch) → Next e v r → mayFollow e v r ≡ true
+pub may-follow : (e v : ℕ) (r : Stretch) → MayFollow e v r → mayFollow e v r ≡ true
 unfolding risingRuns
 may-follow e v r n = and-left (mayFollow e v r) true (rising-test e v (r ∷ []) (n, tt))
 
 -- What is written is read
 
--- Behind the bytes w.
-pub after-bytes : (s : List ℕ) (at : ℕ) (w rest : List ℕ) → drop at s ≡ w ++ rest → drop (at + length w) s ≡ rest
-after-bytes s at w rest q = sym (drop-drop (length w) at s) ∙ rw q (drop-append-seam w rest)
-
-record-written : (s : List ℕ) (e v at : ℕ) (r : Stretch) (rest : List ℕ) → Next e v r → drop at s ≡ writeRecord e r ++ rest
+record-written : (s : List ℕ) (e v at : ℕ) (r : Stretch) (rest : List ℕ) → MayFollow e v r → drop at s ≡ writeRecord e r ++ rest
     → readRecord e v s at ≡ accepted (record { run = r; next = at + length (writeRecord e r) })
 unfolding readRecord writeRecord
 record-written s e v at r rest n q =
@@ -61,10 +59,10 @@ record-written s e v at r rest n q =
     first = q ∙ simp append-assoc
 
     second : drop (at + length (writeNumber gap)) s ≡ writeNumber len ++ behind
-    second = after-number s at gap (writeNumber len ++ behind) first
+    second = drop-after s at (writeNumber gap) (writeNumber len ++ behind) first
 
     third : drop (at + length (writeNumber gap) + length (writeNumber len)) s ≡ writeNumber (r .level) ++ rest
-    third = after-number s (at + length (writeNumber gap)) len behind second
+    third = drop-after s (at + length (writeNumber gap)) (writeNumber len) behind second
 
 records-written : (s : List ℕ) (e v at : ℕ) (rs : List Stretch) → Rising e v rs → drop at s ≡ writeRecords e rs → at + length (writeRecords e rs) ≡ length s
     → readRecords (length rs) e v s at ≡ accepted rs
@@ -73,7 +71,7 @@ records-written s e v at [] up q all = rw (eq-eqb at (length s) (omega arith))
 records-written s e v at (r ∷ rs) up q all =
     rw (
       record-written s e v at r (writeRecords (r .end) rs) (up .0) q,
-      records-written s (r .end) (r .level) (at + length (writeRecord e r)) rs (up .1) (after-bytes s at (writeRecord e r) (writeRecords (r .end) rs) q)
+      records-written s (r .end) (r .level) (at + length (writeRecord e r)) rs (up .1) (drop-after s at (writeRecord e r) (writeRecords (r .end) rs) q)
           (omega (arith, length-append (writeRecord e r) (writeRecords (r .end) rs))),
     )
 
@@ -84,7 +82,7 @@ read-schedule rs h =
     let count = writeNumber (length rs) in
     let s = count ++ writeRecords 0 rs in
     rw (read-number s 0 (length rs) (writeRecords 0 rs) (omega (arith, run-list-short rs h)) refl, le-leb (length rs) mostRuns (run-list-short rs h))
-    (ap (λ (a : Answer (List Stretch)). orTen a) (records-written s 0 0 (0 + length count) rs (run-list-rising rs h) (after-number s 0 (length rs) (writeRecords 0 rs) refl) (omega (arith, length-append count (writeRecords 0 rs)))))
+    (ap (λ (a : Answer (List Stretch)). orTen a) (records-written s 0 0 (0 + length count) rs (run-list-rising rs h) (drop-after s 0 (writeNumber (length rs)) (writeRecords 0 rs) refl) (omega (arith, length-append count (writeRecords 0 rs)))))
 
 pub schedule-runs : (s : List ℕ) (w : IsSchedule s) → readSchedule s ≡ accepted (w .runs)
 schedule-runs s w = ap readSchedule (w .writes) ∙ read-schedule (w .runs) (w .run-list)

@@ -4,7 +4,7 @@ use Prim.Native.Nat.{ℕ, _≤_}
 use mathlib.Core.Path.{_≡_}
 use mathlib.Core.List.{List}
 use lib.ListN.{length}
-use Rattle.refusal.specs.Answer.{Answer, accepted, refused, _>>=_}
+use Rattle.base.specs.Answer.{Answer, accepted, refused, _>>=_}
 use Rattle.job.specs.Job.{Job}
 use Rattle.planning.specs.Envelope.{acceptJob}
 use Rattle.runs.specs.declared.Stretch.{Stretch}

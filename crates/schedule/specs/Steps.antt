@@ -1,7 +1,7 @@
 -- Plan behind the reading of the job.
 -- Assumes nothing.
 use Prim.Native.Nat.{ℕ}
-use Rattle.refusal.specs.Answer.{Answer, _>>=_}
+use Rattle.base.specs.Answer.{Answer, _>>=_}
 use Rattle.job.specs.Job.{Job}
 use Rattle.runs.specs.Required.{requiredRuns}
 use Rattle.planning.specs.Reply.{testedEnvelopes}

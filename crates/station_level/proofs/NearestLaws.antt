@@ -11,12 +11,12 @@ use lib.ListN.{length, getD, set, replicate, getD-replicate}
 use lib.Seq.{getD-set-same, getD-set-other}
 use lib.Dec.{ltb}
 use borrow.Author.Tests.{ltb-true, lt-ltb}
-use Rattle.refusal.proofs.TestLaws.{and-left, and-right, and-intro, or-cases, or-left, or-right, not-both}
+use Rattle.base.proofs.TestLaws.{and-left, and-right, and-intro, or-cases, or-left, or-right, not-both}
 use Rattle.runs.specs.declared.Stretch.{Stretch}
 use Rattle.runs.specs.declared.Envelopes.{Envelopes}
 use Rattle.runs.specs.Level.{requiredLevel}
 use Rattle.runs.specs.RunList.{lastStation}
-use Rattle.runs.specs.Stand.{AllSound}
+use Rattle.runs.specs.Sweep.{AllSound}
 use Rattle.runs.proofs.StoredLaws.{envelopeAt, firstEnvelopes, runs-none, runs-more}
 use Rattle.runs.proofs.LevelLaws.{Joined, covered, bridged, level-top, level→joined, joined→level}
 use Rattle.station_level.specs.declared.nearest.Nearest.{Nearest}

@@ -1,7 +1,7 @@
 -- Level behind the reading of the job.
 -- Assumes nothing.
 use Prim.Native.Nat.{ℕ}
-use Rattle.refusal.specs.Answer.{Answer, accepted, _>>=_}
+use Rattle.base.specs.Answer.{Answer, accepted, _>>=_}
 use Rattle.job.specs.Job.{Job}
 use Rattle.runs.specs.Level.{requiredLevel}
 use Rattle.planning.specs.Reply.{testedEnvelopes}

@@ -1,15 +1,17 @@
 // The required level at one station, by the envelopes that have it or are nearest to it: one pass over the envelopes, then a test of
 // each level.
+use base::max;
+use base::min;
 use runs::Envelopes;
 ghost use mathlib.Core.Path.{_≡_};
 ghost use mathlib.Core.List.{List};
-ghost use Prim.Native.Nat.{ℕ, _≤_, min, max};
+ghost use Prim.Native.Nat.{ℕ, _≤_};
 ghost use lib.ListN.{getD};
 ghost use Rattle.runs.specs.declared.Stretch.{Stretch};
 ghost use Rattle.runs.specs.Level.{requiredLevel};
 ghost use Rattle.runs.specs.RunList.{envelopesOf, lastStation};
 ghost use Rattle.runs.specs.Stored.{StoredEnvelopes};
-ghost use Rattle.runs.specs.Stand.{AllSound};
+ghost use Rattle.runs.specs.Sweep.{AllSound};
 ghost use Rattle.station_level.specs.Nearest.{NearestOf, hasStation};
 
 // What a pass over envelopes keeps for a station, by level, 0 to 6.
@@ -18,18 +20,6 @@ pub struct Nearest {
     pub ends: [u64; 7],
     // The first start of those behind it; the greatest number for none.
     pub starts: [u64; 7],
-}
-
-fn later(a: u64, b: u64) -> u64
-    ensures { λ r. ⌜ r ≡ max a b ⌝ }
-{
-    if a < b { b } else { a }
-}
-
-fn earlier(a: u64, b: u64) -> u64
-    ensures { λ r. ⌜ r ≡ min a b ⌝ }
-{
-    if a < b { a } else { b }
 }
 
 // One pass over the envelopes.
@@ -47,9 +37,9 @@ fn nearest_to(envelopes: Envelopes, station: u64) -> Nearest
         let level = envelopes.levels[i] as usize;
         i += 1;
         if start <= station {
-            ends[level] = later(ends[level], end);
+            ends[level] = max(ends[level], end);
         } else {
-            starts[level] = earlier(starts[level], start);
+            starts[level] = min(starts[level], start);
         }
     }
     Nearest { ends, starts }
@@ -74,8 +64,8 @@ fn highest_level(near: Nearest, continuity: u64, station: u64) -> u32
     let mut start: u64 = 18446744073709551615;
     let mut v: usize = 6;
     while 0 < v {
-        end = later(end, near.ends[v]);
-        start = earlier(start, near.starts[v]);
+        end = max(end, near.ends[v]);
+        start = min(start, near.starts[v]);
         if has_station(end, start, continuity, station) {
             return v as u32;
         }

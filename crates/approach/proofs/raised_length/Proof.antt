@@ -3,7 +3,8 @@
 use native.Mathlib.Omega.{arith}
 use mathlib.Core.Path.{ap, _∙_}
 use borrow.Author.Needs.{needs}
-use Rattle.approach.specs.Panel.{raised, raisedLength}
+use Rattle.base.specs.Least.{nextMultiple}
+use Rattle.approach.specs.Panel.{raisedLength}
 use Rattle.approach.proofs.ApproachLaws.{length-fits}
 use Rattle.approach.proofs.raised_length.Statement.{statement}
 use Rattle.approach.proofs.raised_length.Tie as tie
@@ -11,11 +12,11 @@ use Rattle.approach.proofs.raised_length.Tie as tie
 raised-to-requires : tie.Need-raised-to-requires
 raised-to-requires c κs =
     let fits = length-fits _ _ _ _ _ _ (c .before .pre .1 .1) in
-    (c .before .pre .0, (c .before .pre .1 .0, omega (arith, c .domain-length .ensures, fits)))
+    (c .before .pre .0, (c .before .pre .1 .0, omega (arith, c .approach-length .ensures, fits)))
 
 returns : tie.Need-returns
 unfolding raisedLength
-returns c = c .raised-to .ensures ∙ ap (raised (c .before .before .args .panel)) (c .before .domain-length .ensures)
+returns c = c .raised-to .ensures ∙ ap (nextMultiple (c .before .before .args .panel)) (c .before .approach-length .ensures)
 
 pub raised-length-spec : {M : Type 1} → statement M
 raised-length-spec = tie.close (tie.spec (λ c κs. search needs) raised-to-requires returns)

@@ -7,8 +7,7 @@ use mathlib.Core.Path.{_≡_, refl, sym}
 use mir.Val.{Fits}
 use mir.Syntax.{w64}
 use borrow.Author.Needs.{needs}
-use Rattle.approach.specs.Approach.{ceilDiv}
-use Rattle.approach.specs.Panel.{raised}
+use Rattle.base.specs.Least.{nextMultiple}
 use Rattle.approach.proofs.PanelLaws.{raised-one}
 use Rattle.approach.proofs.raised_to.Statement.{statement}
 use Rattle.approach.proofs.raised_to.Tie as tie
@@ -17,14 +16,14 @@ use Rattle.approach.proofs.raised_to.Tie as tie
 product-fits : (x p : ℕ) → x ≤ 210000 → Fits w64 (x / p * p)
 product-fits x p l = omega (arith, div-mul-le-self x p)
 
-one-raised : (panel length : ℕ) → 1 ≤ panel → panel ≤ 1 → length ≡ raised panel length
+one-raised : (panel length : ℕ) → 1 ≤ panel → panel ≤ 1 → length ≡ nextMultiple panel length
 one-raised panel length low top = let one : panel ≡ 1 = omega arith in rw one (sym (raised-one length))
 
 returns : tie.Need-returns
 returns c = one-raised (c .before .args .panel) (c .before .args .length) (c .before .pre .0) (c .if1 .taken)
 
 returns-2 : tie.Need-returns-2
-unfolding raised ceilDiv
+unfolding nextMultiple
 returns-2 c = refl
 
 pub raised-to-spec : {M : Type 1} → statement M

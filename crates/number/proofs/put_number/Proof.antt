@@ -8,7 +8,7 @@ use native.Mathlib.Numerals.{add-one}
 use native.Mathlib.Omega.{arith}
 use lib.ListN.{length, length-set}
 use lib.Seq.{sets}
-use Rattle.number.specs.Number.{writeNumber, greatest}
+use Rattle.number.specs.Number.{writeNumber, greatestNumber}
 use Rattle.number.proofs.WriteLaws.{write-one, write-step}
 use Rattle.number.proofs.PlaceLaws.{placed-sets}
 use Rattle.number.proofs.put_number.Statement.{statement}
@@ -16,7 +16,7 @@ use Rattle.number.proofs.put_number.Tie as tie
 
 abbrev Inv-loop : tie.InvT-loop
 Inv-loop out₀ at x i₀ rest₀ out i rest =
-    (rest ≤ greatest) × (i + length (writeNumber rest) ≡ at + length (writeNumber x)) × (length out ≡ length out₀) × (sets out i (writeNumber rest) ≡ sets out₀ at (writeNumber x))
+    (rest ≤ greatestNumber) × (i + length (writeNumber rest) ≡ at + length (writeNumber x)) × (length out ≡ length out₀) × (sets out i (writeNumber rest) ≡ sets out₀ at (writeNumber x))
 
 abbrev μ-loop : tie.MeasureT-loop
 μ-loop out₀ at x i₀ rest₀ out i rest = rest

@@ -10,14 +10,14 @@ use lib.ListN.{length, getD}
 use Rattle.number.specs.declared.Read.the-variants.{Number}
 use Rattle.number.specs.declared.Read.{Read}
 use Rattle.number.specs.Number.{readNumber, readingOf, numberAt}
-use Rattle.number.specs.Groups.{readBehind}
-use Rattle.number.proofs.GroupWalk.{read-none, read-one, read-first, read-ended, read-more, read-needless, read-whole, read-overlong, group-less}
+use Rattle.number.specs.Groups.{readAfterGroups}
+use Rattle.number.proofs.GroupWalk.{read-none, read-one, read-first, read-cut-short, read-more, read-needless, read-whole, read-overlong, group-less}
 use Rattle.number.proofs.read_number.Statement.{statement}
 use Rattle.number.proofs.read_number.Tie as tie
 
 abbrev Inv-loop : tie.InvT-loop
 Inv-loop s at first low₀ weight₀ next₀ passed₀ low weight next passed =
-    (0 < passed) × (passed ≤ 6) × (next ≤ length s) × (next ≡ at + passed) × (weight ≡ 128 ^ passed) × (low < weight) × (readNumber s at ≡ readBehind low weight passed s at)
+    (0 < passed) × (passed ≤ 6) × (next ≤ length s) × (next ≡ at + passed) × (weight ≡ 128 ^ passed) × (low < weight) × (readNumber s at ≡ readAfterGroups low weight passed s at)
 
 abbrev μ-loop : tie.MeasureT-loop
 μ-loop s at first low₀ weight₀ next₀ passed₀ low weight next passed = 6 - passed
@@ -101,7 +101,7 @@ returns-3 : tie.Need-returns-3 Inv-loop μ-loop
 returns-3 c =
     let l = c .before .before .loop in
     let a = c .before .before .before .before .before .before .args in
-    numbered (a .s .now) (a .at) _ (sym (l .inv .6 ∙ read-ended (l .low) (l .weight) (l .passed) (a .s .now) (a .at) (omega arith) (omega arith)))
+    numbered (a .s .now) (a .at) _ (sym (l .inv .6 ∙ read-cut-short (l .low) (l .weight) (l .passed) (a .s .now) (a .at) (omega arith) (omega arith)))
 
 returns-4 : tie.Need-returns-4 Inv-loop μ-loop
 returns-4 c =
@@ -132,7 +132,7 @@ loop-again c =
       omega (arith, room-rest b),
       l .inv .6
           ∙ read-more (Low b) (Weight b) (Passed b) (S b) (At b) (omega arith) (omega arith) more
-          ∙ ap (λ (m : ℕ). readBehind m (Weight b * 128) (Passed b + 1) (S b) (At b)) (sym less),
+          ∙ ap (λ (m : ℕ). readAfterGroups m (Weight b * 128) (Passed b + 1) (S b) (At b)) (sym less),
     )
 
 returns-6 : tie.Need-returns-6 Inv-loop μ-loop
@@ -140,7 +140,7 @@ returns-6 c =
     let l = c .before .loop in
     let a = c .before .before .before .before .before .args in
     let six : l .passed ≡ 6 = omega arith in
-    numbered (a .s .now) (a .at) _ (sym (l .inv .6 ∙ ap (λ (k : ℕ). readBehind (l .low) (l .weight) k (a .s .now) (a .at)) six ∙ read-overlong (l .low) (l .weight) (a .s .now) (a .at)))
+    numbered (a .s .now) (a .at) _ (sym (l .inv .6 ∙ ap (λ (k : ℕ). readAfterGroups (l .low) (l .weight) k (a .s .now) (a .at)) six ∙ read-overlong (l .low) (l .weight) (a .s .now) (a .at)))
 
 pub read-number-spec : {M : Type 1} → statement M
 read-number-spec =

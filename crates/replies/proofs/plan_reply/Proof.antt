@@ -4,7 +4,7 @@ use mathlib.Core.Path.{sym, ap, ap₂, _∙_}
 use borrow.Author.Needs.{needs}
 use Rattle.schedule.specs.declared.reply.Plan.{Plan}
 use Rattle.schedule.specs.Plan.{planReply}
-use Rattle.replies.specs.Interface.{planned, planReplyOf}
+use Rattle.replies.specs.Interface.{planReplyWith, planReplyOf}
 use Rattle.replies.proofs.plan_reply.Statement.{statement}
 use Rattle.replies.proofs.plan_reply.Tie as tie
 
@@ -15,7 +15,7 @@ returns c = ap (λ (p : Plan). planReplyOf (planReply p)) (sym (c .before .befor
 returns-2 : tie.Need-returns-2
 unfolding planReplyOf
 returns-2 c =
-    ap₂ (λ (n v : ℕ). planned n v 0 0) (c .before .refusal-number .ensures) (c .refusal-value .ensures)
+    ap₂ (λ (n v : ℕ). planReplyWith n v 0 0) (c .before .refusal-number .ensures) (c .refusal-value .ensures)
     ∙ ap (λ (p : Plan). planReplyOf (planReply p)) (sym (c .before .before .before .reply2 .given .1))
 
 pub plan-reply-spec : {M : Type 1} → statement M

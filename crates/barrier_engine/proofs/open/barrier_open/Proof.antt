@@ -6,13 +6,14 @@ use denote.Slice.{ShrSlice, shr-slice-tells, shr-slice-lawful, shr-slice-copy}
 use denote.Struct.Laws as LL
 use denote.Triple.Walked.{stay-none-slice, goes-none-slice}
 use Rattle.job.specs.declared.StoredJob.{StoredJob}
-use Rattle.open_job.specs.Open.{memoryAfter, replied}
-use Rattle.kept_states.specs.States.{openStates, keptStates, statesFrom}
-use Rattle.kept_states.specs.declared.OpenStates.{OpenStates}
-use Rattle.kept_states.specs.Parts.{eachEmptied}
-use Rattle.kept_states.proofs.states.empty.Symbol.{name as #empty}
+use Rattle.open_job.specs.States.{keptStates, statesFrom}
+use Rattle.open_job.specs.Calls.{memoryAfter, openStates}
+use Rattle.base.specs.Answer.{replied}
+use Rattle.open_job.specs.declared.OpenStates.{OpenStates}
+use Rattle.open_job.specs.Parts.{eachEmptied}
+use Rattle.open_job.proofs.kept.empty.Symbol.{name as #empty}
 use Rattle.replies.specs.Interface.{replyOf}
-use Rattle.replies.specs.OpenInterface.{afterOpening}
+use Rattle.replies.specs.OpenInterface.{openedBy}
 use Rattle.replies.specs.declared.Reply.{Reply}
 use Rattle.replies.specs.declared.open.Opening.{Opening}
 use Rattle.replies.proofs.ShellLaws.{open-shell}
@@ -65,8 +66,8 @@ module _ {M : Type 1} (𝓤 : URA M) (H : Heap 𝓤) (A : Atoms 𝓤) (at-mem : 
     abbrev Ensured : Opening → SProp 𝓤
     Ensured r = ensured 𝓤 H A opened·f.ended (opened·f.clauses 𝓤 H A at-mem run) (κ′, tt) (a, (y, tt)) tt r
 
-    ensures : (r : Opening) → ent 𝓤 (Ensured r) (fact 𝓤 (r ≡ afterOpening a (now y)))
-    ensures r = exE 𝓤 _ (λ ws. snd∗ 𝓤 (sem 𝓤 H A (lasts opened·f.ended (κ′, tt) (a, (y, tt)) ws)) (fact 𝓤 (r ≡ afterOpening a (now y))))
+    ensures : (r : Opening) → ent 𝓤 (Ensured r) (fact 𝓤 (r ≡ openedBy a (now y)))
+    ensures r = exE 𝓤 _ (λ ws. snd∗ 𝓤 (sem 𝓤 H A (lasts opened·f.ended (κ′, tt) (a, (y, tt)) ws)) (fact 𝓤 (r ≡ openedBy a (now y))))
 
 module _ {M : Type 1} (𝓤 : URA M) (H : Heap 𝓤) (A : Atoms 𝓤) (W : Given 𝓤 H A) (at-mem : Memory → SProp 𝓤) (run : Routine → Fun 𝓤) (κ κ′ : Lft) (q q′ : Share) (b o : ℕ) (γ : GName) (m : OpenStates) (y : RefT (List ℕ)) where
   abbrev x : RefT OpenStates × (RefT (List ℕ) × Unit {0})
@@ -104,7 +105,7 @@ module _ {M : Type 1} (𝓤 : URA M) (H : Heap 𝓤) (A : Atoms 𝓤) (W : Given
         move ! (0 ∷ 12 ∷ []) $ use2 W (raw (Opens 𝓤 H A at-mem run .pre (given 𝓤 H A at-mem run κ′ q′ (m .present) y))) (goes-in 𝓤 H A at-mem run κ′ q′ (m .present) y W (p .present-fits)) $
         calls-at ! fm (Opens 𝓤 H A at-mem run) known-opened (given 𝓤 H A at-mem run κ′ q′ (m .present) y) (and-then ! (var ! 8 refl) (and-then ! (var ! 9 refl) (no-more !))) (λ w.
         use1 W (later (some (λ (r : Opening). (Token κ′ q′ ⊛ ‵ (opening .row .own r (w ∷ []))) ⊛ raw (Ensured 𝓤 H A at-mem run κ′ q′ (m .present) y r)))) (id⊢ 𝓤 _) $ await ! tt $ pick ! (λ r.
-        split ! $ move ! (1 ∷ []) $ use1 W (raw (fact 𝓤 (r ≡ afterOpening (m .present) (now y)))) (ensures 𝓤 H A at-mem run κ′ q′ (m .present) y r) $ heard ! (r ≡ afterOpening (m .present) (now y)) (λ e.
+        split ! $ move ! (1 ∷ []) $ use1 W (raw (fact 𝓤 (r ≡ openedBy (m .present) (now y)))) (ensures 𝓤 H A at-mem run κ′ q′ (m .present) y r) $ heard ! (r ≡ openedBy (m .present) (now y)) (λ e.
         split ! $ move ! (1 ∷ []) $ facts ! (opening .row) (Is (opening .row)) (shows 𝓤 H A (opening .row)) r (w ∷ []) (λ is. lands-as ! opening r w is (λ i.
         let d : OpenStates = eachEmptied m (r .done) (r .next) in
         let g = opening-fits r i in
@@ -137,4 +138,4 @@ barrier-open-spec 𝓤 H 𝓜 𝓖 𝓡 =
     (tables 𝓤 H 𝓜 𝓡 code.env .C) (tables 𝓤 H 𝓜 𝓡 code.env .Λ) #f code.function (code.unfolded 𝓤 H 𝓜 𝓡)
     (f-meets 𝓤 H (𝓖 .A) (givenOf 𝓤 H 𝓜 𝓖) (𝓜 .mem) (𝓡 .run) (tablesOf 𝓤 H 𝓜 (tables 𝓤 H 𝓜 𝓡 code.env))
     (cited 𝓤 H (Opens 𝓤 H (𝓖 .A) (𝓜 .mem) (𝓡 .run)) 𝓜 𝓡 code.env #opened opened-routine code.calls-replies·open·opened (opened-met 𝓤 H 𝓜 𝓖 𝓡))
-    (emptying-known 𝓤 H 𝓜 𝓖 𝓡 code.env code.calls-kept-states·states·empty))
+    (emptying-known 𝓤 H 𝓜 𝓖 𝓡 code.env code.calls-open-job·kept·empty))

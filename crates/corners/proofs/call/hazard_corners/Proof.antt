@@ -2,12 +2,12 @@
 use mathlib.Core.Path.{ap, _∙_}
 use borrow.Author.Needs.{needs}
 use borrow.Author.Tests.{lt-ltb}
-use Rattle.refusal.specs.Answer.{accepted}
+use Rattle.base.specs.Answer.{accepted}
 use Rattle.job.proofs.RangeLaws.{hazard-bounds}
 use Rattle.planning.specs.Envelope.{Traffic}
 use Rattle.planning.proofs.AdjacentLaws.{is-adjacent, adjacent-reaches}
 use Rattle.corners.specs.Corners.{approachPoints}
-use Rattle.corners.specs.Reply.{replied}
+use Rattle.corners.specs.Reply.{cornersReplied}
 use Rattle.corners.proofs.call.hazard_corners.Statement.{statement}
 use Rattle.corners.proofs.call.hazard_corners.Tie as tie
 
@@ -24,7 +24,7 @@ returns : tie.Need-returns
 returns c =
     let a = c .before .before .before .args in
     c .approach-corners .ensures
-    ∙ ap (λ (t : Traffic). replied (accepted (approachPoints (a .sheet .station) (a .sheet .offset) (a .header) (a .hazard) t))) (c .before .before .adjacent-traffic .ensures)
+    ∙ ap (λ (t : Traffic). cornersReplied (accepted (approachPoints (a .sheet .station) (a .sheet .offset) (a .header) (a .hazard) t))) (c .before .before .adjacent-traffic .ensures)
 
 pub hazard-corners-spec : {M : Type 1} → statement M
 hazard-corners-spec = tie.close (tie.spec (λ c κs. search needs) approach-lengths-requires (λ c κs. search needs) returns)

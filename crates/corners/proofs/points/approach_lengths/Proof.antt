@@ -6,8 +6,8 @@ use Rattle.corners.proofs.PointLaws.{asked-domain, asked-lengths}
 use Rattle.corners.proofs.points.approach_lengths.Statement.{statement}
 use Rattle.corners.proofs.points.approach_lengths.Tie as tie
 
-domain-length-requires : tie.Need-domain-length-requires
-domain-length-requires c κs =
+approach-length-requires : tie.Need-approach-length-requires
+approach-length-requires c κs =
     let s = c .before .before in
     asked-domain (s .args .header) (s .args .hazard) (trafficOf (s .args .traffic)) (s .pre .0) (s .pre .1 .0) (s .pre .1 .1 .0) (s .pre .1 .1 .1 .0) (s .pre .1 .1 .1 .1) (c .before .runout-length .ensures) (c .adjacent-reach .ensures)
 
@@ -23,7 +23,7 @@ returns : tie.Need-returns
 returns c =
     let s = c .before .before .before .before in
     asked-lengths (s .args .header) (s .args .hazard) (trafficOf (s .args .traffic)) (s .pre .0) (s .pre .1 .0) (s .pre .1 .1 .0) (s .pre .1 .1 .1 .0) (s .pre .1 .1 .1 .1)
-    (c .before .before .before .runout-length .ensures) (c .before .before .adjacent-reach .ensures) (c .before .domain-length .ensures) (c .raised-length .ensures)
+    (c .before .before .before .runout-length .ensures) (c .before .before .adjacent-reach .ensures) (c .before .approach-length .ensures) (c .raised-length .ensures)
 
 pub approach-lengths-spec : {M : Type 1} → statement M
-approach-lengths-spec = tie.close (tie.spec (λ c κs. search needs) (λ c κs. search needs) domain-length-requires raised-length-requires returns)
+approach-lengths-spec = tie.close (tie.spec (λ c κs. search needs) (λ c κs. search needs) approach-length-requires raised-length-requires returns)

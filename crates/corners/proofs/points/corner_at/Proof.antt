@@ -4,7 +4,7 @@ use mathlib.Core.Path.{ap, _∙_}
 use borrow.Author.Needs.{needs}
 use lib.IntN.{pos}
 use lib.Ieee.{Float, binary64, sub, ofInt}
-use Rattle.exact.proofs.WholeLaws.{cast-defined, sub-cast}
+use Rattle.corners.proofs.WholeLaws.{cast-defined, sub-cast}
 use Rattle.planning.specs.Reply.{trafficOf}
 use Rattle.corners.specs.Corners.{upstreamBy}
 use Rattle.corners.proofs.PointLaws.{upstream-size}

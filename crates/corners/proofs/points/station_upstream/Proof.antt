@@ -3,7 +3,7 @@ use native.Mathlib.Omega.{arith}
 use borrow.Author.Needs.{needs}
 use lib.IntN.{pos}
 use lib.Ieee.{binary64}
-use Rattle.exact.proofs.WholeLaws.{cast-defined, add-cast, sub-cast}
+use Rattle.corners.proofs.WholeLaws.{cast-defined, add-cast, sub-cast}
 use Rattle.corners.proofs.points.station_upstream.Statement.{statement}
 use Rattle.corners.proofs.points.station_upstream.Tie as tie
 

@@ -3,7 +3,7 @@
 use native.Mathlib.Omega.{arith}
 use mathlib.Core.Path.{_≡_, sym, ap, _∙_}
 use borrow.Author.Needs.{needs}
-use Rattle.refusal.specs.Answer.{accepted}
+use Rattle.base.specs.Answer.{accepted}
 use Rattle.job.specs.Reply.{headerAt, headerAnswer}
 use Rattle.job.proofs.RangeLaws.{header-bounds}
 use Rattle.job.proofs.JobLaws.{header-at-fits}

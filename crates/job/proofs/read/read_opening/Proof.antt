@@ -3,7 +3,7 @@ use Prim.Native.Nat.{ℕ}
 use native.Mathlib.Omega.{arith}
 use mathlib.Core.Path.{_≡_, sym, ap, _∙_}
 use borrow.Author.Needs.{needs}
-use Rattle.refusal.specs.Answer.{accepted, refused}
+use Rattle.base.specs.Answer.{accepted, refused}
 use Rattle.job.specs.Reply.{headerAt, headerAnswer}
 use Rattle.job.proofs.OpeningLaws.{opening-unread, opening-counted, opening-empty}
 use Rattle.job.proofs.read.read_opening.Statement.{statement}

@@ -6,7 +6,7 @@ use mathlib.Core.Bool.{Bool, true, _&&_}
 use lib.ListN.{length, getD}
 use borrow.Author.Needs.{needs}
 use borrow.Author.Tests.{leb-true}
-use Rattle.refusal.proofs.TestLaws.{and-left, and-right}
+use Rattle.base.proofs.TestLaws.{and-left, and-right}
 use Rattle.number.specs.declared.Read.the-variants.{Number}
 use Rattle.number.proofs.GroupWalk.{read-one}
 use Rattle.number.proofs.WordLaws.{read-word, read-behind}

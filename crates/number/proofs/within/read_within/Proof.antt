@@ -9,7 +9,7 @@ use native.Mathlib.Omega.{arith}
 use lib.ListN.{length, getD}
 use Rattle.number.specs.declared.Read.the-variants.{Number}
 use Rattle.number.specs.Number.{readNumber}
-use Rattle.number.specs.Groups.{readBehind}
+use Rattle.number.specs.Groups.{readAfterGroups}
 use Rattle.number.proofs.GroupWalk.{read-one, read-first, read-more, read-needless, read-whole, read-overlong, group-less}
 use Rattle.number.proofs.within.read_within.Statement.{statement}
 use Rattle.number.proofs.within.read_within.Tie as tie
@@ -17,7 +17,7 @@ use Rattle.number.proofs.within.read_within.Tie as tie
 abbrev Inv-loop : tie.InvT-loop
 Inv-loop s at first sum₀ tops₀ weight₀ next₀ passed₀ sum tops weight next passed =
     (0 < passed) × (passed ≤ 6) × (next ≡ at + passed) × (weight ≡ 128 ^ passed) × (tops ≤ sum) × (tops ≤ 2 * weight) × (sum - tops < weight)
-    × (readNumber s at ≡ readBehind (sum - tops) weight passed s at)
+    × (readNumber s at ≡ readAfterGroups (sum - tops) weight passed s at)
 
 abbrev μ-loop : tie.MeasureT-loop
 μ-loop s at first sum₀ tops₀ weight₀ next₀ passed₀ sum tops weight next passed = 6 - passed
@@ -131,7 +131,7 @@ loop-again c =
       omega (arith, less, l .inv .6, room-rest b),
       l .inv .7
           ∙ read-more (Sum b - Tops b) (Weight b) (Passed b) (S b) (At b) (omega arith) (there b) more
-          ∙ ap (λ (m : ℕ). readBehind m (Weight b * 128) (Passed b + 1) (S b) (At b)) (sym less),
+          ∙ ap (λ (m : ℕ). readAfterGroups m (Weight b * 128) (Passed b + 1) (S b) (At b)) (sym less),
     )
 
 returns-4 : tie.Need-returns-4 Inv-loop μ-loop
@@ -139,7 +139,7 @@ returns-4 c =
     let l = c .before .loop in
     let a = c .before .before .before .before .args in
     let six : l .passed ≡ 6 = omega arith in
-    sym (l .inv .7 ∙ ap (λ (k : ℕ). readBehind (l .sum - l .tops) (l .weight) k (a .s .now) (a .at)) six ∙ read-overlong (l .sum - l .tops) (l .weight) (a .s .now) (a .at))
+    sym (l .inv .7 ∙ ap (λ (k : ℕ). readAfterGroups (l .sum - l .tops) (l .weight) k (a .s .now) (a .at)) six ∙ read-overlong (l .sum - l .tops) (l .weight) (a .s .now) (a .at))
 
 pub read-within-spec : {M : Type 1} → statement M
 read-within-spec =

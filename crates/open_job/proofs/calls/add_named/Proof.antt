@@ -5,7 +5,7 @@ use mathlib.Core.Bool.{false}
 use lib.ListN.{length, length-map}
 use borrow.Author.Needs.{needs}
 use borrow.Author.Tests.{le-leb, lt-leb}
-use Rattle.refusal.specs.Answer.{accepted}
+use Rattle.base.specs.Answer.{accepted}
 use Rattle.refusal.specs.Refusal.{outcome}
 use Rattle.refusal.specs.declared.Refusal.the-variants.{Name, Full}
 use Rattle.refusal.specs.declared.Outcome.{Outcome}
@@ -13,7 +13,7 @@ use Rattle.open_memory.specs.Memory.{hazardGiven, standing, stands, isFull, adm
 use Rattle.open_memory.proofs.RuleLaws.{admitted, open-header, open-count, open-clear}
 use Rattle.open_memory.proofs.PlaceLaws.{rank-most}
 use Rattle.open_memory.proofs.WalkLaws.{standing-length}
-use Rattle.open_job.specs.Open.{addTo}
+use Rattle.open_job.specs.Calls.{addTo}
 use Rattle.open_job.proofs.CallLaws.{changes-refused, changes-done, full-count, add-done}
 use Rattle.open_job.proofs.calls.add_named.Statement.{statement}
 use Rattle.open_job.proofs.calls.add_named.Tie as tie
@@ -33,7 +33,7 @@ unfolding addTo
 returns c =
     let t = c .before in
     let s = t .before .before .before in
-    rw (s .pre, sym (t .before .stands-at .ensures) ∙ t .if1 .taken) (changes-refused (s .args .job) (Name (s .args .name)) refl (c .unchanged .ensures))
+    rw (sym (t .before .stands-at .ensures) ∙ t .if1 .taken) (changes-refused (s .args .job) (Name (s .args .name)) refl (c .unchanged .ensures))
 
 -- The name does not stand.
 fresh : (c : tie.Else1) → let a = c .before .before .before .args in stands (a .name) (standing (a .job)) ≡ false
@@ -51,7 +51,7 @@ returns-2 c =
     let t = c .before in
     let e = t .before .before .before in
     let s = e .before .before .before in
-    rw (s .pre, fresh e, full-count (s .args .job) (s .pre) (size s) ∙ le-leb 256 (s .args .job .header .count) (t .if2 .taken)) (changes-refused (s .args .job) Full refl (c .unchanged2 .ensures))
+    rw (fresh e, full-count (s .args .job) (s .pre) (size s) ∙ le-leb 256 (s .args .job .header .count) (t .if2 .taken)) (changes-refused (s .args .job) Full refl (c .unchanged2 .ensures))
 
 test-given-requires : tie.Need-test-given-requires
 test-given-requires c κs = let s = c .before .before .before .before .before .before in open-header (s .args .job) (s .pre)
@@ -89,7 +89,7 @@ returns-4 c =
     let r = c .before .before .before .before in
     let e = r .before .before .before .before in
     let s = e .before .before .before in
-    rw (s .pre, fresh e, room (r .before), sym (r .test-given .ensures) ∙ ap (λ (o : Outcome). outcome o tt) (x .1)) (changes-refused (s .args .job) (x .0 .0) refl (c .unchanged3 .ensures))
+    rw (fresh e, room (r .before), sym (r .test-given .ensures) ∙ ap (λ (o : Outcome). outcome o tt) (x .1)) (changes-refused (s .args .job) (x .0 .0) refl (c .unchanged3 .ensures))
 
 pub add-named-spec : {M : Type 1} → statement M
 add-named-spec =

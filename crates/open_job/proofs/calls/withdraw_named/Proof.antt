@@ -9,7 +9,7 @@ use Rattle.open_memory.specs.Memory.{standing, stands}
 use Rattle.open_memory.proofs.RuleLaws.{open-count, open-standing, open-clear}
 use Rattle.open_memory.proofs.PlaceLaws.{rank-within}
 use Rattle.open_memory.proofs.WalkLaws.{standing-length}
-use Rattle.open_job.specs.Open.{withdrawFrom}
+use Rattle.open_job.specs.Calls.{withdrawFrom}
 use Rattle.open_job.proofs.CallLaws.{changes-refused, changes-done, withdraw-done}
 use Rattle.open_job.proofs.calls.withdraw_named.Statement.{statement}
 use Rattle.open_job.proofs.calls.withdraw_named.Tie as tie
@@ -45,7 +45,7 @@ unfolding withdrawFrom
 returns-2 c =
     let t = c .before in
     let s = t .before .before .before in
-    rw (s .pre, sym (t .before .stands-at .ensures) ∙ t .if1 .left) (changes-refused (s .args .job) (Name (s .args .name)) refl (c .unchanged .ensures))
+    rw (sym (t .before .stands-at .ensures) ∙ t .if1 .left) (changes-refused (s .args .job) (Name (s .args .name)) refl (c .unchanged .ensures))
 
 pub withdraw-named-spec : {M : Type 1} → statement M
 withdraw-named-spec = tie.close (tie.spec place-of-requires stands-at-requires taken-out-requires (λ c κs. search needs) returns returns-2)

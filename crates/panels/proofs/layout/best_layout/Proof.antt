@@ -8,8 +8,8 @@ use Rattle.panels.proofs.layout.best_layout.Statement.{statement}
 use Rattle.panels.proofs.layout.best_layout.Tie as tie
 
 -- The tries end at the lesser of the limit and the layouts there are.
-ends : (c : tie.After-lesser) → let a = c .before .before .before .before .args in c .lesser .result ≡ min (a .limit) (16 ^ length (a .lengths .now))
-ends c = let a = c .before .before .before .before .args in c .lesser .ensures ∙ ap (min (a .limit)) (c .before .layout-number .ensures)
+ends : (c : tie.After-min) → let a = c .before .before .before .before .args in c .min .result ≡ min (a .limit) (16 ^ length (a .lengths .now))
+ends c = let a = c .before .before .before .before .args in c .min .ensures ∙ ap (min (a .limit)) (c .before .layout-number .ensures)
 
 returns : tie.Need-returns
 returns c =

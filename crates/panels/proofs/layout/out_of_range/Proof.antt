@@ -5,7 +5,7 @@ use native.Mathlib.Omega.{arith}
 use mathlib.Core.Path.{_≡_, refl, sym, ap, _∙_}
 use lib.ListN.{length, drop, drop-of-length-le}
 use borrow.Author.Needs.{needs}
-use Rattle.refusal.specs.Choice.{someOf}
+use Rattle.base.specs.Choice.{someOf}
 use Rattle.panels.specs.Panels.{outOfRange}
 use Rattle.panels.proofs.RangeLaws.{found-here, passed-here, too-low, too-high, in-range}
 use Rattle.panels.proofs.layout.out_of_range.Statement.{statement}

@@ -2,7 +2,7 @@
 use Prim.Native.Nat.{_-_}
 use lib.Dec.{leb}
 use borrow.Author.Tests.{leb-true, leb-false}
-use Rattle.refusal.proofs.TestLaws.{and-left, and-right}
+use Rattle.base.proofs.TestLaws.{and-left, and-right}
 use Rattle.panels.proofs.SearchLaws.{judge-short, judge-same, judge-smaller, right-false}
 use Rattle.panels.proofs.search.judge.Statement.{statement}
 use Rattle.panels.proofs.search.judge.Tie as tie

@@ -6,7 +6,7 @@ use Rattle.planning.proofs.accept.greater_of.Tie as tie
 
 returns : tie.Need-returns
 unfolding greater
-returns c = λ i. record { before = c .before .larger .ensures i; after = c .larger2 .ensures i }
+returns c = λ i. record { before = c .before .max .ensures i; after = c .max2 .ensures i }
 
 pub greater-of-spec : {M : Type 1} → statement M
 greater-of-spec = tie.close (tie.spec (λ c κs. search needs) (λ c κs. search needs) returns)

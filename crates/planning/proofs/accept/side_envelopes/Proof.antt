@@ -8,7 +8,7 @@ use Rattle.job.specs.Reply.{unused}
 use Rattle.job.specs.Fits.{HazardFits}
 use Rattle.job.proofs.RangeLaws.{hazard-bounds}
 use Rattle.planning.specs.declared.envelope.Tested.{Tested}
-use Rattle.planning.specs.Reply.{testedHazard, hazardAnswer}
+use Rattle.planning.specs.Reply.{testedHazard, testedAnswer}
 use Rattle.planning.proofs.AcceptLaws.{level-given, SoFar, element-fits, none-yet, hazard-taken, hazard-left-out, hazard-refused, all-done, replies-refused}
 use Rattle.planning.proofs.accept.side_envelopes.Statement.{statement}
 use Rattle.planning.proofs.accept.side_envelopes.Tie as tie
@@ -34,8 +34,8 @@ test-hazard-requires c κs = (c .before .before .before .before .before .pre .he
 
 -- What the test of a turn's hazard said.
 told : (c : tie.After-test-hazard Inv-loop μ-loop) (r : Tested) → c .test-hazard .result ≡ r
-    → let start = c .before .before .before .before .before .before in hazardAnswer r ≡ testedHazard (start .args .t1 .header) (start .args .side) (c .before .before .before .before .loop .index) (c .before .unnamed .result)
-told c r e = ap hazardAnswer (sym e) ∙ c .test-hazard .ensures
+    → let start = c .before .before .before .before .before .before in testedAnswer r ≡ testedHazard (start .args .t1 .header) (start .args .side) (c .before .before .before .before .loop .index) (c .before .unnamed .result)
+told c r e = ap testedAnswer (sym e) ∙ c .test-hazard .ensures
 
 cast-levels : tie.Need-cast-levels Inv-loop μ-loop
 cast-levels c =

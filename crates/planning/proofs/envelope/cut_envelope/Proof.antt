@@ -13,7 +13,7 @@ returns c =
     let second = early .before .before in
     let first = second .before in
     let a = first .before .args in
-    cut-by-sums (a .header) (a .hazard) (first .lengthened-by .ensures .0) (second .lengthened-by2 .ensures .0) (early .beyond .ensures) (late .beyond2 .ensures)
+    cut-by-sums (a .header) (a .hazard) (first .lengthened-by .ensures .0) (second .lengthened-by2 .ensures .0) (early .saturating-sub .ensures) (late .saturating-sub2 .ensures)
 
 -- The road and the hazard lie below the last station, so that no sum leaves 64 bits.
 of-header : (s : tie.Start) → HeaderBounds (s .args .header)

@@ -43,7 +43,7 @@ raised-length-requires c κs =
       (
         omega (arith, bounds .panel-top),
         lengthening-domain (a .header) (a .hazard) (start .pre .0) (start .pre .1 .0) (start .pre .1 .1) (trafficOf (a .traffic))
-            (runout .ensures) (farther .ensures) (c .before .lesser .ensures) (omega arith) (omega arith),
+            (runout .ensures) (farther .ensures) (c .before .min .ensures) (omega arith) (omega arith),
       ),
     )
 
@@ -54,7 +54,7 @@ returns-3 c =
     let runout = c .before .before .before .before .before .before .before .before .before .runout-length in
     let farther = c .before .before .before .before .before .before .before .before .farther-by in
     let e = c .raised-length .ensures ∙ lengthening-asked (a .header) (a .hazard) (start .pre .0) (start .pre .1 .0) (start .pre .1 .1) (trafficOf (a .traffic))
-    (runout .ensures) (farther .ensures) (c .before .before .lesser .ensures) (omega arith) (omega arith) in
+    (runout .ensures) (farther .ensures) (c .before .before .min .ensures) (omega arith) (omega arith) in
     (e, omega (arith, lengthening-top (a .header) (a .hazard) (start .pre .0) (start .pre .1 .0) (start .pre .1 .1) (trafficOf (a .traffic))))
 
 pub lengthened-by-spec : {M : Type 1} → statement M

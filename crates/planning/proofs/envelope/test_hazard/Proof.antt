@@ -8,7 +8,7 @@ use Rattle.job.proofs.RangeLaws.{hazard-bounds}
 use Rattle.planning.specs.declared.envelope.CutEnvelope.{CutEnvelope}
 use Rattle.planning.specs.declared.envelope.Tested.the-variants as Tested
 use Rattle.planning.specs.Envelope.{standsNear}
-use Rattle.planning.specs.Reply.{hazardAnswer}
+use Rattle.planning.specs.Reply.{testedAnswer}
 use Rattle.planning.proofs.TestedLaws.{stands-clear, tested-near, tested-unreached, tested-other, tested-envelope}
 use Rattle.planning.proofs.envelope.test_hazard.Statement.{statement}
 use Rattle.planning.proofs.envelope.test_hazard.Tie as tie
@@ -42,7 +42,7 @@ returns-3 : tie.Need-returns-3
 returns-3 c =
     let e = c .before .before .before .before .before .before in
     let s = e .before .before in
-    ap (λ (x : CutEnvelope). hazardAnswer (Tested.Envelope x)) (c .cut-envelope .ensures)
+    ap (λ (x : CutEnvelope). testedAnswer (Tested.Envelope x)) (c .cut-envelope .ensures)
     ∙ tested-envelope (s .args .header) (s .args .hazard) (side s) (s .args .side) (s .args .index) (passed e) (omega arith) (c .before .if3 .taken)
 
 returns-4 : tie.Need-returns-4

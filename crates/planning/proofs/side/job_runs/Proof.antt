@@ -1,7 +1,7 @@
 -- `planning::side::job_runs` meets its contract: what `side_envelopes` gives fits the builder of runs. Assumes nothing.
 use mathlib.Core.Path.{refl, ap, _∙_}
 use borrow.Author.Needs.{needs}
-use Rattle.refusal.specs.Answer.{accepted}
+use Rattle.base.specs.Answer.{accepted}
 use Rattle.job.specs.Job.{jobOf}
 use Rattle.runs.specs.RunList.{runsOf}
 use Rattle.runs.proofs.StoredLaws.{runs-stored}

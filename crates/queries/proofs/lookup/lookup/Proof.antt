@@ -10,7 +10,7 @@ use borrow.Author.Tests.{eq-eqb, ne-eqb}
 use Rattle.number.proofs.ByteLaws.{index-bytes}
 use Rattle.queries.specs.declared.reply.Located.the-variants as Located
 use Rattle.queries.specs.Lookup.{asked}
-use Rattle.queries.specs.Place.{between, locatedReply}
+use Rattle.queries.specs.Place.{partBetween, locatedReply}
 use Rattle.queries.proofs.PlaceLaws.{lookup-within, asked-now, is-part}
 use Rattle.queries.proofs.lookup.lookup.Statement.{statement}
 use Rattle.queries.proofs.lookup.lookup.Tie as tie
@@ -26,7 +26,7 @@ place : (c : tie.After-known-told) → let p = c .before .start .given .0 in (p 
 place c =
     let k = c .before .before .before .before in
     let a = k .before .before .before .args in
-    let w = lookup-within (now (a .right)) (now (a .left)) (a .side) (a .station) (between (c .before .start .given .0 .0) (c .before .start .given .0 .1 .0))
+    let w = lookup-within (now (a .right)) (now (a .left)) (a .side) (a .station) (partBetween (c .before .start .given .0 .0) (c .before .start .given .0 .1 .0))
     (index-bytes _ (λ i. omega (arith, k .before .before .shared-slice-known .given i))) (index-bytes _ (λ i. omega (arith, k .before .shared-slice-known2 .given i)))
     (sym (c .before .before .before .locate .ensures) ∙ ap locatedReply (c .before .start .given .1)) in
     (omega (arith, w .some), omega (arith, w .some, w .ends, ap length (ap now (chosen k) ∙ asked-now (a .side) (a .right) (a .left))))

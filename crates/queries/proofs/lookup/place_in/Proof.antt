@@ -1,7 +1,7 @@
 -- `queries::lookup::place_in` meets its contract: the place that the walk found, none, or its refusal. Assumes nothing.
 use mathlib.Core.Path.{sym, ap, _∙_}
 use borrow.Author.Needs.{needs}
-use Rattle.refusal.specs.Answer.{accepted}
+use Rattle.base.specs.Answer.{accepted}
 use Rattle.queries.specs.Query.{placeReply}
 use Rattle.queries.proofs.PlaceLaws.{so-far, so-far-none}
 use Rattle.queries.proofs.lookup.place_in.Statement.{statement}

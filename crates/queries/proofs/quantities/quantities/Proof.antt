@@ -6,7 +6,7 @@ use native.Mathlib.Omega.{arith}
 use borrow.Author.Needs.{needs}
 use borrow.Author.Tests.{not-true, not-false}
 use lib.ListN.{length}
-use Rattle.queries.specs.Ranges.{mostRanges, rangesOf, replied, AllRanged}
+use Rattle.queries.specs.Ranges.{mostRanges, rangesOf, quantitiesReplied, AllRanged}
 use Rattle.queries.specs.Sums.{Tallied}
 use Rattle.queries.proofs.RangeLaws.{ranges-count}
 use Rattle.queries.proofs.QuantitiesLaws.{all-ranged, quantities-argument, quantities-many}
@@ -21,12 +21,12 @@ good c = all-ranged _ _ .0 (sym (c .before .well-asked .ensures) ∙ not-false _
 returns : tie.Need-returns
 returns c =
     c .no-quantities .ensures
-    ∙ sym (ap replied (quantities-argument _ _ _ (λ (h : AllRanged _ _). false≢true (sym (not-true _ (c .before .if1 .taken)) ∙ c .before .before .well-asked .ensures ∙ all-ranged _ _ .1 h))))
+    ∙ sym (ap quantitiesReplied (quantities-argument _ _ _ (λ (h : AllRanged _ _). false≢true (sym (not-true _ (c .before .if1 .taken)) ∙ c .before .before .well-asked .ensures ∙ all-ranged _ _ .1 h))))
 
 returns-2 : tie.Need-returns-2
 returns-2 c =
     let a = good (c .before .before) in
-    c .no-quantities2 .ensures ∙ sym (ap replied (quantities-many _ _ _ a (omega (arith, a .2 .pairs))))
+    c .no-quantities2 .ensures ∙ sym (ap quantitiesReplied (quantities-many _ _ _ a (omega (arith, a .2 .pairs))))
 
 -- Before the walk.
 few : (c : tie.After-sums) → length (rangesOf (c .before .before .before .before .before .before .args .ranges .now)) ≤ mostRanges

@@ -6,10 +6,10 @@ use Prim.Native.Nat.{_+_}
 use native.Mathlib.Omega.{arith}
 use borrow.Author.Needs.{needs}
 use borrow.Author.Tests.{eq-eqb, ne-eqb}
-use Rattle.refusal.specs.Answer.{accepted, refused}
+use Rattle.base.specs.Answer.{accepted, refused}
 use Rattle.number.specs.Form.{Bytes}
 use Rattle.number.proofs.ByteLaws.{index-bytes}
-use Rattle.runs.specs.RunList.{Next}
+use Rattle.runs.specs.RunList.{MayFollow}
 use Rattle.schedule.specs.Schedule.{ReadRun}
 use Rattle.queries.specs.Walk.{headReply, recordAt, recordReply, overlap, overlapAt, overlapSum}
 use Rattle.queries.specs.Lookup.{placeIn}
@@ -55,7 +55,7 @@ is-read : (c : Body) → let l = c .before .before .before .before .before .befo
     recordAt (l .end) (l .last) (c .before .before .before .before .before .before .before .before .before .before .before .before .args .s .now) (l .at) ≡ accepted (read c)
 is-read c = sym (c .before .before .before .before .read-record .ensures) ∙ ap recordReply (c .before .before .run .given .1)
 
-follows : (c : Body) → let l = c .before .before .before .before .before .before .loop in Next (l .end) (l .last) (read c .run)
+follows : (c : Body) → let l = c .before .before .before .before .before .before .loop in MayFollow (l .end) (l .last) (read c .run)
 follows c = record-follows _ _ _ _ (read c) (is-read c)
 
 returns-2 : tie.Need-returns-2 Inv-loop μ-loop

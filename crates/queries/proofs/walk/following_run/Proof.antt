@@ -1,8 +1,8 @@
 -- `queries::walk::following_run` meets its contract: each test is a rule of run lists. Assumes nothing.
 use mathlib.Core.Path.{_≡_, sym}
 use native.Mathlib.Omega.{arith}
-use Rattle.refusal.specs.Answer.{refused}
-use Rattle.runs.specs.RunList.{Next}
+use Rattle.base.specs.Answer.{refused}
+use Rattle.runs.specs.RunList.{MayFollow}
 use Rattle.schedule.proofs.ScheduleLaws.{runAfter}
 use Rattle.queries.specs.Walk.{followingRun, recordReply}
 use Rattle.queries.specs.declared.walk.Record.the-variants as Record
@@ -12,7 +12,7 @@ use Rattle.queries.proofs.walk.following_run.Tie as tie
 
 -- The run may follow.
 abbrev Follows : tie.Start → Type 0
-Follows c = Next (c .args .end) (c .args .level) (runAfter (c .args .end) (c .args .gap) (c .args .length) (c .args .own))
+Follows c = MayFollow (c .args .end) (c .args .level) (runAfter (c .args .end) (c .args .gap) (c .args .length) (c .args .own))
 
 -- Where it may not, the record is refused.
 refuse : (c : tie.Start) → (Follows c → ⊥) → refused 10 0 ≡ followingRun (c .args .end) (c .args .level) (c .args .gap) (c .args .length) (c .args .own) (c .args .next)

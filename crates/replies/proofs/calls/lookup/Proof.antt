@@ -3,17 +3,17 @@ use Prim.Native.Nat.{ℕ, _+_, _-_}
 use native.Mathlib.Omega.{arith}
 use mathlib.Core.Path.{_≡_, sym, ap, _∙_}
 use borrow.Author.Needs.{needs}
-use Rattle.refusal.specs.Answer.{accepted}
+use Rattle.base.specs.Answer.{accepted}
 use Rattle.number.proofs.ByteLaws.{index-bytes}
 use Rattle.queries.specs.Lookup.{found, lookup}
-use Rattle.queries.specs.Place.{between, locatedReply}
+use Rattle.queries.specs.Place.{partBetween, locatedReply}
 use Rattle.queries.proofs.PlaceLaws.{lookup-within}
 use Rattle.replies.specs.Interface.{recordOf}
 use Rattle.replies.proofs.calls.lookup.Statement.{statement}
 use Rattle.replies.proofs.calls.lookup.Tie as tie
 
 -- a found record by its two ends
-by-ends : (start end : ℕ) → end ≡ start + (end - start) → record { number = 0; found = 1; start = start; end = end } ≡ recordOf (accepted (found (between start end)))
+by-ends : (start end : ℕ) → end ≡ start + (end - start) → record { number = 0; found = 1; start = start; end = end } ≡ recordOf (accepted (found (partBetween start end)))
 unfolding recordOf
 by-ends start end e = ap (λ (n : ℕ). record { number = 0; found = 1; start = start; end = n }) e
 
@@ -24,8 +24,8 @@ returns c =
     let located = c .before .before .before .locate in
     let start = c .before .start .given .0 .0 in
     let end = c .before .start .given .0 .1 .0 in
-    let is : accepted (found (between start end)) ≡ lookup (a .right .now) (a .left .now) (a .side) (a .station) = sym (ap locatedReply (c .before .start .given .1)) ∙ located .ensures in
-    let w = lookup-within (a .right .now) (a .left .now) (a .side) (a .station) (between start end)
+    let is : accepted (found (partBetween start end)) ≡ lookup (a .right .now) (a .left .now) (a .side) (a .station) = sym (ap locatedReply (c .before .start .given .1)) ∙ located .ensures in
+    let w = lookup-within (a .right .now) (a .left .now) (a .side) (a .station) (partBetween start end)
     (index-bytes _ (λ i. omega (arith, c .before .before .before .before .before .shared-slice-known .given i)))
     (index-bytes _ (λ i. omega (arith, c .before .before .before .before .shared-slice-known2 .given i))) (sym is) in
     by-ends start end (omega (arith, w .some)) ∙ ap recordOf is

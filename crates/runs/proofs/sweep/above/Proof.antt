@@ -1,7 +1,7 @@
 -- `runs::sweep::above` meets its contract: a sum of six tests, or none.
 -- Assumes nothing.
 use native.Mathlib.Omega.{arith}
-use Rattle.runs.specs.Stand.{aboveTo}
+use Rattle.runs.specs.Sweep.{aboveTo}
 use Rattle.runs.proofs.TopLaws.{above-none}
 use borrow.Author.Needs.{needs}
 use Rattle.runs.proofs.sweep.above.Statement.{statement}

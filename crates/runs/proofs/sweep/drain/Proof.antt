@@ -7,7 +7,7 @@ use mathlib.Core.List.{List}
 use lib.ListN.{length, getD}
 use Rattle.runs.specs.declared.Stretch.{Stretch}
 use Rattle.runs.specs.Breaks.{breaksTo}
-use Rattle.runs.specs.Stand.{distinctTo, Stands}
+use Rattle.runs.specs.Sweep.{distinctTo, SweptTo}
 use Rattle.runs.specs.Steps.{breakPlaces}
 use Rattle.runs.proofs.TopLaws.{distinct-some, count-falls, count-distinct}
 use Rattle.runs.proofs.PlaceLaws.{breaks-push}
@@ -18,7 +18,7 @@ use Rattle.runs.proofs.sweep.drain.Tie as tie
 
 abbrev Inv-loop : tie.InvT-loop
 Inv-loop starts₀ levels₀ tops s count₀ level₀ starts levels count level = (length starts ≡ length starts₀) × (length levels ≡ length levels₀) × (level ≤ 6) × (count + distinctTo tops level ≤ count₀ + distinctTo tops level₀)
-    × ((es : List Stretch) (G u : ℕ) → u ≤ s → Stands es G u tops level₀ (breaksTo starts₀ levels₀ count₀) → Standing es G s tops level (breaksTo starts levels count))
+    × ((es : List Stretch) (G u : ℕ) → u ≤ s → SweptTo es G u tops level₀ (breaksTo starts₀ levels₀ count₀) → Standing es G s tops level (breaksTo starts levels count))
 
 abbrev μ-loop : tie.MeasureT-loop
 μ-loop starts₀ levels₀ tops s count₀ level₀ starts levels count level = level

@@ -3,7 +3,7 @@
 use native.Mathlib.Omega.{arith}
 use mathlib.Core.Path.{refl}
 use borrow.Author.Tests.{lt-ltb, le-ltb}
-use Rattle.runs.specs.Stand.{filledFrom}
+use Rattle.runs.specs.Sweep.{filledFrom}
 use borrow.Author.Needs.{needs}
 use Rattle.runs.proofs.sweep.fill.Statement.{statement}
 use Rattle.runs.proofs.sweep.fill.Tie as tie

@@ -4,14 +4,14 @@ use Prim.Native.Nat.{ℕ, _≤_}
 use native.Mathlib.Omega.{arith}
 use mathlib.Core.Path.{_≡_, refl, sym, _∙_}
 use mathlib.Core.List.{List}
-use Rattle.runs.specs.Breaks.{breaksTo, cut}
+use Rattle.runs.specs.Breaks.{breaksTo, breaksBefore}
 use Rattle.runs.proofs.PlaceLaws.{cut-more, cut-done, cut-none}
 use borrow.Author.Needs.{needs}
 use Rattle.runs.proofs.sweep.kept.Statement.{statement}
 use Rattle.runs.proofs.sweep.kept.Tie as tie
 
 abbrev Inv-loop : tie.InvT-loop
-Inv-loop starts count t k₀ k = (k ≤ count) × ((levels : List ℕ) → cut t (breaksTo starts levels k) ≡ cut t (breaksTo starts levels count))
+Inv-loop starts count t k₀ k = (k ≤ count) × ((levels : List ℕ) → breaksBefore t (breaksTo starts levels k) ≡ breaksBefore t (breaksTo starts levels count))
 
 abbrev μ-loop : tie.MeasureT-loop
 μ-loop starts count t k₀ k = k

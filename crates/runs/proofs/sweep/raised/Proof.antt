@@ -19,5 +19,5 @@ raised-spec =
     (tie.spec
     returns
     (λ c κs. search needs)
-    (λ c. rw (c .before .before .if1 .taken) (c .greater .ensures))
+    (λ c. rw (c .before .before .if1 .taken) (c .max .ensures))
     (λ c. rw (c .if1 .left) refl))

@@ -4,7 +4,7 @@ use native.Mathlib.Omega.{arith}
 use mathlib.Core.Path.{refl, ap, _∙_}
 use lib.ListN.{length}
 use borrow.Author.Needs.{needs}
-use Rattle.refusal.specs.Answer.{accepted, refused}
+use Rattle.base.specs.Answer.{accepted, refused}
 use Rattle.runs.specs.RunList.{runsOf}
 use Rattle.schedule.specs.Schedule.{writeSchedule}
 use Rattle.schedule.specs.Plan.{bytesWritten}

@@ -2,14 +2,14 @@
 use Prim.Native.Nat.{ℕ, _-_, _≤_}
 use native.Mathlib.Omega.{arith}
 use borrow.Author.Needs.{needs}
-use Rattle.number.specs.Number.{greatest, groupCount}
+use Rattle.number.specs.Number.{greatestNumber, groupCount}
 use Rattle.number.proofs.WriteLaws.{number-length, group-count}
 use Rattle.schedule.proofs.WriteLaws.{record-groups}
 use Rattle.schedule.proofs.write.record_length.Statement.{statement}
 use Rattle.schedule.proofs.write.record_length.Tie as tie
 
 -- a group count is at most 6
-short : (n : ℕ) → n ≤ greatest → groupCount n ≤ 6
+short : (n : ℕ) → n ≤ greatestNumber → groupCount n ≤ 6
 short n h = omega (arith, group-count n h, number-length n)
 
 add-result : tie.Need-add-result

@@ -1,7 +1,7 @@
 -- `station_level::level::stored_job_level` meets its contract: what the tests answer, then the level that the envelopes require. Assumes nothing.
 use mathlib.Core.Path.{sym, ap, _∙_}
 use borrow.Author.Needs.{needs}
-use Rattle.refusal.specs.Answer.{accepted}
+use Rattle.base.specs.Answer.{accepted}
 use Rattle.job.specs.Job.{jobOf}
 use Rattle.job.proofs.RangeLaws.{header-bounds}
 use Rattle.planning.proofs.SideLaws.{stored-envelopes}

@@ -6,7 +6,7 @@ use mathlib.Core.List.{List}
 use borrow.Author.Needs.{needs}
 use Rattle.runs.specs.declared.Stretch.{Stretch}
 use Rattle.runs.specs.RunList.{lastStation}
-use Rattle.runs.specs.Stand.{AllSound}
+use Rattle.runs.specs.Sweep.{AllSound}
 use Rattle.station_level.specs.Nearest.{NearestOf, ReadTo}
 use Rattle.station_level.proofs.NearestLaws.{read-none, level-found, level-lower}
 use Rattle.station_level.proofs.nearest.highest_level.Statement.{statement}
@@ -26,23 +26,23 @@ has-station-requires : tie.Need-has-station-requires Inv-loop μ-loop
 has-station-requires c κs =
     let l = c .before .before .before .before .before .loop in
     let pre = c .before .before .before .before .before .before .pre in
-    (omega (arith, c .before .before .later .ensures, l .inv .1, pre .0 (l .v) (omega arith)), pre .1)
+    (omega (arith, c .before .before .max .ensures, l .inv .1, pre .0 (l .v) (omega arith)), pre .1)
 
 returns : tie.Need-returns Inv-loop μ-loop
 returns c =
     let start = c .before .before .before .before .before .before .before .before in
     let l = c .before .before .before .before .before .before .before .loop in
     λ es sound kept. level-found es sound (start .args .t1) (start .args .continuity) (start .args .station) (l .v) (l .end) (l .start) kept (l .inv .2 es sound kept) (omega arith) (omega arith)
-    (c .before .before .before .before .later .ensures) (c .before .before .earlier .ensures) (omega arith) (sym (c .before .has-station .ensures) ∙ c .if1 .taken)
+    (c .before .before .before .before .max .ensures) (c .before .before .min .ensures) (omega arith) (sym (c .before .has-station .ensures) ∙ c .if1 .taken)
 
 loop-again : tie.Need-loop-again Inv-loop μ-loop
 loop-again c =
     let start = c .before .before .before .before .before .before .before .before in
     let l = c .before .before .before .before .before .before .before .loop in (
       omega arith,
-      omega (arith, c .before .before .before .before .later .ensures, l .inv .1, start .pre .0 (l .v) (omega arith)),
+      omega (arith, c .before .before .before .before .max .ensures, l .inv .1, start .pre .0 (l .v) (omega arith)),
       λ es sound kept. level-lower es sound (start .args .t1) (start .args .continuity) (start .args .station) (l .v) (l .end) (l .start) kept (l .inv .2 es sound kept) (omega arith) (omega arith)
-          (c .before .before .before .before .later .ensures) (c .before .before .earlier .ensures) (sym (c .before .has-station .ensures) ∙ c .if1 .left),
+          (c .before .before .before .before .max .ensures) (c .before .before .min .ensures) (sym (c .before .has-station .ensures) ∙ c .if1 .left),
     )
 
 returns-2 : tie.Need-returns-2 Inv-loop μ-loop

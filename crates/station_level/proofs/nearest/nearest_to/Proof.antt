@@ -34,7 +34,7 @@ loop-again c =
       omega arith,
       search needs,
       search needs,
-      begun-turn (start .args .t1) (l .i) (start .args .station) (record { ends = l .ends; starts = l .starts }) (l .inv .3) (index (c .before .before)) (omega arith) (l .inv .1) (c .later .ensures),
+      begun-turn (start .args .t1) (l .i) (start .args .station) (record { ends = l .ends; starts = l .starts }) (l .inv .3) (index (c .before .before)) (omega arith) (l .inv .1) (c .max .ensures),
     )
 
 loop-again-2 : tie.Need-loop-again-2 Inv-loop μ-loop
@@ -44,7 +44,7 @@ loop-again-2 c =
       omega arith,
       search needs,
       search needs,
-      ahead-turn (start .args .t1) (l .i) (start .args .station) (record { ends = l .ends; starts = l .starts }) (l .inv .3) (index (c .before .before)) (omega arith) (l .inv .2) (c .earlier .ensures),
+      ahead-turn (start .args .t1) (l .i) (start .args .station) (record { ends = l .ends; starts = l .starts }) (l .inv .3) (index (c .before .before)) (omega arith) (l .inv .2) (c .min .ensures),
     )
 
 returns : tie.Need-returns Inv-loop μ-loop

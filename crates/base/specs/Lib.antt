@@ -1,0 +1,4 @@
+pub mod Choice
+pub mod Answer
+pub mod Stored
+pub mod Least

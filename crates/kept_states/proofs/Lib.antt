@@ -1,3 +1,0 @@
-pub mod UnusedLaws
-pub mod StateLaws
-pub mod WholeLaws
