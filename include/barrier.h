@@ -756,10 +756,10 @@ extern "C" {
  * calls are there from 3.0.0 on, except two: barrier_layout from 3.1.0 on,
  * barrier_version from 3.2.0 on.
  */
-#define BARRIER_VERSION "3.2.3"
+#define BARRIER_VERSION "3.2.4"
 #define BARRIER_VERSION_MAJOR 3
 #define BARRIER_VERSION_MINOR 2
-#define BARRIER_VERSION_PATCH 3
+#define BARRIER_VERSION_PATCH 4
 
 /*
  * CONSTANTS
@@ -1325,7 +1325,7 @@ barrier_reply barrier_return(barrier_open_job *job, uint64_t state);
 
 /*
  * Version: that of the engine which is linked, or loaded, as one number:
- * MAJOR * 1000000 + MINOR * 1000 + PATCH, 3002003 for 3.2.3.  The macros
+ * MAJOR * 1000000 + MINOR * 1000 + PATCH, 3002004 for 3.2.4.  The macros
  * BARRIER_VERSION_MAJOR, BARRIER_VERSION_MINOR and BARRIER_VERSION_PATCH are
  * this header's; where the two differ, "Versions" says what may be done.
  */

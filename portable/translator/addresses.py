@@ -63,6 +63,9 @@ class Addresses:
             need(self.f.type_of(e[1]) == t, '%s: an address read as %s', self.f.name, t)
             return e[1]
         if e[0] == 'load':
+            pointed = self.f.type_of(e)[2]
+            if pointed[:2] == ('array', t):     # an array behind a reference, as a slice: its first element
+                return ('index', ('deref', e, pointed), ('int', 64, 0), t)
             need(self.f.type_of(e)[0] == 'ref' and self.f.type_of(e)[2] == t, '%s: a pointer read as %s', self.f.name, t)
             return ('deref', e, t)
         need(e[0] == 'offset', '%s: what is reached through %s', self.f.name, e[0])

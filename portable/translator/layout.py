@@ -79,6 +79,8 @@ class Types:
     def declared(self, t, name):
         if t[0] == 'array':
             need(t[1][0] != 'array', 'an array of arrays')
+            if t[2] == 0:   # C has no array of no elements. These nothing reads or writes; with fewer, or not cleared, compilers warn that something might
+                return '%s %s[8] = { 0 }' % (self.c(t[1]), name)
             return '%s %s[%d]' % (self.c(t[1]), name, t[2])
         c = self.c(t)
         return c + name if c.endswith('*') else c + ' ' + name

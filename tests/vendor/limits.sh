@@ -94,7 +94,8 @@ for road in "0 $length" "$begin $end"; do
 done
 echo "limits: on the longest road to $end the longest job is accepted, 511 runs are planned, an overhang of $most is given"
 
-$CC -std=c99 -O2 -Wall -Wextra -Werror -pedantic -Iinclude tests/vendor/stack.c -L"$LIBDIR" -lbarrier_engine -o "$tmp/stack"
+# All symbols are bound before the first call: what the loader takes to bind one is no call's stack.
+$CC -std=c99 -O2 -Wall -Wextra -Werror -pedantic -Iinclude tests/vendor/stack.c -L"$LIBDIR" -lbarrier_engine -Wl,-z,now -o "$tmp/stack"
 for job in longest hanging many; do
     status=0
     "$tmp/stack" <"$tmp/$job" >"$tmp/depths" || status=$?

@@ -1,13 +1,10 @@
--- The call behind the test of the sheet corner and the acceptance of the job.
+-- The corners of one hazard, and what the code asks for on the way.
 -- Assumes nothing.
 use Prim.Native.Nat.{ℕ, _≤_, _<_}
 use mathlib.Core.Path.{_≡_}
-use Rattle.base.specs.Answer.{Answer, accepted, _>>=_}
 use Rattle.job.specs.declared.Header.{Header}
 use Rattle.job.specs.declared.Hazard.{Hazard}
-use Rattle.job.specs.Job.{Job}
 use Rattle.planning.specs.Envelope.{Traffic, adjacentTraffic, lengthening}
-use Rattle.planning.specs.Approached.{approachedHazard}
 use Rattle.corners.specs.declared.points.Sheet.{Sheet}
 use Rattle.corners.specs.declared.points.Lengths.{Lengths}
 use Rattle.corners.specs.Corners.{lengthBefore, Points, approachPoints, sheetTop}
@@ -15,10 +12,6 @@ use Rattle.corners.specs.Corners.{lengthBefore, Points, approachPoints, 
 -- The corners of one hazard, with its adjacent traffic.
 abbrev pub hazardCorners : (x y : ℕ) → Header → Hazard → Points
 hazardCorners x y h z = approachPoints x y h z (adjacentTraffic h (z .side))
-
--- By its index in an accepted job.
-unfoldable pub jobCorners : (x y : ℕ) → Job → (index : ℕ) → Answer Points
-jobCorners x y j i = approachedHazard j i >>= λ z. accepted (hazardCorners x y (j .header) z)
 
 -- A sheet corner in its range.
 pub record OnSheet (sheet : Sheet) : Type 0 where

@@ -32,7 +32,7 @@ use Rattle.planning.specs.Envelope.{Traffic, forward, opposite, adjacentTraffic
 use Rattle.corners.specs.Corners.{upstreamBy, pointAt, lengthBefore, flareEntered, upstreamOffset, Points, approachPoints, sheetTop, cornersOf}
 use Rattle.planning.specs.Approached.{hazardAt, approachedHazard, ApproachedFits}
 use Rattle.corners.specs.Reply.{cornerOf, noPoints, cornersReplied}
-use Rattle.corners.specs.Steps.{jobCorners, StationFits}
+use Rattle.corners.specs.Steps.{StationFits}
 use Rattle.corners.proofs.PointLaws.{raised-past-straight, upstream-size, away-top}
 use Rattle.corners.proofs.CallLaws.{off-sheet, on-sheet}
 use Rattle.demands.specs.Cases.{header, hazard}
@@ -49,7 +49,6 @@ drawn x y j z = approachPoints x y (j .header) z (adjacentTraffic (j .header) (z
 
 module _ (s : List ℕ) (i x y : ℕ) where
   told-on-sheet : x ≤ sheetTop → y ≤ sheetTop → cornersOf s i x y ≡ told (drawn x y) s i
-  unfolding jobCorners
   told-on-sheet k l = on-sheet x y s i k l
 
   -- The sheet corner lies in its range, or the call is refused by it.

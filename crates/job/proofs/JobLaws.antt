@@ -11,7 +11,7 @@ use lib.Seq.{drop-cons}
 use lib.Dec.{leb, eqb}
 use Rattle.base.specs.Choice.{if_then_else_}
 use Rattle.base.specs.Answer.{accepted}
-use Rattle.refusal.specs.Refusal.{unless-refuse, refusal}
+use Rattle.refusal.specs.Refusal.{unless-refuse}
 use Rattle.refusal.specs.declared.Refusal.the-variants as Row
 use Rattle.refusal.specs.declared.Refusal.{Refusal}
 use Rattle.base.proofs.TestLaws.{and-intro}
@@ -21,13 +21,11 @@ use Rattle.base.proofs.ListLaws.{snoc-each}
 use Rattle.number.specs.Number.{numberAt}
 use Rattle.job.specs.declared.Header.{Header}
 use Rattle.job.specs.declared.Hazard.{Hazard}
-use Rattle.refusal.specs.declared.Outcome.the-variants.{Done, Refused}
-use Rattle.job.specs.declared.read.JobRead.{JobRead}
 use Rattle.job.specs.declared.Bounds.{Bounds}
-use Rattle.job.specs.Job.{Job, jobOf, within, headerSize, nextInHeader, nextInHazard, Fields, readFields, moreNumbers, readHeader, headerOf, hazardOf, Hazards, readHazards, readJob, readRest, outsideHeader, outsideHazard}
+use Rattle.job.specs.Job.{Job, within, headerSize, nextInHeader, nextInHazard, Fields, readFields, moreNumbers, readHeader, headerOf, hazardOf, Hazards, readHazards, readJob, readRest, outsideHeader, outsideHazard}
 use Rattle.job.specs.Writing.{headerNumbers, hazardNumbers}
 use Rattle.job.specs.Fits.{inRanges, headerInRange, hazardInRange, HeaderFits, HazardFits, HazardsFit, JobFits}
-use Rattle.job.specs.Reply.{HeaderReading, headerReading, headerAt, jobAnswer}
+use Rattle.job.specs.Reply.{HeaderReading, headerReading, headerAt, HazardReading, hazardReading, readHazardAt}
 use Rattle.job.proofs.RangeLaws.{ranges-parts}
 
 -- The numbers read behind `got`: k of them, each in its range.
@@ -127,6 +125,15 @@ hazards-fit h (suc k) got s at r all e =
     count : (y : Hazard) → length (got ++ y ∷ []) + k ≡ length got + suc k
     count y = rw (length-append got (y ∷ [])) (omega arith)
 
+-- A hazard that could be read.
+pub hazard-at-fits : (h : Header) (index : ℕ) (s : List ℕ) (at : ℕ) (x : HazardReading) → readHazardAt h index s at ≡ accepted x → HazardFits h (x .hazard)
+unfolding readHazardAt
+hazard-at-fits h index s at x e =
+    let b = bound (readFields (nextInHazard h) (outsideHazard index) 6 [] s at) (λ f. accepted (hazardReading f)) x e in
+    let same : hazardReading (b .first) ≡ x = cc in
+    subst (λ (y : HazardReading). HazardFits h (y .hazard)) same
+    (hazard-fits h (b .first .numbers) (fields-in (nextInHazard h) (outsideHazard index) 6 [] s at (b .first) (b .taken)))
+
 -- A header that could be read.
 pub header-at-fits : (s : List ℕ) (x : HeaderReading) → headerAt s ≡ accepted x → HeaderFits (x .header)
 unfolding headerAt
@@ -149,14 +156,3 @@ job-fits s j e =
     finish f r hf hr c =
         let w : record { header = headerOf (f .numbers); hazards = r .list } ≡ j = cc in
         subst JobFits w (record { header = hf; hazards = hr })
-
--- What `read_job` answers, by its outcome.
-module _ (s : List ℕ) (r : JobRead) (read : jobAnswer r ≡ readJob s) where
-  pub job-done : r .outcome ≡ Done → readJob s ≡ accepted (jobOf (r .job))
-  job-done e = sym read ∙ rw e
-
-  pub job-refused : {x : Refusal} → r .outcome ≡ Refused x → readJob s ≡ refusal x
-  job-refused e = sym read ∙ rw e
-
-  pub stored-fits : r .outcome ≡ Done → JobFits (jobOf (r .job))
-  stored-fits e = job-fits s (jobOf (r .job)) (job-done e)

@@ -1,12 +1,12 @@
 -- What opening reads, by how the header and the job are read.
 -- Assumes nothing.
-use Prim.Native.Nat.{ℕ, _<_}
+use Prim.Native.Nat.{ℕ, _≤_, _<_}
 use native.Mathlib.Omega.{arith}
 use mathlib.Core.Path.{_≡_, sym, ap, _∙_}
 use mathlib.Core.List.{List, []}
 use lib.ListN.{length}
 use lib.Dec.{leb}
-use borrow.Author.Tests.{eq-eqb, ne-eqb}
+use borrow.Author.Tests.{eq-eqb, ne-eqb, le-leb, lt-leb}
 use Rattle.base.specs.Answer.{Answer, accepted, refused, _>>=_}
 use Rattle.refusal.specs.Refusal.{unless-refuse, refusal}
 use Rattle.refusal.specs.declared.Refusal.the-variants as Row
@@ -33,14 +33,6 @@ module _ (s : List ℕ) where
       let rest : readRest (x .header) (x .header .count) [] s (x .next) ≡ accepted j = sym (ap (λ (a : Answer HeaderReading). a >>= λ y. readRest (y .header) (y .header .count) [] s (y .next)) read) ∙ sym (job-step s) ∙ e in
       rest-header (x .header) (x .header .count) [] s (x .next) j rest
 
-  pub header-done : {j : Job} → readJob s ≡ accepted j → jobHeader s ≡ accepted (j .header)
-  unfolding jobHeader
-  header-done e = rw e
-
-  pub job-header-refused : (x : Refusal) → readJob s ≡ refusal x → jobHeader s ≡ refusal x
-  unfolding jobHeader
-  job-header-refused x e = rw e
-
   pub opening-unread : (x : Refusal) → headerAt s ≡ refusal x → readOpening s ≡ refusal x
   unfolding readOpening
   opening-unread x e = rw e
@@ -49,6 +41,15 @@ module _ (s : List ℕ) where
   unfolding readOpening
   opening-counted {x} e l = rw (e, ne-eqb (x .header .count) 0 (λ q. omega arith))
 
-  pub opening-empty : {x : HeaderReading} → headerAt s ≡ accepted x → x .header .count ≡ 0 → readOpening s ≡ jobHeader s
-  unfolding readOpening
-  opening-empty {x} e none = rw (e, eq-eqb (x .header .count) 0 none)
+  module _ {x : HeaderReading} (read : headerAt s ≡ accepted x) (none : x .header .count ≡ 0) where
+    opening-empty : readOpening s ≡ (readRest (x .header) 0 [] s (x .next) >>= λ j. accepted (j .header))
+    unfolding readOpening jobHeader
+    opening-empty = rw (read, eq-eqb (x .header .count) 0 none, job-step s, read, none)
+
+    pub opening-over : x .next < length s → readOpening s ≡ refused 7 (x .next)
+    unfolding readRest readHazards
+    opening-over l = opening-empty ∙ rw (lt-leb (length s) (x .next) l)
+
+    pub opening-done : length s ≤ x .next → readOpening s ≡ accepted (x .header)
+    unfolding readRest readHazards
+    opening-done l = opening-empty ∙ rw (le-leb (length s) (x .next) l)

@@ -1,29 +1,28 @@
 -- What each reading function answers, and the part of the job's reading that it answers for.
 -- Assumes nothing.
-use Prim.Native.Nat.{ℕ}
-use mathlib.Core.List.{List, [], map}
-use lib.Dec.{eqb}
+use Prim.Native.Nat.{ℕ, zero, suc}
+use mathlib.Core.List.{List, [], _∷_, _++_}
+use lib.ListN.{length, getD}
+use lib.Dec.{ltb, leb, eqb}
+use Rattle.base.specs.Choice.{if_then_else_}
 use Rattle.base.specs.Answer.{Answer, accepted, _>>=_}
-use Rattle.refusal.specs.Refusal.{unless-refuse, refusal, outcome}
+use Rattle.refusal.specs.Refusal.{unless-refuse, refusal}
 use Rattle.refusal.specs.declared.Refusal.the-variants as Row
-use Rattle.base.specs.Stored.{padded}
 use Rattle.refusal.specs.declared.Refusal.{Refusal}
 use Rattle.number.specs.Number.{Reading, numberAt}
 use Rattle.job.specs.declared.Header.{Header}
 use Rattle.job.specs.declared.Hazard.{Hazard}
 use Rattle.job.specs.declared.NamedHazard.{NamedHazard}
-use Rattle.job.specs.declared.StoredJob.{StoredJob}
 use Rattle.job.specs.declared.field.Field.{Field}
 use Rattle.job.specs.declared.field.Field.the-variants as Field
 use Rattle.job.specs.declared.header_fields.HeaderRead.{HeaderRead}
 use Rattle.job.specs.declared.header_fields.HeaderRead.the-variants as HeaderRead
 use Rattle.job.specs.declared.hazard_fields.HazardRead.{HazardRead}
 use Rattle.job.specs.declared.hazard_fields.HazardRead.the-variants as HazardRead
-use Rattle.job.specs.declared.read.JobRead.{JobRead}
 use Rattle.job.specs.declared.read.Opening.{Opening}
 use Rattle.job.specs.declared.read.Opening.the-variants as Opening
 use Rattle.job.specs.declared.Bounds.{Bounds}
-use Rattle.job.specs.Job.{Job, named, jobOf, within, headerSize, Fields, nextInHeader, nextInHazard, readFields, readHeader, headerWith, headerOf, hazardOf, readJob, outsideHeader, outsideHazard}
+use Rattle.job.specs.Job.{Job, named, within, headerSize, Fields, nextInHeader, nextInHazard, readFields, readHeader, headerWith, headerOf, hazardOf, readJob, outsideHeader, outsideHazard}
 
 -- One number, for 1, 2 and its range; out of range is the refusal `outside`.
 unfoldable pub fieldAt : Bounds → (outside : Refusal) (s : List ℕ) (at : ℕ) → Answer Reading
@@ -72,21 +71,23 @@ abbrev pub hazardAnswer : HazardRead → Answer HazardReading
 hazardAnswer (HazardRead.Hazard z n) = accepted (record { hazard = z; next = n })
 hazardAnswer (HazardRead.Refused r) = refusal r
 
--- No job: every number 0, and no hazard.
-abbrev pub noJob : Job
-noJob = record { header = headerWith [] 0 0; hazards = [] }
+-- The hazard with an index: one of those given, else the next in the bytes.
+abbrev pub nextHazard : Header → (given : List Hazard) (index : ℕ) (s : List ℕ) (at : ℕ) → Answer HazardReading
+nextHazard h given index s at =
+    if ltb index (length given) then accepted (record { hazard = getD given index (hazardOf []); next = at }) else readHazardAt h index s at
+
+-- k more hazards after those in `got`, and nothing after them: the reading of a job behind its header, where none is given.
+unfoldable pub hazardsFrom : Header → (given : List Hazard) (k : ℕ) (got : List Hazard) (s : List ℕ) (at : ℕ) → Answer Job
+hazardsFrom h given zero got s at =
+    unless-refuse (leb (length s) at) (Row.LeftOver at) >>= λ _.
+    accepted (record { header = h; hazards = got })
+hazardsFrom h given (suc k) got s at =
+    nextHazard h given (length got) s at >>= λ z.
+    hazardsFrom h given k (got ++ z .hazard ∷ []) s (z .next)
 
 -- A place in which no hazard is stored.
 abbrev pub unused : NamedHazard
 unused = named 0 (hazardOf [])
-
--- A job as it is stored: its hazards in 256 places, every name and every number behind them 0.
-abbrev pub storedJob : Job → StoredJob
-storedJob j = record { header = j .header; hazards = padded 256 unused (map (named 0) (j .hazards)) }
-
--- The job that was read, or the refusal.
-abbrev pub jobAnswer : JobRead → Answer Job
-jobAnswer r = outcome (r .outcome) (jobOf (r .job))
 
 -- The header of the job that the bytes are.
 unfoldable pub jobHeader : (s : List ℕ) → Answer Header

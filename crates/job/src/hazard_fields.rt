@@ -9,6 +9,7 @@ ghost use mathlib.Core.Path.{_≡_};
 ghost use Prim.Native.Nat.{_<_};
 ghost use lib.ListN.{getD};
 ghost use Rattle.job.specs.Job.{_to_, hazardRanges};
+ghost use Rattle.job.specs.Fits.{hazardInRange};
 ghost use Rattle.job.specs.Reply.{readHazardAt, hazardAnswer};
 
 pub enum HazardRead {
@@ -29,6 +30,23 @@ pub fn hazard_range(k: usize, header: Header, start: u64, near: u64) -> Bounds
         low: lows[k],
         high: highs[k],
     }
+}
+
+// Whether a hazard's numbers lie in their ranges, in the paper's order.
+pub fn in_range(header: Header, z: Hazard) -> bool
+    requires { ⌜ 0 < header .end ⌝ }
+    ensures { λ r. ⌜ r ≡ hazardInRange header z ⌝ }
+{
+    (z.side <= 1)
+        & (header.begin <= z.start)
+        & (z.start < header.end)
+        & (z.start < z.end)
+        & (z.end <= header.end)
+        & (z.near <= 60000)
+        & (z.near <= z.far)
+        & (z.far <= 60000)
+        & (1 <= z.level)
+        & (z.level <= 6)
 }
 
 // The hazard with this index, whose first number begins at byte index first.

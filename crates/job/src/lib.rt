@@ -1,13 +1,14 @@
 // A job: the header's numbers and up to 256 hazards, by value.
 mod field; // a number with its range
-mod header_fields; // the header
-mod hazard_fields; // a hazard
+pub mod header_fields; // the header
+pub mod hazard_fields; // a hazard
 mod within; // a hazard, where enough bytes stand for it
-pub mod read; // the job
+pub mod read; // hazards one after the other, and what opening reads
 
 ghost use mathlib.Core.Path.{_≡_};
 ghost use Prim.Native.Nat.{_+_, _≤_, min};
 ghost use Rattle.job.specs.Job as specs;
+ghost use Rattle.job.specs.Given as given;
 
 // The bounds of a range, both included.
 pub struct Bounds {
@@ -124,4 +125,14 @@ pub fn unnamed(z: NamedHazard) -> Hazard
         side: z.side,
         level: z.level,
     }
+}
+
+// A hazard's numbers but for its stations and its name, in one.
+pub fn packed(z: NamedHazard) -> u64
+    ensures { λ r. ⌜ r ≡ given.packed z ⌝ }
+{
+    z.near as u64
+        + z.far as u64 * 65536
+        + z.side as u64 * 4294967296
+        + z.level as u64 * 1099511627776
 }

@@ -5,6 +5,7 @@ use super::field::Field;
 use super::field::ranged;
 use super::hazard_fields::HazardRead;
 use super::hazard_fields::hazard_range;
+use super::hazard_fields::in_range;
 use number::within::read_within;
 use number::word::is_four;
 use number::word::is_two;
@@ -16,7 +17,6 @@ ghost use mathlib.Core.Path.{_≡_};
 ghost use Prim.Native.Nat.{_+_, _≤_, _<_};
 ghost use lib.ListN.{length};
 ghost use Rattle.job.specs.Job.{_to_};
-ghost use Rattle.job.specs.Fits.{hazardInRange};
 ghost use Rattle.job.specs.Reply.{fieldAt, fieldAnswer, readHazardAt, hazardAnswer};
 
 // The number at an index, from low to high; `outside` is the refusal of one that is not.
@@ -25,23 +25,6 @@ fn read_field_within(s: &[u8], at: usize, low: u64, high: u64, outside: Refusal)
     ensures { λ r. ⌜ fieldAnswer r ≡ fieldAt (low to high) outside (now (s .entry)) at ⌝ }
 {
     ranged(read_within(s, at), at, low, high, outside)
-}
-
-// Whether a hazard's numbers lie in their ranges, in the paper's order.
-fn in_range(header: Header, z: Hazard) -> bool
-    requires { ⌜ 0 < header .end ⌝ }
-    ensures { λ r. ⌜ r ≡ hazardInRange header z ⌝ }
-{
-    (z.side <= 1)
-        & (header.begin <= z.start)
-        & (z.start < header.end)
-        & (z.start < z.end)
-        & (z.end <= header.end)
-        & (z.near <= 60000)
-        & (z.near <= z.far)
-        & (z.far <= 60000)
-        & (1 <= z.level)
-        & (z.level <= 6)
 }
 
 // The hazard with this index, whose first number begins at byte index first, number by number.

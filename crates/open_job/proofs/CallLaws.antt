@@ -1,10 +1,10 @@
 -- The calls, step by step: the memory, the name, the hazard, and what is then made.
 -- Assumes nothing.
-use Prim.Native.Nat.{ℕ, _≤_}
+use Prim.Native.Nat.{ℕ, _*_, _≤_}
 use native.Mathlib.Omega.{arith}
-use mathlib.Core.Path.{_≡_, refl, sym, ap, _∙_}
+use mathlib.Core.Path.{_≡_, refl, sym, ap, subst, _∙_}
 use mathlib.Core.Bool.{Bool, true, false}
-use mathlib.Core.List.{List, [], _∷_, append-nil}
+use mathlib.Core.List.{List, [], _∷_, append-nil, List·Memᴰ}
 use lib.ListN.{length}
 use lib.Dec.{leb, eqb}
 use borrow.Author.Tests.{le-leb, eqb-true}
@@ -12,40 +12,44 @@ use Rattle.base.specs.Answer.{Answer, accepted, refused, _>>=_}
 use Rattle.refusal.specs.Refusal.{unless-refuse, refusal, outcome}
 use Rattle.refusal.specs.declared.Refusal.the-variants as Row
 use Rattle.refusal.specs.declared.Refusal.{Refusal}
+use Rattle.refusal.specs.declared.Outcome.{Outcome}
 use Rattle.refusal.specs.declared.Outcome.the-variants.{Done, Refused}
 use Rattle.refusal.proofs.RefuseLaws.{tested}
 use Rattle.base.proofs.AnswerLaws.{bind-assoc, bind-same}
+use Rattle.base.proofs.TestLaws.{impossible}
 use Rattle.job.specs.declared.Header.{Header}
 use Rattle.job.specs.declared.Hazard.{Hazard}
 use Rattle.job.specs.declared.NamedHazard.{NamedHazard}
 use Rattle.job.specs.declared.StoredJob.{StoredJob}
 use Rattle.job.specs.Job.{Job, Fields, named, jobOf, headerSize, readHeader, headerOf, readJob}
 use Rattle.job.specs.Writing.{writeJob}
-use Rattle.job.specs.Reply.{headerReading, headerAt, jobHeader, readOpening}
+use Rattle.job.specs.Given.{givenHazards}
+use Rattle.job.specs.Reply.{headerReading, headerAt, jobHeader, readOpening, hazardsFrom}
 use Rattle.job.proofs.JobLaws.{job-fits}
 use Rattle.job.proofs.OpeningLaws.{job-header}
-use Rattle.runs.specs.RunList.{envelopesOf}
+use Rattle.job.proofs.RestLaws.{given-all}
 use Rattle.runs.specs.Required.{requiredRuns}
-use Rattle.runs.specs.Stored.{StoredEnvelopes}
+use Rattle.runs.specs.Keys.{keyedEnvelopes}
+use Rattle.runs.specs.Sweep.{AllSound}
 use Rattle.planning.specs.Envelope.{sideOverhangs, standsNear, testHazard, testHazards, acceptJob}
 use Rattle.planning.specs.Required.{jobRuns}
 use Rattle.planning.specs.Reply.{Cuts, cutsOf, testedEnvelopes}
-use Rattle.planning.specs.declared.accept.SideEnvelopes.{SideEnvelopes}
-use Rattle.planning.proofs.AcceptLaws.{Replies}
+use Rattle.planning.specs.declared.walk.Walked.{Walked}
+use Rattle.planning.specs.Walk.{Given, cutsTaken, walkedAnswer}
 use Rattle.planning.specs.Rows.{AcceptedFits}
-use Rattle.planning.proofs.SideLaws.{envelopes-done, outcome-done, stored-envelopes}
+use Rattle.planning.proofs.AcceptedSideLaws.{job-sound}
 use Rattle.planning.proofs.AcceptedLaws.{hazards-pass, fitting-accepted}
 use Rattle.schedule.specs.Schedule.{writeSchedule}
 use Rattle.schedule.specs.Plan.{fitted, plan}
-use Rattle.schedule.proofs.PlanLaws.{tested-bytes}
+use Rattle.schedule.proofs.PlanLaws.{planned-bytes}
 use Rattle.open_job.specs.declared.Change.{Change}
 use Rattle.open_job.specs.declared.KeptState.{KeptState}
 use Rattle.open_job.specs.States.{isUsed, stateOf}
 use Rattle.open_memory.specs.Memory.{standing, laidOut, stands, isFull, admit, isOpenJob}
-use Rattle.job.specs.Fits.{hazardInRange}
+use Rattle.job.specs.Fits.{HazardFits, hazardInRange}
 use Rattle.open_job.specs.Calls.{openJob, underRules, addTo, withdrawFrom, testState, keptJob, Changes}
 use Rattle.open_memory.specs.Steps.{rank, putAt, takenAt}
-use Rattle.open_memory.proofs.RuleLaws.{admit-ranged, open-count, open-standing, open-accepted}
+use Rattle.open_memory.proofs.RuleLaws.{admit-ranged, open-count, open-standing}
 use Rattle.open_memory.proofs.PlaceLaws.{inserted-at, without-at}
 use Rattle.open_memory.proofs.WalkLaws.{standing-length}
 
@@ -129,30 +133,46 @@ pub plan-written : (j : Job) → AcceptedFits j → (side room : ℕ) → plan (
 unfolding plan
 plan-written j f side room = rw (fitting-accepted j f)
 
-module _ (m : StoredJob) (side : ℕ) (good : isOpenJob m ≡ true) where
-  -- By what `side_envelopes` answers: the hazards pass.
-  module _ (size : length (m .hazards) ≡ 256) (r : SideEnvelopes) (reply : Replies r (testedEnvelopes (jobOf m) side)) where
-    passes : testedEnvelopes (jobOf m) side ≡ accepted (cutsOf (m .header) side (jobOf m .hazards))
-    unfolding testedEnvelopes testHazards
-    passes = rw (← append-nil (jobOf m .hazards), hazards-pass (m .header) 0 (jobOf m .hazards) [] (open-accepted m good size .passed))
+-- The hazards of stored memory, walked over as numbers.
+module _ (m : StoredJob) (fits : AcceptedFits (jobOf m)) (ns : List ℕ) (are : givenHazards ns ≡ jobOf m .hazards) where
+  count-same : m .header .count ≡ length (givenHazards ns)
+  count-same = sym (ap (λ (zs : List Hazard). length zs) are ∙ fits .fits .hazards .count)
 
-    done : r .outcome ≡ Done
-    done = outcome-done (jobOf m) side r reply passes
+  pub numbers-given : length ns ≡ m .header .count * 3 → Given (m .header) ns []
+  numbers-given full = record {
+    whole = omega (arith, count-same);
+    fit = subst (λ (zs : List Hazard). (z : Hazard) → List·Memᴰ z zs → HazardFits (m .header) z) (sym are) (fits .fits .hazards .each);
+    alone = λ _. refl;
+  }
 
-    pub schedule-stored : StoredEnvelopes (r .envelopes)
-    schedule-stored = stored-envelopes (jobOf m) side r reply (open-accepted m good size .fits) done
+  -- They are the job's own, and pass the test again.
+  walk-passes : (side : ℕ) → (hazardsFrom (m .header) (givenHazards ns) (m .header .count) [] [] 0 >>= λ j. testedEnvelopes j side) ≡ accepted (cutsOf (m .header) side (jobOf m .hazards))
+  unfolding testedEnvelopes testHazards
+  walk-passes side =
+      rw (ap (λ (n : ℕ). hazardsFrom (m .header) (givenHazards ns) n [] [] 0) count-same ∙ given-all (m .header) (givenHazards ns), are)
+      (rw (← append-nil (jobOf m .hazards), hazards-pass (m .header) 0 (jobOf m .hazards) [] (fits .passed)))
 
-    pub schedule-most : length (writeSchedule (requiredRuns (envelopesOf (r .envelopes)) (m .header .continuity))) ≤ 5624
-    schedule-most = tested-bytes (jobOf m) side r reply (open-accepted m good size .fits) done
+  -- By what `walk` answers.
+  module _ (side : ℕ) (keys ends : List ℕ) (r : Walked) (reply : walkedAnswer keys ends r ≡ (hazardsFrom (m .header) (givenHazards ns) (m .header .count) [] [] 0 >>= λ j. testedEnvelopes j side)) where
+    own : cutsOf (m .header) side (jobOf m .hazards) ≡ cutsTaken keys ends (r .taken)
+    own = go (r .outcome) (reply ∙ walk-passes side)
+      where
+        go : (o : Outcome) → outcome o (cutsTaken keys ends (r .taken)) ≡ accepted (cutsOf (m .header) side (jobOf m .hazards)) → cutsOf (m .header) side (jobOf m .hazards) ≡ cutsTaken keys ends (r .taken)
+        go Done p = cc
+        go (Refused x) p = impossible cc
 
-    own : cutsOf (m .header) side (jobOf m .hazards) ≡ record { envelopes = envelopesOf (r .envelopes); overhangs = r .overhangs }
-    own = let e = sym passes ∙ envelopes-done (jobOf m) side r reply done in cc
+    pub schedule-sound : AllSound (keyedEnvelopes keys ends (r .taken .count))
+    schedule-sound = subst (λ (c : Cuts). AllSound (c .envelopes)) own (job-sound (jobOf m) side fits)
+
+    pub schedule-most : length (writeSchedule (requiredRuns (keyedEnvelopes keys ends (r .taken .count)) (m .header .continuity))) ≤ 5624
+    unfolding jobRuns
+    schedule-most = subst (λ (c : Cuts). length (writeSchedule (requiredRuns (c .envelopes) (m .header .continuity))) ≤ 5624) own (planned-bytes (jobOf m) side fits)
 
     pub schedule-done : (room : ℕ) → side ≤ 1
-        → plan (writeJob (jobOf m)) side room ≡ fitted (writeSchedule (requiredRuns (envelopesOf (r .envelopes)) (m .header .continuity))) (r .overhangs) room
+        → plan (writeJob (jobOf m)) side room ≡ fitted (writeSchedule (requiredRuns (keyedEnvelopes keys ends (r .taken .count)) (m .header .continuity))) (r .taken .overhangs) room
     unfolding jobRuns
     schedule-done room l =
-        plan-written (jobOf m) (open-accepted m good size) side room
+        plan-written (jobOf m) fits side room
         ∙ rw (le-leb side 1 l) (ap (λ (c : Cuts). fitted (writeSchedule (requiredRuns (c .envelopes) (m .header .continuity))) (c .overhangs) room) own)
 
 -- Return

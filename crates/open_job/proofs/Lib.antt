@@ -1,3 +1,4 @@
+pub mod NumberLaws
 pub mod CallLaws
 pub mod LayoutLaws
 pub mod UnusedLaws

@@ -6,6 +6,7 @@ use super::kept::is_used;
 use super::kept::state_of;
 use job::Header;
 use job::StoredJob;
+use job::packed;
 use job::read::Opening;
 use job::read::read_opening;
 use job::unnamed;
@@ -18,20 +19,22 @@ use open_memory::places::taken_out;
 use open_memory::places::under_name;
 use open_memory::rules::hazard_in_range;
 use open_memory::rules::is_open_job;
-use planning::accept::side_envelopes;
 use planning::near::stands_near;
+use planning::walk::walk;
 use refusal::Outcome;
 use refusal::Refusal;
-use schedule::plan::plan_envelopes;
+use schedule::plan::plan_side;
 use schedule::reply::Plan;
 ghost use mathlib.Core.Path.{_≡_};
 ghost use mathlib.Core.Bool.{true, _&&_};
-ghost use lib.ListN.{length};
+ghost use Prim.Native.Nat.{_*_};
+ghost use lib.ListN.{length, take};
 ghost use Rattle.refusal.specs.Refusal.{outcome};
 ghost use Rattle.refusal.specs.declared.Outcome.the-variants.{Refused};
 ghost use Rattle.job.specs.Job.{jobOf};
+ghost use Rattle.job.specs.Given.{givenHazards};
 ghost use Rattle.job.specs.Writing.{writeJob};
-ghost use Rattle.job.specs.Fits.{headerInRange};
+ghost use Rattle.job.specs.Fits.{headerInRange, JobFits};
 ghost use Rattle.schedule.specs.Plan.{plan, planReply, bytesWritten, outputAfter};
 ghost use Rattle.open_memory.specs.Memory.{hazardGiven, admit, isOpenJob};
 ghost use Rattle.open_job.specs.Calls.{openJob, underRules, addTo, withdrawFrom, testState, keptJob, Changes};
@@ -148,6 +151,26 @@ pub fn withdraw(sound: bool, job: StoredJob, name: u16) -> Change
     }
 }
 
+// The hazards as numbers, three each: the stations, and the others in one.
+fn numbers_of(job: StoredJob, given: &mut [u64])
+    requires { ⌜ JobFits (jobOf job) ⌝ }
+    requires { ⌜ length (now given) ≡ 768 ⌝ }
+    ensures { λ _. ⌜ givenHazards (take (job .header .count * 3) (now (given .exit))) ≡ jobOf job .hazards ⌝ }
+    ensures { λ _. ⌜ length (now (given .exit)) ≡ 768 ⌝ }
+{
+    let header = job.header;
+    let count = header.count as usize;
+    let mut i: usize = 0;
+    while i < count {
+        let hazard = job.hazards[i];
+        let first = i * 3;
+        given[first] = hazard.start;
+        given[first + 1] = hazard.end;
+        given[first + 2] = packed(hazard);
+        i += 1;
+    }
+}
+
 // The schedule of a side, written into the output; or the first refusal, and nothing written. Memory that keeps the rules passes the test
 // of its hazards again.
 pub fn schedule(sound: bool, job: StoredJob, side: u64, out: &mut [u8]) -> Plan
@@ -159,11 +182,34 @@ pub fn schedule(sound: bool, job: StoredJob, side: u64, out: &mut [u8]) -> Plan
             if 1 < side {
                 return Plan::Refused(Refusal::Argument);
             }
-            let tested = side_envelopes(job, side);
-            let envelopes = tested.envelopes;
-            let overhangs = tested.overhangs;
             let header = job.header;
-            plan_envelopes(out, envelopes, overhangs, header.continuity)
+            let mut given: [u64; 768] = [0; 768];
+            numbers_of(job, &mut given[..]);
+            let mut keys: [u64; 256] = [0; 256];
+            let mut ends: [u64; 256] = [0; 256];
+            let mut noted: [u64; 0] = [];
+            let used = header.count as usize * 3;
+            let walked = walk(
+                b"",
+                0,
+                header,
+                &given[..used],
+                side,
+                256,
+                &mut keys[..],
+                &mut ends[..],
+                &mut noted[..],
+            );
+            let taken = walked.taken;
+            let overhangs = taken.overhangs;
+            plan_side(
+                out,
+                &mut keys,
+                &ends[..],
+                taken.count,
+                overhangs,
+                header.continuity,
+            )
         } else {
             Plan::Refused(Refusal::HeaderRange(0))
         }

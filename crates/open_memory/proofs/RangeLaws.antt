@@ -6,15 +6,16 @@ use native.Mathlib.Decide.{ℕ-discrete}
 use mathlib.Core.Path.{_≡_, refl, sym, ap, _∙_}
 use mathlib.Core.Bool.{Bool, true, false, _&&_, _||_, and-assoc, and-true}
 use mathlib.Core.List.{List, [], _∷_, _++_}
-use lib.Dec.{leb, eqb}
-use borrow.Author.Tests.{le-leb, eq-eqb, ne-eqb}
-use Rattle.base.proofs.TestLaws.{and-left, and-right, and-intro}
+use lib.Dec.{leb, ltb, eqb}
+use borrow.Author.Tests.{le-leb, lt-ltb, ltb-true, eq-eqb, ne-eqb}
+use Rattle.base.proofs.TestLaws.{and-left, and-right, and-intro, not-both}
 use Rattle.job.specs.declared.Header.{Header}
+use Rattle.job.specs.declared.Hazard.{Hazard}
 use Rattle.job.specs.declared.Bounds.{Bounds}
 use Rattle.job.specs.Job.{within, sharedRanges, headerRanges, nextInHeader, sharedNumbers, counted}
 use Rattle.job.specs.Writing.{lastNumbers}
-use Rattle.job.specs.Fits.{inRanges, headerInRange, HeaderFits}
-use Rattle.job.proofs.RangeLaws.{from-zero, ranges-parts, ranges-high}
+use Rattle.job.specs.Fits.{inRanges, headerInRange, hazardInRange, HeaderFits}
+use Rattle.job.proofs.RangeLaws.{from-zero, ranges-parts, ranges-high, HazardBounds, hazard-bounds}
 use Rattle.open_memory.specs.Steps.{lastInRange}
 
 -- Tests, one behind the other.
@@ -87,3 +88,38 @@ counted-fits h n fits few =
     let shared = inRanges nextInHeader [] (sharedNumbers h) in
     let both : shared && lastInRange h ≡ true = sym (header-parts h) ∙ fits in
     header-parts (counted h n) ∙ and-intro (and-left shared (lastInRange h) both) (last-counted h n (and-right shared (lastInRange h) both) few)
+
+-- A hazard
+
+-- Numbers that fit the widths of a stored hazard.
+pub record Narrow (z : Hazard) : Type 0 where
+  pub side : z .side < 256
+  pub near : z .near < 65536
+  pub far : z .far < 65536
+  pub level : z .level < 256
+
+-- The code's test of it.
+abbrev isNarrow : Hazard → Bool
+isNarrow z = ((ltb (z .side) 256 && ltb (z .near) 65536) && ltb (z .far) 65536) && ltb (z .level) 256
+
+all-four : (a b c d : Bool) → ((a && b) && c) && d ≡ true → (a ≡ true) × (b ≡ true) × (c ≡ true) × (d ≡ true)
+all-four a b c d e =
+    let three = and-left ((a && b) && c) d e in
+    let two = and-left (a && b) c three in
+    (and-left a b two, and-right a b two, and-right (a && b) c three, and-right ((a && b) && c) d e)
+
+pub narrow : (z : Hazard) → isNarrow z ≡ true → Narrow z
+narrow z e =
+    let t = all-four (ltb (z .side) 256) (ltb (z .near) 65536) (ltb (z .far) 65536) (ltb (z .level) 256) e in
+    record { side = ltb-true _ _ (t .0); near = ltb-true _ _ (t .1); far = ltb-true _ _ (t .2); level = ltb-true _ _ (t .3) }
+
+-- Where one does not, it is out of its range.
+pub wide-out : (h : Header) (z : Hazard) → isNarrow z ≡ false → false ≡ hazardInRange h z
+wide-out h z e = go (hazardInRange h z) refl
+  where
+    fit : HazardBounds h z → isNarrow z ≡ true
+    fit b = rw (lt-ltb (z .side) 256 (omega arith), lt-ltb (z .near) 65536 (omega arith), lt-ltb (z .far) 65536 (omega arith), lt-ltb (z .level) 256 (omega arith))
+
+    go : (b : Bool) → hazardInRange h z ≡ b → false ≡ b
+    go true r = absurd (not-both (fit (hazard-bounds h z r)) e)
+    go false r = refl

@@ -3,7 +3,7 @@
 pub mod places; // hazards put in and taken out
 pub mod rules; // is the memory an open job
 
-// A hazard's six numbers, as they are given. None is cut to fewer bits before its range is tested.
+// A hazard's six numbers, as they are given. None is cut to fewer bits than it takes.
 #[repr(C)]
 pub struct GivenHazard {
     pub side: u64,

@@ -1,8 +1,10 @@
 // Is the memory an open job: its header, names and hazards, and zeros behind them.
 use super::GivenHazard;
+use job::Hazard;
 use job::Header;
 use job::NamedHazard;
 use job::StoredJob;
+use job::hazard_fields::in_range;
 use job::road_top;
 use job::unnamed;
 use planning::near::stands_near;
@@ -13,7 +15,6 @@ ghost use Prim.Native.Nat.{_≤_};
 ghost use lib.ListN.{drop};
 ghost use Rattle.base.specs.Choice.{allOf};
 ghost use Rattle.job.specs.Job.{nextInHeader, sharedNumbers};
-ghost use Rattle.job.specs.Job as job;
 ghost use Rattle.job.specs.Fits.{inRanges, headerInRange, hazardInRange};
 ghost use Rattle.open_memory.specs.Memory.{hazardGiven, standing, isUnused, isOpenJob};
 ghost use Rattle.open_memory.specs.Steps.{lastInRange, inOrderFrom, allInOrder};
@@ -72,34 +73,23 @@ fn header_in_range(h: Header) -> bool
     shared_in_range(h) & last_in_range(h)
 }
 
-// Each of a hazard's numbers lies in its range, in the paper's order.
+// The numbers of a hazard that is given fit the widths of one that is stored, and lie in their ranges.
 pub fn hazard_in_range(h: Header, z: GivenHazard) -> bool
     requires { ⌜ headerInRange h ≡ true ⌝ }
     ensures { λ r. ⌜ r ≡ hazardInRange h (hazardGiven z) ⌝ }
 {
-    (z.side <= 1)
-        & (h.begin <= z.start)
-        & (z.start < h.end)
-        & (z.start < z.end)
-        & (z.end <= h.end)
-        & (z.near <= 60000)
-        & (z.near <= z.far)
-        & (z.far <= 60000)
-        & (1 <= z.level)
-        & (z.level <= 6)
-}
-
-// A hazard that stands, as it was given.
-fn given(p: NamedHazard) -> GivenHazard
-    ensures { λ r. ⌜ hazardGiven r ≡ job.unnamed p ⌝ }
-{
-    GivenHazard {
-        side: p.side as u64,
-        start: p.start,
-        end: p.end,
-        near: p.near as u64,
-        far: p.far as u64,
-        level: p.level as u64,
+    if (z.side < 256) & (z.near < 65536) & (z.far < 65536) & (z.level < 256) {
+        let stored = Hazard {
+            start: z.start,
+            end: z.end,
+            near: z.near as u16,
+            far: z.far as u16,
+            side: z.side as u8,
+            level: z.level as u8,
+        };
+        in_range(h, stored)
+    } else {
+        false
     }
 }
 
@@ -109,8 +99,9 @@ fn in_order_from(h: Header, low: u32, p: NamedHazard) -> bool
     ensures { λ r. ⌜ r ≡ inOrderFrom h low p ⌝ }
 {
     let name = p.name as u32;
-    if hazard_in_range(h, given(p)) {
-        (low <= name) & !stands_near(h, unnamed(p))
+    let z = unnamed(p);
+    if in_range(h, z) {
+        (low <= name) & !stands_near(h, z)
     } else {
         false
     }

@@ -1,197 +1,161 @@
--- The hazards of a job tested in order: one turn, and how the envelopes of a side and their overhangs grow.
+-- The entrances, by the header and the walk behind it; and what is known of a side or a hazard that they give.
 -- Assumes nothing.
-use Prim.Native.Nat.{ℕ, _+_, _-_, _≤_, _<_}
+use Prim.Native.Nat.{ℕ, zero, suc, _≤_, _<_}
 use native.Mathlib.Omega.{arith}
-use native.Mathlib.Numerals.{add-one}
-use mathlib.Core.Path.{_≡_, refl, sym, ap, _∙_}
-use mathlib.Core.Bool.{Bool, true, false, _&&_}
-use mathlib.Core.List.{List, [], _∷_, _++_, map, append-assoc, append-nil}
-use lib.ListN.{length, getD, set, take, drop, length-append, length-set, drop-of-length-le, List·getD-map}
-use lib.Seq.{drop-cons, getD-take}
-use lib.Dec.{eqb}
-use Rattle.base.specs.Choice.{if_then_else_}
+use mathlib.Core.Path.{_≡_, refl, sym, ap, _∙_, subst}
+use mathlib.Core.List.{List, [], _∷_, _++_, List·Memᴰ·not-nil}
+use lib.ListN.{length, getD}
+use lib.Dec.{ltb, leb}
+use borrow.Author.Tests.{lt-ltb, le-ltb, ltb-true}
 use Rattle.base.specs.Answer.{Answer, accepted, refused, _>>=_}
-use Rattle.refusal.specs.Refusal.{refusal}
-use Rattle.base.specs.Stored.{acceptedOr}
-use Rattle.refusal.specs.declared.Refusal.{Refusal}
-use Rattle.refusal.specs.declared.Outcome.the-variants.{Done, Refused}
+use Rattle.base.proofs.AnswerLaws.{Bound, bound}
 use Rattle.base.proofs.ListLaws.{getD-member}
+use Rattle.base.proofs.TestLaws.{impossible}
+use Rattle.refusal.specs.Refusal.{unless-refuse, outcome, refusal}
+use Rattle.refusal.specs.declared.Refusal.{Refusal}
+use Rattle.refusal.specs.declared.Refusal.the-variants as Row
+use Rattle.refusal.specs.declared.Outcome.{Outcome}
+use Rattle.refusal.specs.declared.Outcome.the-variants.{Done, Refused}
+use Rattle.refusal.proofs.RefuseLaws.{tested}
 use Rattle.job.specs.declared.Header.{Header}
 use Rattle.job.specs.declared.Hazard.{Hazard}
-use Rattle.job.specs.declared.NamedHazard.{NamedHazard}
-use Rattle.job.specs.declared.StoredJob.{StoredJob}
-use Rattle.job.specs.Job.{unnamed, jobOf}
-use Rattle.job.specs.Fits.{HazardFits, JobFits}
-use Rattle.job.proofs.RangeLaws.{header-bounds}
-use Rattle.runs.specs.declared.Stretch.{Stretch}
-use Rattle.runs.specs.declared.Envelopes.{Envelopes}
-use Rattle.runs.proofs.StoredLaws.{noStretch, column-more, columns-stored}
-use Rattle.planning.specs.declared.Overhangs.{Overhangs}
-use Rattle.planning.specs.declared.accept.SideEnvelopes.{SideEnvelopes}
-use Rattle.planning.specs.Envelope.{reached, envelope, envelopes, cutToRoad, overhang, noOverhang, greater, overhangs, testHazard, testHazards}
-use Rattle.planning.specs.Reply.{Cuts, noCuts, cutsOf, _followedBy_, testedHazard, testedEnvelopes, sideFrom, storedEnvelopes, storedCuts, sideAnswer}
-use Rattle.planning.proofs.OverhangLaws.{greater-assoc, greater-none, none-greater}
+use Rattle.job.specs.Job.{Job, hazardOf}
+use Rattle.job.specs.Given.{givenHazards}
+use Rattle.job.specs.Reply.{HeaderReading, headerAt, HazardReading, nextHazard, hazardsFrom}
+use Rattle.job.specs.Fits.{HeaderFits, HazardFits}
+use Rattle.job.proofs.RestLaws.{job-from}
+use Rattle.planning.specs.Envelope.{testHazards, acceptJob}
+use Rattle.planning.specs.Approached.{hazardAt}
+use Rattle.planning.specs.Reply.{Cuts, cutsOf, testedEnvelopes}
+use Rattle.planning.specs.Rows.{Passed, AcceptedFits}
+use Rattle.planning.specs.Walk.{Given}
+use Rattle.planning.specs.Accept.{AcceptedSide, sideOf, AcceptedHazard, indexedHazard}
+use Rattle.planning.proofs.EnvelopeLaws.{accepted-fits}
 
--- The turn
+-- No hazard is given beside bytes.
+pub none-given : (h : Header) (s : List ℕ) → Given h [] s
+unfolding givenHazards
+none-given h s = record { whole = omega arith; fit = λ z m. absurd (List·Memᴰ·not-nil m); alone = λ some. absurd (omega arith) }
 
-then-assoc : (a b c : Cuts) → (a followedBy (b followedBy c)) ≡ ((a followedBy b) followedBy c)
-then-assoc a b c = λ i. record { envelopes = sym (append-assoc (a .envelopes) (b .envelopes) (c .envelopes)) i; overhangs = greater-assoc (a .overhangs) (b .overhangs) (c .overhangs) i }
+-- A side's envelopes beside G.
+abbrev with-limit : (G : ℕ) → Cuts → Answer AcceptedSide
+with-limit G c = accepted (record { cuts = c; continuity = G })
 
-then-none : (a : Cuts) → (a followedBy noCuts) ≡ a
-then-none a = λ i. record { envelopes = append-nil (a .envelopes) i; overhangs = greater-none (a .overhangs) i }
+-- What follows a header has that header.
+own-header : (h : Header) (given : List Hazard) (k : ℕ) (got : List Hazard) (s : List ℕ) (at : ℕ) (j : Job) → hazardsFrom h given k got s at ≡ accepted j → j .header ≡ h
+unfolding hazardsFrom
+own-header h given zero got s at j e =
+    let b = bound (unless-refuse (leb (length s) at) (Row.LeftOver at)) _ j e in
+    let same : record { header = h; hazards = got } ≡ j = let z = b .rest in cc in
+    sym (ap (λ (i : Job). i .header) same)
+own-header h given (suc k) got s at j e =
+    let b = bound (nextHazard h given (length got) s at) _ j e in
+    own-header h given k (got ++ b .first .hazard ∷ []) s (b .first .next) j (b .rest)
 
-none-then : (a : Cuts) → (noCuts followedBy a) ≡ a
-none-then a = λ i. record { envelopes = a .envelopes; overhangs = none-greater (a .overhangs) i }
+module _ (s : List ℕ) {x : HeaderReading} (read : headerAt s ≡ accepted x) where
+  -- The hazards behind the header.
+  abbrev pub behind : Answer Job
+  behind = hazardsFrom (x .header) [] (x .header .count) [] s (x .next)
 
--- What a hazard gives to a side, before what the others give.
-own-first : (h : Header) (side : ℕ) (z : Hazard) (left : List Hazard) → cutsOf h side (z ∷ left) ≡ (cutsOf h side (z ∷ []) followedBy cutsOf h side left)
-unfolding envelopes overhangs
-own-first h side z left = go (eqb (z .side) side && reached h z)
-  where
-    of : Bool → List Stretch → Overhangs → Cuts
-    of b es o = record { envelopes = map (cutToRoad h) (if b then envelope h z ∷ es else es); overhangs = if b then greater (overhang h z) o else o }
+  pub accept-from : acceptJob s ≡ (behind >>= λ j. testHazards (j .header) 0 (j .hazards) >>= λ _. accepted j)
+  unfolding acceptJob
+  accept-from = rw (job-from s, read)
 
-    go : (b : Bool) → of b (envelopes h side left) (overhangs h side left) ≡ (of b [] noOverhang followedBy cutsOf h side left)
-    go true = λ i. record { envelopes = cutToRoad h (envelope h z) ∷ map (cutToRoad h) (envelopes h side left); overhangs = greater (sym (greater-none (overhang h z)) i) (overhangs h side left) }
-    go false = sym (none-then (cutsOf h side left))
+  pub side-from : (side : ℕ) → sideOf s side ≡ ((behind >>= λ j. testedEnvelopes j side) >>= with-limit (x .header .continuity))
+  unfolding sideOf testedEnvelopes
+  side-from side = rw accept-from (go behind refl)
+    where
+      tests : (j : Job) → j .header ≡ x .header → (t : Answer (Unit {0})) → ((t >>= λ _. accepted j) >>= λ k. with-limit (k .header .continuity) (cutsOf (k .header) side (k .hazards)))
+          ≡ ((t >>= λ _. accepted (cutsOf (j .header) side (j .hazards))) >>= with-limit (x .header .continuity))
+      tests j own (accepted u) = ap (λ (h : Header). with-limit (h .continuity) (cutsOf (j .header) side (j .hazards))) own
+      tests j own (refused k v) = refl
 
--- A hazard before others.
-turn : (h : Header) (side i : ℕ) (taken : Cuts) (z : Hazard) (left : List Hazard)
-    → sideFrom h side i taken (z ∷ left) ≡ (testedHazard h side i z >>= λ own. sideFrom h side (i + 1) (taken followedBy own) left)
-unfolding testHazards testedHazard sideFrom
-turn h side i taken z left = go (testHazard h i z)
-  where
-    more : (taken followedBy cutsOf h side (z ∷ left)) ≡ ((taken followedBy cutsOf h side (z ∷ [])) followedBy cutsOf h side left)
-    more = ap (λ (c : Cuts). taken followedBy c) (own-first h side z left) ∙ then-assoc taken (cutsOf h side (z ∷ [])) (cutsOf h side left)
+      go : (a : Answer Job) → behind ≡ a → ((a >>= λ j. testHazards (j .header) 0 (j .hazards) >>= λ _. accepted j) >>= λ k. with-limit (k .header .continuity) (cutsOf (k .header) side (k .hazards)))
+          ≡ ((a >>= λ j. testHazards (j .header) 0 (j .hazards) >>= λ _. accepted (cutsOf (j .header) side (j .hazards))) >>= with-limit (x .header .continuity))
+      go (accepted j) e = tests j (own-header (x .header) [] (x .header .count) [] s (x .next) j e) (testHazards (j .header) 0 (j .hazards))
+      go (refused k v) e = refl
 
-    go : (test : Answer (Unit {0})) → ((test >>= λ _. testHazards h (i + 1) left) >>= λ _. accepted (taken followedBy cutsOf h side (z ∷ left))) ≡ ((test >>= λ _. accepted (cutsOf h side (z ∷ []))) >>= λ own. testHazards h (i + 1) left >>= λ _. accepted ((taken followedBy own) followedBy cutsOf h side left))
-    go (accepted u) = ap (λ (c : Cuts). testHazards h (i + 1) left >>= λ _. accepted c) more
-    go (refused k v) = refl
+  -- By how a walk for any side ended.
+  module _ (side : ℕ) (o : Outcome) (c : Cuts) (answer : outcome o c ≡ (behind >>= λ j. testedEnvelopes j side)) where
+    pub side-walked : outcome o (record { cuts = c; continuity = x .header .continuity }) ≡ sideOf s side
+    side-walked = go o ∙ ap (λ (a : Answer Cuts). a >>= with-limit (x .header .continuity)) answer ∙ sym (side-from side)
+      where
+        go : (p : Outcome) → outcome p (record { cuts = c; continuity = x .header .continuity }) ≡ (outcome p c >>= with-limit (x .header .continuity))
+        go Done = refl
+        go (Refused r) = refl
+
+    -- Done: the job is accepted.
+    pub record Done-with : Type 0 where
+      pub job : Job
+      pub read-on : behind ≡ accepted job
+      pub its-header : job .header ≡ x .header
+      pub is-accepted : acceptJob s ≡ accepted job
+
+    pub walk-accepts : o ≡ Done → Done-with
+    unfolding testedEnvelopes
+    walk-accepts e =
+        let whole : (behind >>= λ j. testedEnvelopes j side) ≡ accepted c = sym answer ∙ ap (λ (p : Outcome). outcome p c) e in
+        let b = bound behind (λ j. testedEnvelopes j side) c whole in
+        let t = bound (testHazards (b .first .header) 0 (b .first .hazards)) (λ _. accepted (cutsOf (b .first .header) side (b .first .hazards))) c (b .rest) in
+        record {
+          job = b .first;
+          read-on = b .taken;
+          its-header = own-header (x .header) [] (x .header .count) [] s (x .next) (b .first) (b .taken);
+          is-accepted =
+              accept-from
+              ∙ ap (λ (a : Answer Job). a >>= λ j. testHazards (j .header) 0 (j .hazards) >>= λ _. accepted j) (b .taken)
+              ∙ ap (λ (a : Answer (Unit {0})). a >>= λ _. accepted (b .first)) (t .taken);
+        }
+
+    pub walk-refuses : (r : Refusal) → o ≡ Refused r → acceptJob s ≡ refusal r
+    unfolding testedEnvelopes
+    walk-refuses r e = accept-from ∙ go behind (sym answer ∙ ap (λ (p : Outcome). outcome p c) e)
+      where
+        tests : (j : Job) (t : Answer (Unit {0})) → (t >>= λ _. accepted (cutsOf (j .header) side (j .hazards))) ≡ refusal r → (t >>= λ _. accepted j) ≡ refusal r
+        tests j (accepted u) q = impossible cc
+        tests j (refused k v) q = cc
+
+        go : (a : Answer Job) → (a >>= λ j. testHazards (j .header) 0 (j .hazards) >>= λ _. accepted (cutsOf (j .header) side (j .hazards))) ≡ refusal r → (a >>= λ j. testHazards (j .header) 0 (j .hazards) >>= λ _. accepted j) ≡ refusal r
+        go (accepted j) q = tests j (testHazards (j .header) 0 (j .hazards)) q
+        go (refused k v) q = cc
+
+-- A job that could not be read to its hazards.
+pub accept-unread : (s : List ℕ) (r : Refusal) → headerAt s ≡ refusal r → acceptJob s ≡ refusal r
+unfolding acceptJob
+accept-unread s r e = rw (job-from s, e)
+
+pub side-unread : (s : List ℕ) (side : ℕ) (r : Refusal) → acceptJob s ≡ refusal r → sideOf s side ≡ refusal r
+unfolding sideOf
+side-unread s side r e = rw e
 
 -- The hazard with an index.
-side-turn : (h : Header) (side i : ℕ) (taken : Cuts) (zs : List Hazard) (d : Hazard) → i < length zs
-    → sideFrom h side i taken (drop i zs) ≡ (testedHazard h side i (getD zs i d) >>= λ own. sideFrom h side (i + 1) (taken followedBy own) (drop (i + 1) zs))
-side-turn h side i taken zs d l =
-    ap (sideFrom h side i taken) (drop-cons zs i d l ∙ ap (λ (n : ℕ). getD zs i d ∷ drop n zs) (sym (add-one i)))
-    ∙ turn h side i taken (getD zs i d) (drop (i + 1) zs)
+module _ (s : List ℕ) (i : ℕ) where
+  pub indexed-refused : (r : Refusal) → acceptJob s ≡ refusal r → indexedHazard s i ≡ refusal r
+  unfolding indexedHazard
+  indexed-refused r e = rw e
 
--- The envelope that a hazard gives has no higher level than the hazard.
-pub level-given : (h : Header) (side i : ℕ) (z : Hazard) (e : Stretch) (o : Overhangs) → accepted (record { envelopes = e ∷ []; overhangs = o }) ≡ testedHazard h side i z → e .level ≤ z .level
-unfolding testedHazard envelopes cutToRoad envelope
-level-given h side i z e o p = omega (arith, ap first p, go (testHazard h i z) (eqb (z .side) side && reached h z))
-  where
-    first : Answer Cuts → ℕ
-    first a = getD (acceptedOr noCuts a .envelopes) 0 noStretch .level
+  module _ {j : Job} (e : acceptJob s ≡ accepted j) where
+    pub indexed-none : length (j .hazards) ≤ i → indexedHazard s i ≡ refused 14 0
+    unfolding indexedHazard
+    indexed-none l = simp (e, le-ltb i (length (j .hazards)) l)
 
-    go : (test : Answer (Unit {0})) (b : Bool) → first (test >>= λ _. accepted (record { envelopes = map (cutToRoad h) (if b then envelope h z ∷ [] else []); overhangs = overhangs h side (z ∷ []) })) ≤ z .level
-    go (accepted u) true = omega arith
-    go (accepted u) false = omega arith
-    go (refused k v) b = omega arith
+    pub indexed-found : i < length (j .hazards) → indexedHazard s i ≡ accepted (record { header = j .header; hazard = hazardAt j i })
+    unfolding indexedHazard
+    indexed-found l = simp (e, lt-ltb i (length (j .hazards)) l)
 
--- The loop
+-- What is known of it.
+pub record IndexedFits (a : AcceptedHazard) : Type 0 where
+  pub header : HeaderFits (a .header)
+  pub hazard : HazardFits (a .header) (a .hazard)
+  pub passed : Passed (a .header) (a .hazard)
 
--- A reply says the answer by its outcome, and by what stands beside it.
-abbrev pub Replies : SideEnvelopes → Answer Cuts → Type 0
-Replies r answer = (sideAnswer r ≡ answer) × (r ≡ storedCuts (r .outcome) (acceptedOr noCuts answer))
-
-pub replies-refused : {r : SideEnvelopes} (x : Refusal) {answer : Answer Cuts} → r ≡ storedCuts (Refused x) noCuts → refusal x ≡ answer → Replies r answer
-replies-refused x p e = rw (p, sym e) (refl, refl)
-
--- An envelope put behind those stored.
-abbrev withNext : Envelopes → Stretch → Envelopes
-withNext es e = record { count = es .count + 1; starts = set (es .starts) (es .count) (e .start); ends = set (es .ends) (es .count) (e .end); levels = set (es .levels) (es .count) (e .level) }
-
-next-stored : (es : List Stretch) (e : Stretch) → length es < 256 → withNext (storedEnvelopes es) e ≡ storedEnvelopes (es ++ e ∷ [])
-next-stored es e h = cc (length-append es (e ∷ []), column-more 256 (λ x. x .start) es e h, column-more 256 (λ x. x .end) es e h, column-more 256 (λ x. x .level) es e h)
-
--- Behind the hazards before an index: the envelopes taken are stored, with their greatest overhangs, and what is left to do gives the answer.
-pub record SoFar (job : StoredJob) (side : ℕ) (envelopes : Envelopes) (overhangs : Overhangs) (index : ℕ) : Type 0 where
-  pub within : index ≤ job .header .count
-  pub most : job .header .count ≤ 256
-  pub few : envelopes .count ≤ index
-  pub start-places : length (envelopes .starts) ≡ 256
-  pub end-places : length (envelopes .ends) ≡ 256
-  pub level-places : length (envelopes .levels) ≡ 256
-  pub taken : List Stretch
-  pub whole : envelopes ≡ storedEnvelopes taken
-  pub rest : sideFrom (job .header) side index (record { envelopes = taken; overhangs = overhangs }) (drop index (jobOf job .hazards)) ≡ testedEnvelopes (jobOf job) side
-
-module _ (job : StoredJob) (fits : JobFits (jobOf job)) where
-  -- The hazard with an index, as it is stored.
-  module _ (i : ℕ) (d : NamedHazard) (l : i < job .header .count) where
-    pub inside : i < length (jobOf job .hazards)
-    inside = omega (arith, fits .hazards .count)
-
-    pub stored : getD (jobOf job .hazards) i (unnamed d) ≡ unnamed (getD (job .hazards) i d)
-    stored = List·getD-map unnamed (take (job .header .count) (job .hazards)) i d ∙ ap unnamed (getD-take (job .header .count) (job .hazards) i d l)
-
-    pub element-fits : HazardFits (job .header) (unnamed (getD (job .hazards) i d))
-    element-fits = rw stored at (fits .hazards .each (getD (jobOf job .hazards) i (unnamed d)) (getD-member (jobOf job .hazards) i (unnamed d) inside))
-
-module _ (job : StoredJob) (side : ℕ) (fits : JobFits (jobOf job)) where
-  pub none-yet : {envelopes : Envelopes} → envelopes ≡ storedEnvelopes [] → SoFar job side envelopes noOverhang 0
-  unfolding sideFrom testedEnvelopes
-  none-yet e = record {
-    within = omega arith;
-    most = header-bounds (job .header) (fits .header) .count;
-    few = rw e (omega arith);
-    start-places = rw e refl;
-    end-places = rw e refl;
-    level-places = rw e refl;
-    taken = [];
-    whole = e;
-    rest = ap (λ (c : Cuts). testHazards (job .header) 0 (jobOf job .hazards) >>= λ _. accepted c) (none-then (cutsOf (job .header) side (jobOf job .hazards)));
-  }
-
-  -- The hazard with an index, which is `z`, was tested.
-  module _ {envelopes : Envelopes} {overhangs : Overhangs} {i : ℕ} (d : NamedHazard) (so : SoFar job side envelopes overhangs i) (l : i < job .header .count) (z : Hazard) (own : z ≡ unnamed (getD (job .hazards) i d)) where
-    abbrev soFar : Cuts
-    soFar = record { envelopes = so .taken; overhangs = overhangs }
-
-    next : (testedHazard (job .header) side i z >>= λ c. sideFrom (job .header) side (i + 1) (soFar followedBy c) (drop (i + 1) (jobOf job .hazards))) ≡ testedEnvelopes (jobOf job) side
-    next =
-        let here : getD (jobOf job .hazards) i (unnamed d) ≡ z = stored job fits i d l ∙ sym own in
-        rw here at (sym (side-turn (job .header) side i soFar (jobOf job .hazards) (unnamed d) (inside job fits i d l)) ∙ so .rest)
-
-    pub hazard-taken : (e : Stretch) (o new : Overhangs) → accepted (record { envelopes = e ∷ []; overhangs = o }) ≡ testedHazard (job .header) side i z → new ≡ greater overhangs o
-        → SoFar job side (withNext envelopes e) new (i + 1)
-    hazard-taken e o new p q =
-        let number : length (so .taken) ≡ envelopes .count = sym (ap (λ (es : Envelopes). es .count) (so .whole)) in
-        let room : length (so .taken) < 256 = omega (arith, so .few, so .most) in
-        record {
-          within = omega arith;
-          most = so .most;
-          few = omega (arith, so .few);
-          start-places = rw length-set (so .start-places);
-          end-places = rw length-set (so .end-places);
-          level-places = rw length-set (so .level-places);
-          taken = so .taken ++ e ∷ [];
-          whole = rw (so .whole) (next-stored (so .taken) e room);
-          rest = rw q (rw (sym p) at next);
-        }
-
-    pub hazard-left-out : accepted noCuts ≡ testedHazard (job .header) side i z → SoFar job side envelopes overhangs (i + 1)
-    hazard-left-out p =
-        record {
-          within = omega arith;
-          most = so .most;
-          few = omega (arith, so .few);
-          start-places = so .start-places;
-          end-places = so .end-places;
-          level-places = so .level-places;
-          taken = so .taken;
-          whole = so .whole;
-          rest = rw (sym p, then-none soFar) at next;
-        }
-
-    pub hazard-refused : (x : Refusal) → refusal x ≡ testedHazard (job .header) side i z → refusal x ≡ testedEnvelopes (jobOf job) side
-    hazard-refused x p = rw (sym p) at next
-
-  pub all-done : {es : Envelopes} {overhangs : Overhangs} {i : ℕ} → SoFar job side es overhangs i → job .header .count ≤ i
-      → Replies (record { outcome = Done; envelopes = es; overhangs = overhangs }) (testedEnvelopes (jobOf job) side)
-  unfolding sideFrom testHazards envelopes overhangs
-  all-done {es} {overhangs} {i} so end =
-      let c : Cuts = record { envelopes = so .taken; overhangs = overhangs } in
-      let none : drop i (jobOf job .hazards) ≡ [] = drop-of-length-le (jobOf job .hazards) {i = i} (omega (arith, fits .hazards .count)) in
-      let answer : accepted c ≡ testedEnvelopes (jobOf job) side = rw (none, then-none c) at (so .rest) in
-      rw (sym answer, so .whole) (ap (λ (l : List Stretch). accepted (record { envelopes = l; overhangs = overhangs })) (columns-stored 256 (so .taken)), refl)
+pub indexed-fits : (s : List ℕ) (i : ℕ) (a : AcceptedHazard) → indexedHazard s i ≡ accepted a → IndexedFits a
+unfolding indexedHazard
+indexed-fits s i a e =
+    let b1 = bound (acceptJob s) _ a e in
+    let j = b1 .first in
+    let b2 = bound (unless-refuse (ltb i (length (j .hazards))) Row.Hazard) _ a (b1 .rest) in
+    let f = accepted-fits s j (b1 .taken) in
+    let m = getD-member (j .hazards) i (hazardOf []) (ltb-true i (length (j .hazards)) (tested _ Row.Hazard _ (b2 .taken))) in
+    let same : record { header = j .header; hazard = hazardAt j i } ≡ a = let z = b2 .rest in cc in
+    subst IndexedFits same (record { header = f .fits .header; hazard = f .fits .hazards .each _ m; passed = f .passed _ m })

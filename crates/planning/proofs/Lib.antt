@@ -2,13 +2,13 @@ pub mod ReachLaws
 pub mod OverhangLaws
 pub mod EnvelopeLaws
 pub mod TestedLaws
+pub mod WalkLaws
 pub mod AcceptLaws
-pub mod SideLaws
 pub mod FormulaLaws
 pub mod JobRunLaws
 pub mod AcceptedLaws
+pub mod AcceptedSideLaws
 pub mod RowLaws
 pub mod RoadLaws
-pub mod AcceptedJobLaws
 pub mod AdjacentLaws
 pub mod ApproachedLaws

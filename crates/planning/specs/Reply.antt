@@ -2,23 +2,18 @@
 -- Assumes nothing.
 use Prim.Native.Nat.{ℕ}
 use mathlib.Core.List.{List, [], _∷_, _++_, map}
-use lib.ListN.{length}
 use Rattle.base.specs.Answer.{Answer, accepted, _>>=_}
 use Rattle.refusal.specs.Refusal.{refusal, outcome}
-use Rattle.refusal.specs.declared.Outcome.{Outcome}
 use Rattle.job.specs.declared.Header.{Header}
 use Rattle.job.specs.declared.Hazard.{Hazard}
 use Rattle.job.specs.Job.{Job}
 use Rattle.runs.specs.declared.Stretch.{Stretch}
-use Rattle.runs.specs.declared.Envelopes.{Envelopes}
-use Rattle.runs.specs.RunList.{runsOf, envelopesOf}
-use Rattle.runs.specs.Stored.{column}
+use Rattle.runs.specs.RunList.{runsOf}
 use Rattle.planning.specs.declared.Overhangs.{Overhangs}
 use Rattle.planning.specs.declared.envelope.Traffic.{Traffic}
 use Rattle.planning.specs.declared.envelope.Traffic.the-variants.{Forward, Opposite}
 use Rattle.planning.specs.declared.envelope.Tested.{Tested}
 use Rattle.planning.specs.declared.envelope.Tested.the-variants as Tested
-use Rattle.planning.specs.declared.accept.SideEnvelopes.{SideEnvelopes}
 use Rattle.planning.specs.declared.side.SideRuns.{SideRuns}
 use Rattle.planning.specs.Envelope as spec
 use Rattle.planning.specs.Required.{jobRuns}
@@ -57,26 +52,7 @@ testedAnswer (Tested.Refused r) = refusal r
 unfoldable pub testedEnvelopes : Job → (side : ℕ) → Answer Cuts
 testedEnvelopes j side = spec.testHazards (j .header) 0 (j .hazards) >>= λ _. accepted (cutsOf (j .header) side (j .hazards))
 
--- What is left to do from the hazard with an index on: the tests, and the envelopes of a side behind those taken.
-unfoldable pub sideFrom : Header → (side index : ℕ) (taken : Cuts) (left : List Hazard) → Answer Cuts
-sideFrom h side i taken left = spec.testHazards h i left >>= λ _. accepted (taken followedBy cutsOf h side left)
-
--- Envelopes as they are stored: in 256 places, every number behind them 0.
-abbrev pub storedEnvelopes : List Stretch → Envelopes
-storedEnvelopes es = record { count = length es; starts = column 256 (λ e. e .start) es; ends = column 256 (λ e. e .end) es; levels = column 256 (λ e. e .level) es }
-
--- The envelopes of a side and their overhangs as they are stored, beside an outcome.
-abbrev pub storedCuts : Outcome → Cuts → SideEnvelopes
-storedCuts o c = record { outcome = o; envelopes = storedEnvelopes (c .envelopes); overhangs = c .overhangs }
-
--- The envelopes of a side and their overhangs, or the refusal.
-abbrev pub sideAnswer : SideEnvelopes → Answer Cuts
-sideAnswer r = outcome (r .outcome) (record { envelopes = envelopesOf (r .envelopes); overhangs = r .overhangs })
-
--- The runs of a side of a job whose hazards are tested, and of a job in bytes.
-unfoldable pub testedRuns : Job → (side : ℕ) → Answer (List Stretch)
-testedRuns j side = spec.testHazards (j .header) 0 (j .hazards) >>= λ _. accepted (jobRuns j side)
-
+-- The runs of a side of a job in bytes.
 unfoldable pub acceptedRuns : (s : List ℕ) (side : ℕ) → Answer (List Stretch)
 acceptedRuns s side = spec.acceptJob s >>= λ j. accepted (jobRuns j side)
 

@@ -1,108 +1,119 @@
-// The hazards of a job, tested in order, and the envelopes of a side with their greatest overhangs.
+// The entrances: a side of the accepted job that bytes are, and a hazard of it.
 use super::Overhangs;
-use super::envelope::Tested;
-use super::envelope::test_hazard;
-use base::max;
-use job::StoredJob;
-use job::unnamed;
+use super::walk::walk;
+use job::Hazard;
+use job::Header;
+use job::header_fields::HeaderRead;
+use job::header_fields::read_header;
 use refusal::Outcome;
 use refusal::Refusal;
-use runs::Envelopes;
 ghost use mathlib.Core.Path.{_≡_};
-ghost use mathlib.Core.List.{[]};
-ghost use Rattle.base.specs.Stored.{acceptedOr};
-ghost use Rattle.refusal.specs.declared.Outcome.the-variants.{Refused};
-ghost use Rattle.job.specs.Job.{jobOf};
-ghost use Rattle.job.specs.Fits.{JobFits};
-ghost use Rattle.planning.specs.Envelope.{greater};
-ghost use Rattle.planning.specs.Reply.{noCuts, testedEnvelopes, storedEnvelopes, storedCuts, sideAnswer};
+ghost use lib.ListN.{length};
+ghost use Rattle.runs.specs.Keys.{Keyed};
+ghost use Rattle.planning.specs.Accept.{sideOf, sideAnswer, indexedHazard, indexedAnswer};
 
-// The outcome, and beside it the envelopes and their greatest overhangs where it is Done, else none.
-pub struct SideEnvelopes {
+// The outcome, and beside it, where it is Done, how many envelopes the side has, their greatest overhangs, and G.
+pub struct Side {
     pub outcome: Outcome,
-    pub envelopes: Envelopes,
+    pub count: usize,
     pub overhangs: Overhangs,
+    pub continuity: u64,
 }
 
-// The greater overhang, at each end by itself.
-fn greater_of(a: Overhangs, b: Overhangs) -> Overhangs
-    ensures { λ r. ⌜ r ≡ greater a b ⌝ }
-{
-    Overhangs {
-        before: max(a.before, b.before),
-        after: max(a.after, b.after),
-    }
+// A hazard, with the header of its job.
+pub enum Indexed {
+    Hazard { header: Header, hazard: Hazard },
+    Refused(Refusal),
 }
 
-// No envelope: zeros.
-fn no_envelopes() -> Envelopes
-    ensures { λ r. ⌜ r ≡ storedEnvelopes [] ⌝ }
+// A side of the accepted job that the bytes are, 0 or 1, or the first refusal of 1 to 5 and 7. The envelopes' keys and ends stand in the first
+// places of the arrays.
+pub fn side_of(s: &[u8], side: u64, keys: &mut [u64], ends: &mut [u64]) -> Side
+    requires { ⌜ length (now keys) ≡ 256 ⌝ }
+    requires { ⌜ length (now ends) ≡ 256 ⌝ }
+    ensures { λ r. ⌜ sideAnswer (now (keys .exit)) (now (ends .exit)) r ≡ sideOf (now (s .entry)) side ⌝ }
+    ensures { λ r. ⌜ Keyed (now (keys .exit)) (now (ends .exit)) (r .count) ⌝ }
 {
-    Envelopes {
-        count: 0,
-        starts: [0; 256],
-        ends: [0; 256],
-        levels: [0; 256],
-    }
-}
-
-// A refusal, and zeros beside it.
-fn refused(refusal: Refusal) -> SideEnvelopes
-    ensures { λ r. ⌜ r ≡ storedCuts (Refused refusal) noCuts ⌝ }
-{
-    SideEnvelopes {
-        outcome: Outcome::Refused(refusal),
-        envelopes: no_envelopes(),
-        overhangs: Overhangs {
-            before: 0,
-            after: 0,
-        },
-    }
-}
-
-// The hazards of both sides are tested; the envelopes of the side asked for are kept, and the greatest overhangs among them.
-pub fn side_envelopes(job: StoredJob, side: u64) -> SideEnvelopes
-    requires { ⌜ JobFits (jobOf job) ⌝ }
-    ensures { λ r. ⌜ sideAnswer r ≡ testedEnvelopes (jobOf job) side ⌝ }
-    ensures { λ r. ⌜ r ≡ storedCuts (r .outcome) (acceptedOr noCuts (testedEnvelopes (jobOf job) side)) ⌝ }
-{
-    let header = job.header;
-    let hazard_count = header.count as usize;
-    let mut count: usize = 0;
-    let mut starts: [u64; 256] = [0; 256];
-    let mut ends: [u64; 256] = [0; 256];
-    let mut levels: [u8; 256] = [0; 256];
-    let mut overhangs = Overhangs {
-        before: 0,
-        after: 0,
-    };
-    let mut index: usize = 0;
-    while index < hazard_count {
-        let hazard = unnamed(job.hazards[index]);
-        let tested = test_hazard(header, side, index, hazard);
-        index += 1;
-        match tested {
-            Tested::Envelope(envelope) => {
-                let stretch = envelope.stretch;
-                let own = envelope.overhangs;
-                starts[count] = stretch.start;
-                ends[count] = stretch.end;
-                levels[count] = stretch.level as u8;
-                count += 1;
-                overhangs = greater_of(overhangs, own);
+    match read_header(s) {
+        HeaderRead::Header { header, next } => {
+            let none: [u64; 0] = [];
+            let mut noted: [u64; 0] = [];
+            let walked = walk(
+                s,
+                next,
+                header,
+                &none[..],
+                side,
+                256,
+                keys,
+                ends,
+                &mut noted[..],
+            );
+            let outcome = walked.outcome;
+            let taken = walked.taken;
+            let overhangs = taken.overhangs;
+            Side {
+                outcome,
+                count: taken.count,
+                overhangs,
+                continuity: header.continuity,
             }
-            Tested::Without => {}
-            Tested::Refused(refusal) => return refused(refusal),
         }
-    }
-    SideEnvelopes {
-        outcome: Outcome::Done,
-        envelopes: Envelopes {
-            count,
-            starts,
-            ends,
-            levels,
+        HeaderRead::Refused(refusal) => Side {
+            outcome: Outcome::Refused(refusal),
+            count: 0,
+            overhangs: Overhangs {
+                before: 0,
+                after: 0,
+            },
+            continuity: 0,
         },
-        overhangs,
+    }
+}
+
+// The hazard with this index of the accepted job that the bytes are; or the first refusal of 1 to 5 and 7, then 14.
+pub fn hazard_of(s: &[u8], index: u64) -> Indexed
+    ensures { λ r. ⌜ indexedAnswer r ≡ indexedHazard (now (s .entry)) index ⌝ }
+{
+    match read_header(s) {
+        HeaderRead::Header { header, next } => {
+            let none: [u64; 0] = [];
+            let mut keys: [u64; 0] = [];
+            let mut ends: [u64; 0] = [];
+            let mut noted: [u64; 6] = [0; 6];
+            let asked = index as usize;
+            let walked = walk(
+                s,
+                next,
+                header,
+                &none[..],
+                2,
+                asked,
+                &mut keys[..],
+                &mut ends[..],
+                &mut noted[..],
+            );
+            let outcome = walked.outcome;
+            match outcome {
+                Outcome::Done => {
+                    if header.count <= index {
+                        return Indexed::Refused(Refusal::Hazard);
+                    }
+                    Indexed::Hazard {
+                        header,
+                        hazard: Hazard {
+                            start: noted[1],
+                            end: noted[2],
+                            near: noted[3] as u16,
+                            far: noted[4] as u16,
+                            side: noted[0] as u8,
+                            level: noted[5] as u8,
+                        },
+                    }
+                }
+                Outcome::Refused(refusal) => Indexed::Refused(refusal),
+            }
+        }
+        HeaderRead::Refused(refusal) => Indexed::Refused(refusal),
     }
 }

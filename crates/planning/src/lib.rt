@@ -1,9 +1,9 @@
-// Planning: from a job in bytes to the runs of a side.
-pub mod accept; // hazards tested, and the envelopes of a side
-pub mod accepted; // the accepted job
+// Planning: from a job to the envelopes of a side, and its runs.
+pub mod accept; // the entrances: a side, and a hazard, of an accepted job
 pub mod envelope; // a hazard's envelope, cut at the road's ends, and its test
 pub mod near; // a hazard too near to the barrier
 pub mod side; // the runs of a side
+pub mod walk; // one walk over a job's hazards
 
 // By how many millimetres envelopes hang over before the road's begin A and behind its end B.
 pub struct Overhangs {

@@ -70,6 +70,6 @@ layoutOf a =
     let some : ℕ = if r .found then 1 else 0 in
     record { number = how .number; value = how .value; found = some; overrun = r .overrun; counts = r .counts; tries = r .tries; floor = r .floor }
 
--- Version 3.2.3, as one number.
+-- Version 3.2.4, as one number.
 abbrev pub version : ℕ
-version = 3 * 1000000 + 2 * 1000 + 3
+version = 3 * 1000000 + 2 * 1000 + 4

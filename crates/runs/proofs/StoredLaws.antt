@@ -1,4 +1,4 @@
--- Laws of stored runs and envelopes, for loops that take them one by one or put them behind each other.
+-- Laws of stored runs, for loops that take them one by one or put them behind each other.
 -- Assumes nothing.
 use Prim.Native.Nat.{ℕ, zero, suc, _+_, _≤_, _<_}
 use native.Mathlib.Omega.{arith}
@@ -6,17 +6,14 @@ use native.Mathlib.Decide.{decLt}
 use native.Mathlib.Numerals.{add-one}
 use mathlib.Core.Path.{_≡_, refl, sym, ap, _∙_}
 use mathlib.Core.Bool.{true}
-use mathlib.Core.List.{List, [], _∷_, _++_, map, map-append, append-assoc, List·Memᴰ, List·Memᴰ·head, List·Memᴰ·not-nil, Memᴰ·append-right}
+use mathlib.Core.List.{List, [], _∷_, _++_, map, map-append, append-assoc}
 use lib.ListN.{length, getD, set, length-append, length-map, List·getD-append, List·getD-map}
 use lib.Seq.{ext-getD, getD-at, set-set}
-use Rattle.base.proofs.ListLaws.{snoc-each}
 use Rattle.base.proofs.StoredLaws.{padded-more, padded-clear}
 use Rattle.runs.specs.declared.Stretch.{Stretch}
 use Rattle.runs.specs.declared.RunList.{RunList}
-use Rattle.runs.specs.declared.Envelopes.{Envelopes}
 use Rattle.runs.specs.RunList.{mostRuns, isRunList, lastEnd, runsTo, runsOf, MayFollow, Rising}
 use Rattle.runs.specs.Stored.{column, storedRuns}
-use Rattle.runs.proofs.IndexLaws.{Indexed, indexed-last, indexed-more}
 use Rattle.runs.proofs.RunLaws.{run-list-rising, run-list-short}
 use Rattle.runs.proofs.RunsOfLaws.{stretch-path}
 
@@ -68,15 +65,6 @@ module _ (starts ends levels : List ℕ) where
       go (yes l) r = let b = r l in record { rest = b .rest ++ run n ∷ []; split = rw (b .split) (append-assoc (firstRuns i) (run i ∷ b .rest) (run n ∷ [])) }
       go (no l) r = record { rest = []; split = ap (λ (k : ℕ). firstRuns k ++ run k ∷ []) (let e : n ≡ i = omega arith in e) }
 
-  -- Membership by index.
-  pub run-among : (i n : ℕ) → i < n → List·Memᴰ (run i) (firstRuns n)
-  run-among i n h = let b = behind i n h in rw (b .split) (Memᴰ·append-right (firstRuns i) (List·Memᴰ·head refl))
-
-  pub run-indexed : (r : Stretch) (n : ℕ) → List·Memᴰ r (firstRuns n) → Indexed run n r
-  unfolding runsTo
-  run-indexed r zero m = absurd (List·Memᴰ·not-nil m)
-  run-indexed r (suc n) m = snoc-each (Indexed run (suc n)) (firstRuns n) (λ x k. indexed-more (run-indexed x n k)) (indexed-last run n) r m
-
   run-at : (i n : ℕ) → i < n → getD (firstRuns n) i noStretch ≡ run i
   run-at i n h = let b = behind i n h in rw (b .split) (getD-at (firstRuns i) (run i) (b .rest) noStretch i (runs-length i))
 
@@ -89,13 +77,6 @@ module _ (starts ends levels : List ℕ) where
 
     pub count-top : n ≤ mostRuns
     count-top = omega (arith, runs-length n, run-list-short (firstRuns n) list)
-
--- The envelope at an index, and the first i.
-abbrev pub envelopeAt : Envelopes → ℕ → Stretch
-envelopeAt e = run (e .starts) (e .ends) (e .levels)
-
-abbrev pub firstEnvelopes : Envelopes → ℕ → List Stretch
-firstEnvelopes e = firstRuns (e .starts) (e .ends) (e .levels)
 
 -- Runs as they are stored.
 

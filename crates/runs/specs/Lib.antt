@@ -4,6 +4,7 @@ pub mod RunList
 pub mod Count
 pub mod Required
 -- What the builder is given and gives.
+pub mod Keys
 pub mod Stored
 -- Steps of the code.
 pub mod Breaks

@@ -10,7 +10,6 @@ use lib.Dec.{ltb, leb, eqb}
 use Rattle.base.specs.Choice.{if_then_else_}
 use Rattle.runs.specs.declared.Stretch.{Stretch}
 use Rattle.runs.specs.declared.RunList.{RunList}
-use Rattle.runs.specs.declared.Envelopes.{Envelopes}
 use Rattle.runs.specs.Level.{Has, has}
 
 -- "A run is a longest stretch of one required level above 0."
@@ -72,7 +71,7 @@ abbrev pub lastEnd : (e : ℕ) → List Stretch → ℕ
 lastEnd e [] = e
 lastEnd e (r ∷ rs) = lastEnd (r .end) rs
 
--- The first n entries of three arrays, side by side; the runs and the envelopes of a stored list.
+-- The first n entries of three arrays, side by side; the runs of a stored list.
 unfoldable pub runsTo : (starts ends levels : List ℕ) (n : ℕ) → List Stretch
 runsTo starts ends levels zero = []
 runsTo starts ends levels (suc n) =
@@ -80,6 +79,3 @@ runsTo starts ends levels (suc n) =
 
 abbrev pub runsOf : RunList → List Stretch
 runsOf r = runsTo (r .starts) (r .ends) (r .levels) (r .count)
-
-abbrev pub envelopesOf : Envelopes → List Stretch
-envelopesOf e = runsTo (e .starts) (e .ends) (e .levels) (e .count)

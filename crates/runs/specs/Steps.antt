@@ -1,12 +1,13 @@
 -- What the steps of the sweep ask and give: the room in the arrays, the fall of the level up to a station, one envelope more, all envelopes.
 -- Assumes nothing.
-use Prim.Native.Nat.{ℕ, zero, suc, _+_, _*_, _/_, _%_, _≤_, _<_}
+use Prim.Native.Nat.{ℕ, zero, suc, _+_, _≤_, _<_}
 use mathlib.Core.List.{List, [], _∷_}
 use mathlib.Core.Path.{_≡_}
 use lib.ListN.{length, getD}
 use Rattle.runs.specs.declared.Stretch.{Stretch}
 use Rattle.runs.specs.RunList.{lastStation}
 use Rattle.runs.specs.Breaks.{Break, breaksTo}
+use Rattle.runs.specs.Keys.{envelopeOf}
 use Rattle.runs.specs.Sorted.{RisingKeys}
 use Rattle.runs.specs.Sweep.{Sound, Raised, Falling, distinctTo, SweptTo}
 
@@ -37,14 +38,6 @@ abbrev pub Stepped : (tops : List ℕ) (s l G level : ℕ) (bs : List Break) (le
 Stepped tops s l G level bs level′ bs′ =
     (es : List Stretch) (u e : ℕ) (tops′ : List ℕ) → u ≤ s → SweptTo es G u tops level bs → Sound (record { start = s; end = e; level = l }) → Raised l e tops tops′
     → SweptTo (record { start = s; end = e; level = l } ∷ es) G s tops′ level′ bs′
-
--- The key of the envelope at an index: keys rise as the starts do.
-abbrev pub keyOf : (start level index : ℕ) → ℕ
-keyOf start level index = start * 2048 + index * 8 + level
-
--- The envelope of a key, whose end stands at the index.
-abbrev pub envelopeOf : (ends : List ℕ) (key : ℕ) → Stretch
-envelopeOf ends key = record { start = key / 2048; end = getD ends (key / 8 % 256) 0; level = key % 8 }
 
 -- The envelopes of the first n keys, last one first.
 unfoldable pub envelopesTo : (keys ends : List ℕ) (n : ℕ) → List Stretch

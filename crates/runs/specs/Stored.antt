@@ -1,20 +1,11 @@
--- What a stored list of envelopes holds, and runs as they are stored.
+-- Runs as they are stored.
 -- Assumes nothing.
-use Prim.Native.Nat.{ℕ, _≤_, _<_}
-use mathlib.Core.List.{List, map, List·Memᴰ}
+use Prim.Native.Nat.{ℕ}
+use mathlib.Core.List.{List, map}
 use lib.ListN.{length}
 use Rattle.base.specs.Stored.{padded}
 use Rattle.runs.specs.declared.Stretch.{Stretch}
-use Rattle.runs.specs.declared.Envelopes.{Envelopes}
 use Rattle.runs.specs.declared.RunList.{RunList}
-use Rattle.runs.specs.RunList.{lastStation, envelopesOf}
-
--- At most 256 envelopes, each of one millimetre or more, of level 1 to 6, and ending by the last station.
-pub record StoredEnvelopes (e : Envelopes) : Type 0 where
-  pub count : e .count ≤ 256
-  pub long : (s : Stretch) → List·Memᴰ s (envelopesOf e) → s .start < s .end
-  pub levels : (s : Stretch) → List·Memᴰ s (envelopesOf e) → (1 ≤ s .level) × (s .level ≤ 6)
-  pub ends : (s : Stretch) → List·Memᴰ s (envelopesOf e) → s .end ≤ lastStation
 
 -- A number of each run, in an array of so many places: zeros stand behind.
 abbrev pub column : (places : ℕ) (number : Stretch → ℕ) → List Stretch → List ℕ

@@ -11,14 +11,6 @@ pub struct Stretch {
     pub level: u32,
 }
 
-// The first `count` entries are the envelopes.
-pub struct Envelopes {
-    pub count: usize,
-    pub starts: [u64; 256],
-    pub ends: [u64; 256],
-    pub levels: [u8; 256],
-}
-
 // The first `count` entries are the runs, rising.
 pub struct RunList {
     pub count: usize,

@@ -1,17 +1,18 @@
-// The required runs of a list of envelopes: their keys sorted, then one sweep.
-use super::Envelopes;
+// The required runs of envelopes in two arrays: their keys sorted, then one sweep.
 use super::RunList;
 use super::sort::sort;
 use super::sweep::swept_runs;
 ghost use mathlib.Core.Path.{_≡_};
 ghost use Prim.Native.Nat.{_≤_, _<_};
-ghost use Rattle.runs.specs.RunList.{lastStation, envelopesOf};
+ghost use lib.ListN.{length};
+ghost use Rattle.runs.specs.RunList.{lastStation};
 ghost use Rattle.runs.specs.Required.{requiredRuns};
-ghost use Rattle.runs.specs.Steps.{keyOf};
-ghost use Rattle.runs.specs.Stored.{StoredEnvelopes, storedRuns};
+ghost use Rattle.runs.specs.Keys.{keyOf, keyedEnvelopes};
+ghost use Rattle.runs.specs.Stored.{storedRuns};
+ghost use Rattle.runs.specs.Sweep.{AllSound};
 
-// Keys rise as the starts do; a key says where its envelope stands.
-fn key_of(start: u64, level: u8, index: usize) -> u64
+// Keys rise as the starts do; a key says where its envelope's end stands.
+pub fn key_of(start: u64, level: u8, index: usize) -> u64
     requires { ⌜ start ≤ lastStation ⌝ }
     requires { ⌜ index < 256 ⌝ }
     ensures { λ r. ⌜ r ≡ keyOf start level index ⌝ }
@@ -19,18 +20,14 @@ fn key_of(start: u64, level: u8, index: usize) -> u64
     start * 2048 + index as u64 * 8 + level as u64
 }
 
-// The required runs of the envelopes.
-pub fn required_runs(envelopes: Envelopes, continuity: u64) -> RunList
-    requires { ⌜ StoredEnvelopes envelopes ⌝ }
-    ensures { λ r. ⌜ r ≡ storedRuns (requiredRuns (envelopesOf envelopes) continuity) ⌝ }
+// The required runs of the first `count` envelopes.
+pub fn required_runs(keys: &mut [u64; 256], ends: &[u64], count: usize, continuity: u64) -> RunList
+    requires { ⌜ length (now keys) ≡ 256 ⌝ }
+    requires { ⌜ length (now ends) ≡ 256 ⌝ }
+    requires { ⌜ count ≤ 256 ⌝ }
+    requires { ⌜ AllSound (keyedEnvelopes (now keys) (now ends) count) ⌝ }
+    ensures { λ r. ⌜ r ≡ storedRuns (requiredRuns (keyedEnvelopes (now (keys .entry)) (now (ends .entry)) count) continuity) ⌝ }
 {
-    let mut keys: [u64; 256] = [0; 256];
-    let count = envelopes.count;
-    let mut i = 0;
-    while i < count {
-        keys[i] = key_of(envelopes.starts[i], envelopes.levels[i], i);
-        i += 1;
-    }
-    sort(&mut keys, count);
-    swept_runs(&keys[..], &envelopes.ends[..], count, continuity)
+    sort(keys, count);
+    swept_runs(&keys[..], ends, count, continuity)
 }

@@ -2,6 +2,5 @@
 pub mod Schedule
 pub mod Plan
 pub mod Planned
--- Steps of the code, proved equal to them.
-pub mod Steps
+-- Steps of the code.
 pub mod Writing

@@ -3,28 +3,23 @@ use super::reply::Plan;
 use super::reply::Written;
 use super::write::put_schedule;
 use super::write::schedule_length;
-use job::StoredJob;
-use job::read::read_job;
 use planning::Overhangs;
-use planning::accept::side_envelopes;
+use planning::accept::side_of;
 use refusal::Outcome;
 use refusal::Refusal;
-use runs::Envelopes;
 use runs::RunList;
 use runs::required::required_runs;
 ghost use mathlib.Core.Path.{_≡_};
 ghost use mathlib.Core.Bool.{true};
 ghost use Prim.Native.Nat.{_≤_, _<_};
 ghost use lib.ListN.{length};
-ghost use Rattle.job.specs.Job.{jobOf};
-ghost use Rattle.job.specs.Fits.{JobFits};
 ghost use Rattle.runs.specs.Required.{requiredRuns};
-ghost use Rattle.runs.specs.RunList.{isRunList, runsOf, envelopesOf};
-ghost use Rattle.runs.specs.Stored.{StoredEnvelopes};
+ghost use Rattle.runs.specs.RunList.{isRunList, runsOf};
+ghost use Rattle.runs.specs.Keys.{keyedEnvelopes};
+ghost use Rattle.runs.specs.Sweep.{AllSound};
 ghost use Rattle.schedule.specs.Schedule.{writeSchedule};
 ghost use Rattle.schedule.specs.Plan.{fitted, planReply, bytesWritten, outputAfter};
 ghost use Rattle.schedule.specs.Plan as spec;
-ghost use Rattle.schedule.specs.Steps.{testedPlan};
 
 // The bytes that the schedule needs, counted where the room is less than a proved bound on the schedule of every road; with more, none lacks room.
 fn bytes_needed(list: RunList, room: usize) -> usize
@@ -53,38 +48,24 @@ fn place(out: &mut [u8], list: RunList, overhangs: Overhangs) -> Plan
     Plan::Done(Written { bytes, overhangs })
 }
 
-// The schedule of a side, from its envelopes and their overhangs; plan and an open job's schedule call share it.
-pub fn plan_envelopes(
+// The schedule of a side, from its envelopes in two arrays and their overhangs; plan and an open job's schedule call share it.
+pub fn plan_side(
     out: &mut [u8],
-    envelopes: Envelopes,
+    keys: &mut [u64; 256],
+    ends: &[u64],
+    count: usize,
     overhangs: Overhangs,
     continuity: u64,
 ) -> Plan
-    requires { ⌜ StoredEnvelopes envelopes ⌝ }
-    requires { ⌜ length (writeSchedule (requiredRuns (envelopesOf envelopes) continuity)) ≤ 5624 ⌝ }
-    ensures { λ r. ⌜ planReply r ≡ bytesWritten (fitted (writeSchedule (requiredRuns (envelopesOf envelopes) continuity)) overhangs (length (now (out .entry)))) ⌝ }
-    ensures { λ _. ⌜ now (out .exit) ≡ outputAfter (fitted (writeSchedule (requiredRuns (envelopesOf envelopes) continuity)) overhangs (length (now (out .entry)))) (now (out .entry)) ⌝ }
+    requires { ⌜ length (now keys) ≡ 256 ⌝ }
+    requires { ⌜ length (now ends) ≡ 256 ⌝ }
+    requires { ⌜ count ≤ 256 ⌝ }
+    requires { ⌜ AllSound (keyedEnvelopes (now keys) (now ends) count) ⌝ }
+    requires { ⌜ length (writeSchedule (requiredRuns (keyedEnvelopes (now keys) (now ends) count) continuity)) ≤ 5624 ⌝ }
+    ensures { λ r. ⌜ planReply r ≡ bytesWritten (fitted (writeSchedule (requiredRuns (keyedEnvelopes (now (keys .entry)) (now (ends .entry)) count) continuity)) overhangs (length (now (out .entry)))) ⌝ }
+    ensures { λ _. ⌜ now (out .exit) ≡ outputAfter (fitted (writeSchedule (requiredRuns (keyedEnvelopes (now (keys .entry)) (now (ends .entry)) count) continuity)) overhangs (length (now (out .entry)))) (now (out .entry)) ⌝ }
 {
-    place(out, required_runs(envelopes, continuity), overhangs)
-}
-
-// The schedule of a side of a job that could be read, or refusal 5 or 9.
-fn plan_stored(out: &mut [u8], job: StoredJob, side: u64) -> Plan
-    requires { ⌜ JobFits (jobOf job) ⌝ }
-    ensures { λ r. ⌜ planReply r ≡ bytesWritten (testedPlan (jobOf job) side (length (now (out .entry)))) ⌝ }
-    ensures { λ _. ⌜ now (out .exit) ≡ outputAfter (testedPlan (jobOf job) side (length (now (out .entry)))) (now (out .entry)) ⌝ }
-{
-    let tested = side_envelopes(job, side);
-    let outcome = tested.outcome;
-    match outcome {
-        Outcome::Done => {
-            let envelopes = tested.envelopes;
-            let overhangs = tested.overhangs;
-            let header = job.header;
-            plan_envelopes(out, envelopes, overhangs, header.continuity)
-        }
-        Outcome::Refused(refusal) => Plan::Refused(refusal),
-    }
+    place(out, required_runs(keys, ends, count, continuity), overhangs)
 }
 
 // The schedule of a side of the job, written into the output; or the first refusal, and nothing written.
@@ -95,12 +76,21 @@ pub fn plan(job: &[u8], side: u64, out: &mut [u8]) -> Plan
     if 1 < side {
         return Plan::Refused(Refusal::Argument);
     }
-    let read = read_job(job);
+    let mut keys: [u64; 256] = [0; 256];
+    let mut ends: [u64; 256] = [0; 256];
+    let read = side_of(job, side, &mut keys[..], &mut ends[..]);
     let outcome = read.outcome;
     match outcome {
         Outcome::Done => {
-            let stored = read.job;
-            plan_stored(out, stored, side)
+            let overhangs = read.overhangs;
+            plan_side(
+                out,
+                &mut keys,
+                &ends[..],
+                read.count,
+                overhangs,
+                read.continuity,
+            )
         }
         Outcome::Refused(refusal) => Plan::Refused(refusal),
     }

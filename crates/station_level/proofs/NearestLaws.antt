@@ -13,11 +13,11 @@ use lib.Dec.{ltb}
 use borrow.Author.Tests.{ltb-true, lt-ltb}
 use Rattle.base.proofs.TestLaws.{and-left, and-right, and-intro, or-cases, or-left, or-right, not-both}
 use Rattle.runs.specs.declared.Stretch.{Stretch}
-use Rattle.runs.specs.declared.Envelopes.{Envelopes}
 use Rattle.runs.specs.Level.{requiredLevel}
 use Rattle.runs.specs.RunList.{lastStation}
+use Rattle.runs.specs.Keys.{keyedEnvelopes, Keyed}
 use Rattle.runs.specs.Sweep.{AllSound}
-use Rattle.runs.proofs.StoredLaws.{envelopeAt, firstEnvelopes, runs-none, runs-more}
+use Rattle.runs.proofs.KeyLaws.{envelopeAt, keyed-none, keyed-step}
 use Rattle.runs.proofs.LevelLaws.{Joined, covered, bridged, level-top, level→joined, joined→level}
 use Rattle.station_level.specs.declared.nearest.Nearest.{Nearest}
 use Rattle.station_level.specs.Nearest.{Extreme, Sought, LastEnd, noStart, FirstStart, NearestOf, hasStation, ReadTo}
@@ -117,26 +117,29 @@ module _ {Within : ℕ → ℕ → Type 0} {best : ℕ → ℕ → ℕ} (further
 
 -- The pass
 
-pub none-kept : (X : Envelopes) (t : ℕ) → NearestOf (firstEnvelopes X 0) t (record { ends = replicate 7 0; starts = replicate 7 noStart })
-none-kept X t = rw (runs-none (X .starts) (X .ends) (X .levels)) (record {
-  ends = λ v h. rw (getD-replicate {A = ℕ} 7 v 0 0 (omega arith)) (extreme-none later 0 _ _ (λ e m. List·Memᴰ·not-nil (m .0)));
-  starts = λ v h. rw (getD-replicate {A = ℕ} 7 v noStart 0 (omega arith)) (extreme-none earlier noStart _ _ (λ e m. List·Memᴰ·not-nil (m .0)));
+pub none-kept : (keys lasts : List ℕ) (t : ℕ) → NearestOf (keyedEnvelopes keys lasts 0) t (record { ends = replicate 8 0; starts = replicate 8 noStart })
+none-kept keys lasts t = rw (keyed-none keys lasts) (record {
+  ends = λ v h. rw (getD-replicate {A = ℕ} 8 v 0 0 (omega arith)) (extreme-none later 0 _ _ (λ e m. List·Memᴰ·not-nil (m .0)));
+  starts = λ v h. rw (getD-replicate {A = ℕ} 8 v noStart 0 (omega arith)) (extreme-none earlier noStart _ _ (λ e m. List·Memᴰ·not-nil (m .0)));
 })
 
--- One envelope more: it has begun at the station, or lies ahead.
-module _ (X : Envelopes) (i t : ℕ) (near : Nearest) (kept : NearestOf (firstEnvelopes X i) t near) (small : envelopeAt X i .level < 7) where
-  pub begun-turn : envelopeAt X i .start ≤ t → length (near .ends) ≡ 7 → {x : ℕ} → x ≡ max (getD (near .ends) (envelopeAt X i .level) 0) (envelopeAt X i .end)
-      → NearestOf (firstEnvelopes X (i + 1)) t (record { ends = set (near .ends) (envelopeAt X i .level) x; starts = near .starts })
-  begun-turn h full q = rw (runs-more (X .starts) (X .ends) (X .levels) i, q) (record {
-    ends = kept-more later 0 _ _ _ (near .ends) (kept .ends) (envelopeAt X i) h (omega arith);
-    starts = kept-same earlier noStart _ _ _ (near .starts) (kept .starts) (envelopeAt X i) (λ l. omega arith);
+-- One envelope more: it has begun at the station, or lies ahead. Its level is a rest by 8, so it has a place.
+module _ (keys lasts : List ℕ) (n : ℕ) (keyed : Keyed keys lasts n) (i t : ℕ) (below : i < n) (near : Nearest) (kept : NearestOf (keyedEnvelopes keys lasts i) t near) where
+  abbrev x : Stretch
+  x = envelopeAt keys lasts i
+
+  pub begun-turn : x .start ≤ t → length (near .ends) ≡ 8 → {y : ℕ} → y ≡ max (getD (near .ends) (x .level) 0) (x .end)
+      → NearestOf (keyedEnvelopes keys lasts (i + 1)) t (record { ends = set (near .ends) (x .level) y; starts = near .starts })
+  begun-turn h full q = rw (keyed-step keys lasts n keyed i below, q) (record {
+    ends = kept-more later 0 _ _ _ (near .ends) (kept .ends) x h (omega arith);
+    starts = kept-same earlier noStart _ _ _ (near .starts) (kept .starts) x (λ l. omega arith);
   })
 
-  pub ahead-turn : t < envelopeAt X i .start → length (near .starts) ≡ 7 → {x : ℕ} → x ≡ min (getD (near .starts) (envelopeAt X i .level) 0) (envelopeAt X i .start)
-      → NearestOf (firstEnvelopes X (i + 1)) t (record { ends = near .ends; starts = set (near .starts) (envelopeAt X i .level) x })
-  ahead-turn h full q = rw (runs-more (X .starts) (X .ends) (X .levels) i, q) (record {
-    ends = kept-same later 0 _ _ _ (near .ends) (kept .ends) (envelopeAt X i) (λ l. omega arith);
-    starts = kept-more earlier noStart _ _ _ (near .starts) (kept .starts) (envelopeAt X i) h (omega arith);
+  pub ahead-turn : t < x .start → length (near .starts) ≡ 8 → {y : ℕ} → y ≡ min (getD (near .starts) (x .level) 0) (x .start)
+      → NearestOf (keyedEnvelopes keys lasts (i + 1)) t (record { ends = near .ends; starts = set (near .starts) (x .level) y })
+  ahead-turn h full q = rw (keyed-step keys lasts n keyed i below, q) (record {
+    ends = kept-same later 0 _ _ _ (near .ends) (kept .ends) x (λ l. omega arith);
+    starts = kept-more earlier noStart _ _ _ (near .starts) (kept .starts) x h (omega arith);
   })
 
 -- The last ends are ends of envelopes, or 0.

@@ -1,5 +1,4 @@
 -- The paper's definitions.
 pub mod Level
--- Steps of the code, proved equal to them.
-pub mod Steps
+-- Steps of the code.
 pub mod Nearest

@@ -2,39 +2,38 @@
 // each level.
 use base::max;
 use base::min;
-use runs::Envelopes;
 ghost use mathlib.Core.Path.{_≡_};
 ghost use mathlib.Core.List.{List};
 ghost use Prim.Native.Nat.{ℕ, _≤_};
 ghost use lib.ListN.{getD};
 ghost use Rattle.runs.specs.declared.Stretch.{Stretch};
 ghost use Rattle.runs.specs.Level.{requiredLevel};
-ghost use Rattle.runs.specs.RunList.{envelopesOf, lastStation};
-ghost use Rattle.runs.specs.Stored.{StoredEnvelopes};
+ghost use Rattle.runs.specs.RunList.{lastStation};
+ghost use Rattle.runs.specs.Keys.{keyedEnvelopes, Keyed};
 ghost use Rattle.runs.specs.Sweep.{AllSound};
 ghost use Rattle.station_level.specs.Nearest.{NearestOf, hasStation};
 
-// What a pass over envelopes keeps for a station, by level, 0 to 6.
+// What a pass over envelopes keeps for a station, by level; none has level 7, which the last place of a key could say.
 pub struct Nearest {
     // The last end of the envelopes that start at or before the station: one that has it, or the nearest before it; 0 for none.
-    pub ends: [u64; 7],
+    pub ends: [u64; 8],
     // The first start of those behind it; the greatest number for none.
-    pub starts: [u64; 7],
+    pub starts: [u64; 8],
 }
 
 // One pass over the envelopes.
-fn nearest_to(envelopes: Envelopes, station: u64) -> Nearest
-    requires { ⌜ StoredEnvelopes envelopes ⌝ }
-    ensures { λ r. ⌜ NearestOf (envelopesOf envelopes) station r ⌝ }
+fn nearest_to(keys: &[u64], lasts: &[u64], count: usize, station: u64) -> Nearest
+    requires { ⌜ Keyed (now keys) (now lasts) count ⌝ }
+    ensures { λ r. ⌜ NearestOf (keyedEnvelopes (now (keys .entry)) (now (lasts .entry)) count) station r ⌝ }
 {
-    let mut ends: [u64; 7] = [0; 7];
-    let mut starts: [u64; 7] = [18446744073709551615; 7];
-    let count = envelopes.count;
+    let mut ends: [u64; 8] = [0; 8];
+    let mut starts: [u64; 8] = [18446744073709551615; 8];
     let mut i = 0;
     while i < count {
-        let start = envelopes.starts[i];
-        let end = envelopes.ends[i];
-        let level = envelopes.levels[i] as usize;
+        let key = keys[i];
+        let start = key / 2048;
+        let end = lasts[i];
+        let level = (key % 8) as usize;
         i += 1;
         if start <= station {
             ends[level] = max(ends[level], end);
@@ -75,11 +74,18 @@ fn highest_level(near: Nearest, continuity: u64, station: u64) -> u32
 }
 
 // The level that the envelopes require at the station.
-pub fn required_level(envelopes: Envelopes, continuity: u64, station: u64) -> u32
-    requires { ⌜ StoredEnvelopes envelopes ⌝ }
+pub fn required_level(
+    keys: &[u64],
+    lasts: &[u64],
+    count: usize,
+    continuity: u64,
+    station: u64,
+) -> u32
+    requires { ⌜ Keyed (now keys) (now lasts) count ⌝ }
+    requires { ⌜ AllSound (keyedEnvelopes (now keys) (now lasts) count) ⌝ }
     requires { ⌜ continuity ≤ 200000 ⌝ }
-    ensures { λ r. ⌜ r ≡ requiredLevel (envelopesOf envelopes) continuity station ⌝ }
+    ensures { λ r. ⌜ r ≡ requiredLevel (keyedEnvelopes (now (keys .entry)) (now (lasts .entry)) count) continuity station ⌝ }
 {
-    let near = nearest_to(envelopes, station);
+    let near = nearest_to(keys, lasts, count, station);
     highest_level(near, continuity, station)
 }

@@ -5,7 +5,7 @@ use mathlib.Core.Path.{_≡_, sym, ap, _∙_}
 use borrow.Author.Needs.{needs}
 use Rattle.base.specs.Answer.{accepted, refused}
 use Rattle.job.specs.Reply.{headerAt, headerAnswer}
-use Rattle.job.proofs.OpeningLaws.{opening-unread, opening-counted, opening-empty}
+use Rattle.job.proofs.OpeningLaws.{opening-unread, opening-counted, opening-over, opening-done}
 use Rattle.job.proofs.read.read_opening.Statement.{statement}
 use Rattle.job.proofs.read.read_opening.Tie as tie
 
@@ -19,14 +19,17 @@ returns c =
     ap (λ (n : ℕ). refused 3 n) (c .header-size .ensures) ∙ sym counted
 
 returns-2 : tie.Need-returns-2
-returns-2 c = c .read-to-end .ensures ∙ sym (opening-empty _ (read (c .before .before .before .before)) (omega (arith, c .before .if1 .left)))
+returns-2 c = sym (opening-over _ (read (c .before .before .before .before)) (omega (arith, c .before .if1 .left)) (c .if2 .taken))
 
 returns-3 : tie.Need-returns-3
-returns-3 c =
+returns-3 c = sym (opening-done _ (read (c .before .before .before .before)) (omega (arith, c .before .if1 .left)) (c .if2 .left))
+
+returns-4 : tie.Need-returns-4
+returns-4 c =
     let r = c .before .before .before in
     sym (opening-unread _ (c .before .refusal .given .0 .0) (sym (r .read-header .ensures) ∙ ap headerAnswer (c .before .refusal .given .1)))
 
 pub read-opening-spec : {M : Type 1} → statement M
 read-opening-spec =
     tie.close
-    (tie.spec (λ c κs. search needs) (λ c. search needs) (λ c κs. search needs) returns (λ c κs. search needs) (λ c. search needs) returns-2 returns-3)
+    (tie.spec (λ c κs. search needs) (λ c. search needs) (λ c κs. search needs) returns returns-2 (λ c. search needs) returns-3 returns-4)
