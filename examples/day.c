@@ -1,7 +1,7 @@
 /*
  * A controller's day, as a log: a job is opened in the morning, hazards are
  * added as the rod reaches them, two adds are refused and put right, a variant
- * is tried and taken back; then the inspector asks for the level underfoot, and
+ * is tried, with the sheets that it touches, and taken back; then the inspector asks for the level underfoot, and
  * the office for the schedule, the quantities of the contract's lots, the
  * panels of each run and the corner points of the drawing.
  *
@@ -178,6 +178,22 @@ static int survey(barrier_open_job *job)
            !add(job, &trees) && add(job, &trees_again) && print_schedule(job);
 }
 
+/* How far a withdrawal reaches: which sheets the office issues again; 0 if
+   refused. */
+static int print_reach(const barrier_open_job *job, uint16_t name)
+{
+    const barrier_reach_reply reply = barrier_open_reach(job, name);
+    if (reply.number != BARRIER_DONE)
+        return said("reach", BARRIER_HELP_OPEN_REACH, reply.number, reply.value);
+    if (reply.end == 0)
+        printf("    nobody reaches %u: nothing changes without it\n", (unsigned)name);
+    else
+        printf("    without %u only the %s side may change, from %s to %s m\n", (unsigned)name,
+               reply.side == BARRIER_RIGHT ? "right" : "left", metres(reply.from),
+               metres(reply.to));
+    return 1;
+}
+
 /* The trees 200 m farther on: tried, looked at, and taken back. */
 static int try_variant(barrier_open_job *job)
 {
@@ -185,6 +201,8 @@ static int try_variant(barrier_open_job *job)
     printf("Noon, a variant\n");
     reply = barrier_keep(job, 0);
     if (!said("keep 0", BARRIER_HELP_KEEP, reply.number, reply.value))
+        return 0;
+    if (!print_reach(job, 1031))
         return 0;
     reply = barrier_withdraw(job, 1031);
     if (!said("withdraw 1031", BARRIER_HELP_WITHDRAW, reply.number, reply.value))

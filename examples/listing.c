@@ -138,24 +138,20 @@ static int plan(void)
     return 0;
 }
 
-/* Stations from where the envelope of a single hazard begins, before it is cut,
-   to where it ends; 0 where nobody reaches the hazard. */
+/* Stations from where a hazard's envelope begins, before it is cut, to where it
+   ends; 0 where nobody reaches the hazard. */
 static int envelope_of(size_t index, int64_t *start, int64_t *end)
 {
-    static uint8_t alone[BARRIER_JOB_LONGEST], out[BARRIER_SCHEDULE_MAX];
-    const barrier_hazard hazard = job_turned(job.hazards[index].numbers);
-    const size_t length = barrier_help_write_job(&road, &hazard, 1, alone, sizeof alone);
-    barrier_plan_reply reply = barrier_plan(alone, length, hazard.side, out, sizeof out);
-    barrier_help_walk walk = barrier_help_walk_of(out, (size_t)reply.value);
-    barrier_help_run run;
-    if (reply.number != BARRIER_DONE || !barrier_help_next_run(&walk, &run))
+    const barrier_reach_reply reply = barrier_reach(job.bytes, job.length, index);
+    if (reply.number != BARRIER_DONE || reply.end == 0)
         return 0;
+    *start = (int64_t)reply.start - (int64_t)reply.before;
+    *end = (int64_t)reply.end + (int64_t)reply.after;
     if (job.stations_fall) {
-        run = barrier_help_turn_run(road.begin, road.end, run);
-        reply = barrier_help_turn_overhangs(reply);
+        const int64_t sum = (int64_t)(road.begin + road.end), turned = sum - *end;
+        *end = sum - *start;
+        *start = turned;
     }
-    *start = (int64_t)run.start - (int64_t)reply.before;
-    *end = (int64_t)run.end + (int64_t)reply.after;
     return 1;
 }
 

@@ -3,13 +3,15 @@
  *
  * A job goes in: one straight road and its roadside hazards.  A schedule comes
  * out: the runs of safety barrier along one side of the road, each with its
- * containment level.  There are fifteen calls:
+ * containment level.  There are seventeen calls:
  *
  *     barrier_plan           writes the schedule of one side of a job
  *     barrier_level          gives the level that a job requires at a station
  *     barrier_corners        gives the corner points of an approach to draw
  *     barrier_offset         gives the smallest barrier offset that keeps an
  *                            approach clear of a gate
+ *     barrier_reach          gives a hazard's envelope, and how far its
+ *                            withdrawal reaches
  *     barrier_quantity       counts the millimetres of one level in a range
  *     barrier_quantities     the same for all lots of a contract, in one walk
  *     barrier_lookup         finds the record of the run at a station
@@ -18,6 +20,7 @@
  *     barrier_add            adds a hazard to an open job
  *     barrier_withdraw       withdraws a hazard from an open job
  *     barrier_open_schedule  writes the schedule of one side of an open job
+ *     barrier_open_reach     gives the reach of a hazard that stands there
  *     barrier_keep           keeps the state of an open job under a number
  *     barrier_return         returns an open job to a state that is kept
  *     barrier_version        gives the version of the engine that is linked
@@ -106,10 +109,10 @@
  * rising stations.  A CARRIAGEWAY WHOSE TRAFFIC TRAVELS TOWARDS FALLING
  * STATIONS IS TURNED ROUND BY THE CALLER: a hazard or a range [s, e) is handed
  * over as [A + B - e, A + B - s), a station t that is asked for as
- * A + B - 1 - t, and left and right are exchanged.  Runs are turned back
- * in the same way as ranges, a corner's station x is A + B - x, and the
- * overhangs before and after change places.  barrier_help_turn_hazard, _run,
- * _station, _corner and _overhangs do it.
+ * A + B - 1 - t, and left and right are exchanged.  Runs, envelopes and the
+ * stretch of a withdrawal are turned back in the same way as ranges, a corner's
+ * station x is A + B - x, and the overhangs before and after change places.
+ * barrier_help_turn_hazard, _run, _station, _corner and _overhangs do it.
  *
  *     The sample job's hazard [200000, 210000) is handed over as
  *     [790000, 800000), and its run [745773, 800000) is [200000, 254227) of the
@@ -485,14 +488,14 @@
  * A hazard that is withdrawn, or left out of a job, changes levels only near
  * it: on its own side, from G millimetres before its envelope to G millimetres
  * after it.  The envelope is taken with its approaches in whole panels and cut
- * at the ends of the road: it is the one run that barrier_plan writes for a job
- * of the same header with only this hazard.  The stretch may begin below
- * station 0: calculate in signed numbers, or begin at 0.  At every other
- * millimetre the level is as before, so a sheet without a millimetre of that
- * stretch shows the same barrier.  The overhangs of that side may change, and
- * so may the records of runs that are partly in the stretch.  On the other
- * side, and on both where nobody reaches the hazard, schedule and overhangs
- * stay the same, byte for byte.
+ * at the ends of the road, and so is the stretch.  barrier_open_reach gives
+ * both for a hazard that stands, barrier_reach for one of a job: ask before the
+ * withdrawal.  At every other millimetre the level is as before, so a sheet
+ * without a millimetre of that stretch shows the same barrier and need not be
+ * issued again.  The overhangs of that side may change, and so may the records
+ * of runs that are partly in the stretch.  On the other side, and on both where
+ * nobody reaches the hazard, schedule and overhangs stay the same, byte for
+ * byte.
  *
  * A designer tries a variant and returns.  For this, up to eight states of an
  * open job can be kept in it, under the numbers 0 to 7: what stands, with its
@@ -555,11 +558,12 @@
  *                                       not the writing of a run list
  *     11      0                         more than 64 ranges
  *     12      the name                  it stands already (add), or does not
- *                                       stand (withdraw)
+ *                                       stand (withdraw, reach)
  *     13      0                         state number above 7; to return, also
  *                                       one under which nothing is kept
- *     14      0                         the job has no such hazard, or adjacent
- *                                       traffic does not reach it
+ *     14      0                         the job has no such hazard; for corners
+ *                                       and offset also one that adjacent
+ *                                       traffic does not reach
  *     15      0                         256 hazards stand already (add)
  *     16      0                         no panel length, more than four, or one
  *                                       that is not 1 to 20000
@@ -576,6 +580,7 @@
  *                            the job's numbers on, without 9; then 14
  *     barrier_offset         as barrier_plan from the job's numbers on, without
  *                            9; then 14
+ *     barrier_reach          the same
  *     barrier_quantity       8, then 10
  *     barrier_quantities     8, then 11, then 10
  *     barrier_lookup         8, then 10, of the asked side's schedule
@@ -586,6 +591,7 @@
  *                            and for 5
  *     barrier_withdraw       3 with 0, then 12
  *     barrier_open_schedule  3 with 0, then 8, then 9
+ *     barrier_open_reach     3 with 0, then 12
  *     barrier_keep           3 with 0, then 13
  *     barrier_return         3 with 0, then 13
  *
@@ -628,7 +634,8 @@
  * and panel lengths, as many numbers), also where they are too many; the output
  * has to be good for writing too.  A pointer may be NULL where its length is 0.
  * A pointer to an open job is never NULL; it has to be good for a whole
- * barrier_open_job, and for writing too, except in barrier_open_schedule.
+ * barrier_open_job, and for writing too, except in barrier_open_schedule and
+ * barrier_open_reach.
  * The output and an open job may overlap nothing else that is lent to the
  * call; buffers that are only read may overlap.  Ranges, panel lengths and an
  * open job are aligned as C aligns their types; bytes need no alignment.  The
@@ -643,11 +650,11 @@
  * thread changes a buffer that another call is using.  So on one open job only
  * one call at a time may open, add, withdraw, keep or return, and no other call
  * may run with it; calls on different open jobs do not touch each other.  One
- * call of barrier_plan, barrier_level, barrier_corners or barrier_offset takes
- * at most 40 KiB of stack, each of those on an open job at most 64 KiB, not
- * counting the open job itself, and each of the others less than 4 KiB.  The C
- * keeps to that from -O2 on; without optimisation compilers take more
- * (docs/PLATFORMS.md).
+ * call of barrier_plan, barrier_level, barrier_corners, barrier_offset or
+ * barrier_reach takes at most 40 KiB of stack, each of those on an open job at
+ * most 64 KiB, not counting the open job itself, and each of the others less
+ * than 4 KiB.  The C keeps to that from -O2 on; without optimisation compilers
+ * take more (docs/PLATFORMS.md).
  *
  * ---------------------------------------------------------------------------
  * PLATFORM AND LINKING
@@ -668,15 +675,15 @@
  * `pkg-config --cflags --libs barrier_engine` prints the flags; they name this
  * header's folder and the archive libbarrier_engine.a.  The archive is position
  * independent, so it links into programs and into shared libraries.  It exports
- * only the fifteen calls, and needs nothing from the C library but block copies
- * and fills (memcpy, memset and the like).
+ * only the seventeen calls, and needs nothing from the C library but block
+ * copies and fills (memcpy, memset and the like).
  *
  * The same engine is installed as a shared library too, libbarrier_engine.so.3,
  * where 3 is the version's first number: `pkg-config --cflags --libs
  * barrier_engine_shared` names it, and so does -lbarrier_engine, because
  * linkers prefer a shared library to an archive of the same name.
  *
- * In CMake, find_package(barrier_engine 3.2) gives the targets
+ * In CMake, find_package(barrier_engine 3.3) gives the targets
  * barrier_engine::barrier_engine, which is the archive, and
  * barrier_engine::shared.  Without an installation, add_subdirectory of the
  * repository gives barrier_engine::barrier_engine, compiled from the C.
@@ -753,13 +760,14 @@ extern "C" {
 
 /*
  * The version of the engine that this header belongs to ("Versions").  All
- * calls are there from 3.0.0 on, except two: barrier_layout from 3.1.0 on,
- * barrier_version from 3.2.0 on.
+ * calls are there from 3.0.0 on, except these: barrier_layout from 3.1.0 on,
+ * barrier_version from 3.2.0 on, barrier_reach and barrier_open_reach from
+ * 3.3.0 on.
  */
-#define BARRIER_VERSION "3.2.4"
+#define BARRIER_VERSION "3.3.0"
 #define BARRIER_VERSION_MAJOR 3
-#define BARRIER_VERSION_MINOR 2
-#define BARRIER_VERSION_PATCH 4
+#define BARRIER_VERSION_MINOR 3
+#define BARRIER_VERSION_PATCH 0
 
 /*
  * CONSTANTS
@@ -870,7 +878,7 @@ enum barrier_number {
 
 /*
  * What barrier_level, barrier_quantity and the calls on an open job reply,
- * except for its schedule.
+ * except for its schedule and a hazard's reach.
  *
  *     number    BARRIER_DONE, or the refusal's number
  *     value     done: the level (level), millimetres (quantity) or 0 (open,
@@ -1061,6 +1069,63 @@ typedef struct {
  */
 barrier_offset_reply barrier_offset(const uint8_t *job, size_t job_len, uint64_t hazard,
                                     uint64_t longest);
+
+/*
+ * What barrier_reach and barrier_open_reach reply.
+ *
+ *     number    BARRIER_DONE, or the refusal's number
+ *     value     done: 0; refused: the refusal's value
+ *     side      done: the hazard's side; refused: 0, as all that follows
+ *     start     done: its envelope is [start, end), cut at A and B; both are 0
+ *     end       where nobody reaches it
+ *     before    done: its own overhang before A, in millimetres, 0 where none
+ *     after     done: its own overhang after B, likewise
+ *     from      done: outside [from, to) its withdrawal changes no level of its
+ *     to        side; both are 0 where it has no envelope
+ */
+typedef struct {
+    uint64_t number;
+    uint64_t value;
+    uint64_t side;
+    uint64_t start;
+    uint64_t end;
+    uint64_t before;
+    uint64_t after;
+    uint64_t from;
+    uint64_t to;
+} barrier_reach_reply;
+
+/*
+ * Reach: the envelope of one hazard, and how far a withdrawal of it reaches.
+ *
+ *     job, job_len    the job's bytes
+ *     hazard          the hazard's index in the job, from 0
+ *
+ * Done: the hazard's side, its envelope and overhangs, and the stretch: from is
+ * the greater of A and start - G, to the lesser of B and end + G.  Where nobody
+ * reaches the hazard, its side is given, the other numbers are 0, and nothing
+ * changes anywhere without it; end is above 0 exactly where it is reached.
+ * Refused: 1 to 5, 7 or 14.
+ *
+ * The job without this hazard requires the same level at every millimetre
+ * outside [from, to), and on the other side everywhere.  So the sheets to issue
+ * again are those of this side with a millimetre of the stretch.  The job's
+ * other hazards do not count: inside the stretch, where they need barrier too,
+ * levels may stay as they are.  In an accepted job 14 is only for an index that
+ * it does not have.
+ *
+ *     The sample job, with other stations, near offsets and continuity limits:
+ *
+ *     hazard              n       G        envelope            before
+ *     [200000, 210000)    5000    0        [155773, 210000)    0
+ *     [200000, 210000)    5000    50000    [155773, 210000)    0
+ *     [20000, 30000)      5000    50000    [0, 30000)          24227
+ *     [200000, 210000)    9000    50000    none
+ *
+ *     and these stretches, in the same order: [155773, 210000),
+ *     [105773, 260000), [0, 80000) and none
+ */
+barrier_reach_reply barrier_reach(const uint8_t *job, size_t job_len, uint64_t hazard);
 
 /*
  * Quantity: how many millimetres of [p, q) have exactly that level.
@@ -1299,6 +1364,20 @@ barrier_plan_reply barrier_open_schedule(const barrier_open_job *job, uint64_t s
                                          uint8_t *out, size_t out_len);
 
 /*
+ * Reach in an open job: the envelope of a hazard that stands, and how far a
+ * withdrawal of it reaches, as barrier_reach gives them for a job of the hazards
+ * that stand.
+ *
+ *     job     the open job, which is only read
+ *     name    the name under which the hazard stands, 0 to BARRIER_NAME_MAX
+ *
+ * Done: the hazard's side, its envelope and overhangs, and the stretch outside
+ * which barrier_withdraw of this name changes no level of that side.
+ * Refused: 3 with 0, or 12 with the name.
+ */
+barrier_reach_reply barrier_open_reach(const barrier_open_job *job, uint16_t name);
+
+/*
  * Keep: keeps the hazards that stand in an open job, with their names, under a
  * state number.
  *
@@ -1325,7 +1404,7 @@ barrier_reply barrier_return(barrier_open_job *job, uint64_t state);
 
 /*
  * Version: that of the engine which is linked, or loaded, as one number:
- * MAJOR * 1000000 + MINOR * 1000 + PATCH, 3002004 for 3.2.4.  The macros
+ * MAJOR * 1000000 + MINOR * 1000 + PATCH, 3003000 for 3.3.0.  The macros
  * BARRIER_VERSION_MAJOR, BARRIER_VERSION_MINOR and BARRIER_VERSION_PATCH are
  * this header's; where the two differ, "Versions" says what may be done.
  */

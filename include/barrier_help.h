@@ -59,8 +59,8 @@
 
 #include "barrier.h"
 
-#if BARRIER_VERSION_MAJOR != 3 || BARRIER_VERSION_MINOR < 2
-#error "barrier_help.h belongs to barrier.h of version 3.2.0 or a later 3"
+#if BARRIER_VERSION_MAJOR != 3 || BARRIER_VERSION_MINOR < 3
+#error "barrier_help.h belongs to barrier.h of version 3.3.0 or a later 3"
 #endif
 
 /* Bytes that take every text of this file, and every number in bytes. */
@@ -97,7 +97,9 @@ enum barrier_help_call {
     BARRIER_HELP_WITHDRAW,
     BARRIER_HELP_OPEN_SCHEDULE,
     BARRIER_HELP_KEEP,
-    BARRIER_HELP_RETURN
+    BARRIER_HELP_RETURN,
+    BARRIER_HELP_REACH,
+    BARRIER_HELP_OPEN_REACH
 };
 
 /*
@@ -688,19 +690,21 @@ static inline size_t barrier_help_hazard_fault(uint64_t begin, uint64_t end,
 /* The name of a call in C. */
 static inline const char *barrier_help_call_name(enum barrier_help_call call)
 {
-    static const char *const names[14] = {
+    static const char *const names[16] = {
         "barrier_plan",     "barrier_level",         "barrier_corners", "barrier_offset",
         "barrier_quantity", "barrier_quantities",    "barrier_lookup",  "barrier_layout",
         "barrier_open",     "barrier_add",           "barrier_withdraw",
-        "barrier_open_schedule", "barrier_keep",     "barrier_return"};
-    return (unsigned)call < 14 ? names[(unsigned)call] : "no call";
+        "barrier_open_schedule", "barrier_keep",     "barrier_return",  "barrier_reach",
+        "barrier_open_reach"};
+    return (unsigned)call < 16 ? names[(unsigned)call] : "no call";
 }
 
 /* The calls that read a whole job from bytes; barrier_open reads a header. */
 static inline int barrier_help_p_reads_job(enum barrier_help_call call)
 {
     return call == BARRIER_HELP_PLAN || call == BARRIER_HELP_LEVEL ||
-           call == BARRIER_HELP_CORNERS || call == BARRIER_HELP_OFFSET;
+           call == BARRIER_HELP_CORNERS || call == BARRIER_HELP_OFFSET ||
+           call == BARRIER_HELP_REACH;
 }
 
 static inline int barrier_help_p_reads_bytes(enum barrier_help_call call)
@@ -720,7 +724,7 @@ static inline int barrier_help_p_tests_memory(enum barrier_help_call call)
 {
     return call == BARRIER_HELP_ADD || call == BARRIER_HELP_WITHDRAW ||
            call == BARRIER_HELP_OPEN_SCHEDULE || call == BARRIER_HELP_KEEP ||
-           call == BARRIER_HELP_RETURN;
+           call == BARRIER_HELP_RETURN || call == BARRIER_HELP_OPEN_REACH;
 }
 
 /*
@@ -751,11 +755,13 @@ static inline int barrier_help_p_given(enum barrier_help_call call, uint64_t num
     case BARRIER_TOO_MANY_RANGES:
         return call == BARRIER_HELP_QUANTITIES;
     case BARRIER_NAME:
-        return call == BARRIER_HELP_ADD || call == BARRIER_HELP_WITHDRAW;
+        return call == BARRIER_HELP_ADD || call == BARRIER_HELP_WITHDRAW ||
+               call == BARRIER_HELP_OPEN_REACH;
     case BARRIER_STATE:
         return call == BARRIER_HELP_KEEP || call == BARRIER_HELP_RETURN;
     case BARRIER_NO_APPROACH:
-        return call == BARRIER_HELP_CORNERS || call == BARRIER_HELP_OFFSET;
+        return call == BARRIER_HELP_CORNERS || call == BARRIER_HELP_OFFSET ||
+               call == BARRIER_HELP_REACH;
     case BARRIER_FULL:
         return call == BARRIER_HELP_ADD;
     case BARRIER_LENGTHS:
@@ -817,7 +823,8 @@ static inline const char *barrier_help_p_says(enum barrier_help_call call, uint6
                    ? "the state number is above 7"
                    : "the state number is above 7, or nothing is kept under it";
     case BARRIER_NO_APPROACH:
-        return "no such hazard, or adjacent traffic does not reach it";
+        return call == BARRIER_HELP_REACH ? "there is no such hazard in the job"
+                                          : "no such hazard, or adjacent traffic does not reach it";
     case BARRIER_FULL:
         return "256 hazards stand already";
     case BARRIER_LENGTHS:
@@ -893,8 +900,10 @@ static inline const char *barrier_help_p_mends(enum barrier_help_call call, uint
                                          : "return to a number from 0 to 7 that was kept since the "
                                            "job was opened";
     case BARRIER_NO_APPROACH:
-        return "hazards count from 0 in the job's order; one whose near offset n is not below the "
-               "clear-zone width C has no such approach";
+        return call == BARRIER_HELP_REACH
+                   ? "hazards count from 0 in the job's order"
+                   : "hazards count from 0 in the job's order; one whose near offset n is not "
+                     "below the clear-zone width C has no such approach";
     case BARRIER_FULL:
         return "withdraw a hazard first";
     case BARRIER_LENGTHS:

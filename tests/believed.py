@@ -26,7 +26,8 @@ CALLS = {
     "station_level/src/level.rt": ["level"],
     "corners/src/call.rt": ["corners"],
     "clear_offset/src/offset.rt": ["smallest_offset"],
-    "open_job/src/calls.rt": ["open", "add", "withdraw", "schedule", "test_state", "return_to"],
+    "withdrawal/src/reach.rt": ["reach"],
+    "open_job/src/calls.rt": ["open", "add", "withdraw", "schedule", "reach", "test_state", "return_to"],
     "panels/src/layout.rt": ["layout"],
     "barrier_engine/src/lib.rt": [],
     "barrier_engine/src/open.rt": [],
@@ -38,7 +39,7 @@ CALLS = {
 ORDER = (
     "base refusal number job approach planning runs schedule queries demands report barrier "
     "open_memory open_job open_promises station_level corners "
-    "clear_offset panels replies as_before"
+    "clear_offset withdrawal panels replies as_before"
 ).split()
 
 # Names that stand between their arguments.

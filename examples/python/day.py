@@ -17,7 +17,7 @@ from typing import List, Sequence, Tuple
 
 import needs_package  # noqa: F401
 import barrier_engine as engine
-from barrier_engine import Hazard, Header, OpenJob, Refused, Rounding, Schedule, Side
+from barrier_engine import Hazard, Header, OpenJob, Reach, Refused, Rounding, Schedule, Side
 
 # A two-way kilometre; approaches in whole panels of 4 m, gaps below 30 m closed.
 HEADER = Header(
@@ -85,11 +85,22 @@ def morning(job: OpenJob) -> None:
     show_schedule(job)
 
 
+def show_reach(name: int, found: Reach) -> None:
+    """Which sheets the office has to issue again: those that have any of the stretch."""
+    if found.stretch is None:
+        print(f"  without drawing {name} nothing changes: nobody reaches it")
+    else:
+        start, end = (engine.metres(station) for station in found.stretch)
+        print(f"  without drawing {name} only the {found.side.name.lower()} side may change, "
+              f"{start} to {end} m")
+
+
 def variant(job: OpenJob) -> None:
     print("Noon: what if the culvert were piped and the tree felled?")
     job.keep(MORNING)
-    job.withdraw(CULVERT)
-    job.withdraw(TREE)
+    for name in (CULVERT, TREE):
+        show_reach(name, job.reach(name))
+        job.withdraw(name)
     show_schedule(job)
     job.return_to(MORNING)
     print(f"  taken back; standing: {', '.join(str(name) for name in job.hazards)}")

@@ -3,7 +3,7 @@
 
     picture.py [JOB] [-o OUT.svg] [--name NAME] [--lots STATION STATION ...]
                [--from STATION --to STATION] [--sheet METRES] [--dxf OUT.dxf]
-               [--stations km]
+               [--stations km] [--without HAZARD]
 
 JOB is a file with a job's bytes or its text form (examples/README.md); - or
 nothing is standard input.  Stations are metres in decimal text, like 1000.250,
@@ -14,7 +14,10 @@ long road, with its own tables.  --sheet draws the road in sheets of so many
 metres, each an A3 page across: OUT-01.svg, OUT-02.svg and so on, and
 OUT-02-2.svg where the tables of a sheet take another page.  --dxf writes the
 hazards, runs and approaches as lines for a CAD program, and no picture unless
--o is given too.  --stations km writes stations as 1+000.250.
+-o is given too.  --stations km writes stations as 1+000.250.  --without shades
+the stretch outside which nothing alters when a hazard, by its index in the job
+or by its name, is withdrawn, and says it on standard error, with the sheets to
+be issued again where there are sheets; the hazard is still drawn.
 
 Ends with 0; with 1 where the engine refuses the job, which is said on standard
 error, and nothing is written; with 2 where the words are wrong, the job cannot
@@ -27,6 +30,7 @@ import errno
 import os
 import stat
 import sys
+from dataclasses import replace
 from typing import List, Optional, Tuple
 
 import needs_package  # noqa: F401
@@ -35,7 +39,9 @@ from barrier_engine import (
     hazard_fault, millimetres, read_job, station_of_kilometres,
 )
 from barrier_engine.job_text import INPUT_MAX
-from barrier_picture import SHEETS_MAX, Scene, dxf, parts_of, picture, scene_of, sheets
+from barrier_picture import (
+    SHEETS_MAX, Scene, dxf, hazard_called, parts_of, picture, scene_of, sentences, sheets,
+)
 
 STATION_MAX = 1000000000000
 USAGE, REFUSED = 2, 1
@@ -79,6 +85,8 @@ def parser() -> argparse.ArgumentParser:
     found.add_argument("--dxf", metavar="FILE", help="hazards, runs and approaches for CAD")
     found.add_argument("--stations", choices=("metres", "km"), default="metres",
                        help="km: stations as 1+250.000")
+    found.add_argument("--without", metavar="HAZARD",
+                       help="an index or a name: shades what its withdrawal may alter")
     return found
 
 
@@ -204,16 +212,21 @@ def draw(asked: argparse.Namespace, job: TextJob) -> int:
     window: Optional[Tuple[int, int]] = None if asked.first is None else (asked.first, asked.last)
     name = asked.name or ("A job" if asked.job == "-" else os.path.basename(asked.job))
     scene = scene_of(job, asked.lots, window, asked.stations == "km")
-    if asked.sheet is not None and len(parts_of(scene, asked.sheet)) > SHEETS_MAX:
+    if asked.without is not None:
+        scene = replace(scene, without=hazard_called(scene.hazards, asked.without))
+    parts = None if asked.sheet is None else parts_of(scene, asked.sheet)
+    if parts is not None and len(parts) > SHEETS_MAX:
         say(f"that would be more than {SHEETS_MAX} sheets: ask for longer ones, or for a part of "
             "the road with --from and --to")
         return USAGE
-    if asked.sheet is not None and not parts_of(scene, asked.sheet):
+    if parts is not None and not parts:
         say("no part of the road lies between --from and --to")
         return USAGE
     for warning in warnings(scene):
         say(f"warning: {warning}")
     outputs(asked, scene, name)
+    for sentence in sentences(scene, parts):
+        say(sentence[0].lower() + sentence[1:].rstrip("."))
     return 0
 
 

@@ -142,6 +142,7 @@ class Compare:
             self.both('corners', job, k, 160000, 4000)
             self.both('offset', job, k, 44227)
             self.both('offset', job, k, 1)
+            self.both('reach', job, k)
         self.both('layout', [4000, 2500, 1700, 900], 9000, 40)
         self.both('version')
         memory = bytearray(b'\x5a' * OPEN_JOB)
@@ -157,6 +158,8 @@ class Compare:
             self.both('open_schedule', ('job', memory), side, bytearray(80))
         self.both('return', ('job', memory), 2)
         self.both('open_schedule', ('job', memory), 0, bytearray(3))
+        for name in (7, 8, 65535):
+            self.both('open_reach', ('job', memory), ('u16', name))
 
     def round(self):
         r = self.r.randint
@@ -186,6 +189,7 @@ class Compare:
         self.both('level', job, r(0, 2), station())
         self.both('corners', job, r(0, max(1, n)), r(0, 2 * 10 ** 12), r(0, 100000))
         self.both('offset', job, r(0, max(1, n)), r(0, 200000))
+        self.both('reach', job, self.r.choice([r(0, max(1, n)), 2 ** 64 - 1]))
         self.both('layout', [r(0, 20500) if r(0, 9) == 0 else r(1, 20000) for _ in range(r(0, 5))], self.r.choice([r(0, 100000), r(0, 2 ** 64 - 1)]), r(0, 60))
         self.both('version')
         self.open_job()
@@ -206,6 +210,7 @@ class Compare:
         if r(0, 5) == 0:
             memory[r(0, len(memory) - 1)] ^= 1
         self.both('open_schedule', ('job', memory), r(0, 2), bytearray(600))
+        self.both('open_reach', ('job', memory), ('u16', r(0, 6)))
 
 
 def main():

@@ -1,8 +1,9 @@
 /*
  * The header lets a pointer be NULL where its length is 0. Each such pointer of
- * each call but barrier_corners, barrier_offset and barrier_layout (corners.c,
- * offset.c, layout.c), and the reply that document 01's table has for it; and the
- * states of an open job without hazards. Ends with 1 where a reply is another.
+ * each call but barrier_corners, barrier_offset, barrier_layout and barrier_reach
+ * (corners.c, offset.c, layout.c, reach.c), and the reply that document 01's
+ * table has for it; and the states of an open job without hazards. Ends with 1
+ * where a reply is another.
  */
 #include <barrier.h>
 #include <stdio.h>

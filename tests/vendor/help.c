@@ -437,7 +437,7 @@ static void test_rooms(enum barrier_help_call call, uint64_t number, uint64_t va
 static const struct {
     enum barrier_help_call call;
     const char *numbers; /* z stands for 3 with 0, 3 for the others */
-} orders[14] = {{BARRIER_HELP_PLAN, " 8 1 2 3 4 7 5 9 "},
+} orders[16] = {{BARRIER_HELP_PLAN, " 8 1 2 3 4 7 5 9 "},
                 {BARRIER_HELP_LEVEL, " 8 1 2 3 4 7 5 "},
                 {BARRIER_HELP_CORNERS, " 8 1 2 3 4 7 5 14 "},
                 {BARRIER_HELP_OFFSET, " 1 2 3 4 7 5 14 "},
@@ -450,7 +450,9 @@ static const struct {
                 {BARRIER_HELP_WITHDRAW, " z 12 "},
                 {BARRIER_HELP_OPEN_SCHEDULE, " z 8 9 "},
                 {BARRIER_HELP_KEEP, " z 13 "},
-                {BARRIER_HELP_RETURN, " z 13 "}};
+                {BARRIER_HELP_RETURN, " z 13 "},
+                {BARRIER_HELP_REACH, " 1 2 3 4 7 5 14 "},
+                {BARRIER_HELP_OPEN_REACH, " z 12 "}};
 
 static int is_given(const char *numbers, uint64_t number, uint64_t value)
 {
@@ -465,7 +467,7 @@ static void test_given(void)
 {
     int call;
     uint64_t number;
-    for (call = 0; call < 14; call++)
+    for (call = 0; call < 16; call++)
         for (number = 1; number <= 20; number++) {
             uint64_t value;
             for (value = 0; value < 2; value++) {
@@ -507,6 +509,7 @@ static void test_words(void)
     size_t length;
     barrier_reply reply;
     barrier_plan_reply planned;
+    barrier_reach_reply reached;
 
     /* Memory that was never opened: not a header's number. */
     memset(&open, 0xFF, sizeof open);
@@ -554,6 +557,16 @@ static void test_words(void)
     /* A name, a state, the argument of each kind of call. */
     reply = barrier_withdraw(&open, 65535);
     says(BARRIER_HELP_WITHDRAW, reply.number, reply.value, "the name 65535 does not stand", "it was");
+    reached = barrier_open_reach(&open, 65535);
+    says(BARRIER_HELP_OPEN_REACH, reached.number, reached.value, "the name 65535 does not stand",
+         "it was");
+    reached = barrier_reach(job, length, 1);
+    says(BARRIER_HELP_REACH, reached.number, reached.value,
+         "hazard 0 leaves the barrier no room to deflect", "its near offset n");
+    length = barrier_help_write_job(&header, &headwall, 1, job, sizeof job);
+    reached = barrier_reach(job, length, 1);
+    says(BARRIER_HELP_REACH, reached.number, reached.value, "there is no such hazard in the job",
+         "hazards count from 0");
     expect("add", barrier_add(&open, 9, headwall).number == BARRIER_DONE);
     reply = barrier_add(&open, 9, headwall);
     says(BARRIER_HELP_ADD, reply.number, reply.value, "the name 9 stands already", "take another");

@@ -260,6 +260,41 @@ static void layouts(void)
     long_run(two, 212000, 41);
 }
 
+/* A row of the table of reaches: the hazard and its envelope; its stretch. */
+static barrier_reach_reply reach_of(uint64_t start, uint64_t end, uint64_t near_offset,
+                                    uint64_t continuity)
+{
+    barrier_help_header header = sample;
+    barrier_hazard hazard = with_stations(start, end);
+    barrier_reach_reply reply;
+    header.continuity = continuity;
+    hazard.near_offset = near_offset;
+    job_len = barrier_help_write_job(&header, &hazard, 1, job, sizeof job);
+    reply = barrier_reach(job, job_len, 0);
+    if (reply.number != BARRIER_DONE || reply.after != 0)
+        stop("a reach is not on its road");
+    printf("[%" PRIu64 ", %" PRIu64 ") %" PRIu64 " %" PRIu64, start, end, near_offset, continuity);
+    if (reply.end == 0)
+        printf(" none\n");
+    else
+        printf(" [%" PRIu64 ", %" PRIu64 ") %" PRIu64 "\n", reply.start, reply.end, reply.before);
+    return reply;
+}
+
+static void reaches(void)
+{
+    const barrier_reach_reply rows[3] = {reach_of(200000, 210000, 5000, 0),
+                                         reach_of(200000, 210000, 5000, 50000),
+                                         reach_of(20000, 30000, 5000, 50000)};
+    int i;
+    if (reach_of(200000, 210000, 9000, 50000).to != 0)
+        stop("a hazard that nobody reaches has a stretch");
+    printf("and these stretches, in the same order: ");
+    for (i = 0; i < 3; i++)
+        printf("[%" PRIu64 ", %" PRIu64 ")%s", rows[i].from, rows[i].to,
+               i < 2 ? ", " : " and none\n");
+}
+
 /* A run of two hazards begins where its upstream hazard's approach does, and the
    other one's approach begins inside it. */
 static void two_hazards(void)
@@ -334,6 +369,7 @@ int main(void)
     point();
     first_fault();
     layouts();
+    reaches();
     two_hazards();
     flare_of_two();
     return 0;

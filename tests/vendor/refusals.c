@@ -11,7 +11,7 @@ int main(void)
 {
     static const uint64_t values[] = {0, 1, 7, 13, 14, 15, 16};
     unsigned call;
-    for (call = BARRIER_HELP_PLAN; call <= BARRIER_HELP_RETURN; call++) {
+    for (call = BARRIER_HELP_PLAN; call <= BARRIER_HELP_OPEN_REACH; call++) {
         uint64_t number;
         for (number = 0; number <= 18; number++) {
             size_t i;

@@ -12,7 +12,7 @@ fail() {
 
 $CC -std=c99 -O2 -Wall -Wextra -Werror -pedantic -Iinclude tests/vendor/refusals.c -o "$tmp/refusals"
 "$tmp/refusals" >"$tmp/rows"
-[ "$(wc -l <"$tmp/rows")" -eq 1862 ] || fail "not 14 calls by 19 numbers by 7 values"
+[ "$(wc -l <"$tmp/rows")" -eq 2128 ] || fail "not 16 calls by 19 numbers by 7 values"
 [ "$(sed 's/.*: //' "$tmp/rows" | sort -u | wc -l)" -gt 60 ] || fail "too few texts"
 BARRIER_REFUSALS="$tmp/rows" BARRIER_LIB_DIR="$LIBDIR" cargo test --quiet --locked --manifest-path bindings/rust/Cargo.toml --target-dir "$BUILD/rust" --test refusals >"$tmp/said" 2>&1 || {
     cat "$tmp/said" >&2
@@ -26,7 +26,7 @@ fi
 cat >"$tmp/rows.py" <<'END'
 from barrier_engine.refused import refusal, remedy
 CALLS = ("plan", "level", "corners", "offset", "quantity", "quantities", "lookup", "layout", "open", "add",
-         "withdraw", "open_schedule", "keep", "return")
+         "withdraw", "open_schedule", "keep", "return", "reach", "open_reach")
 for call in (f"barrier_{name}" for name in CALLS):
     for number in range(19):
         for value in (0, 1, 7, 13, 14, 15, 16):
@@ -34,4 +34,4 @@ for call in (f"barrier_{name}" for name in CALLS):
 END
 PYTHONPATH=bindings/python python3 "$tmp/rows.py" >"$tmp/python" || fail "the rows in Python end with $?"
 diff "$tmp/rows" "$tmp/python" || fail "Python has other words"
-echo "refusals: 1862 rows in words, the same in C, Rust and Python"
+echo "refusals: 2128 rows in words, the same in C, Rust and Python"

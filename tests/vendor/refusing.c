@@ -23,6 +23,8 @@ enum {
     open_schedule,
     keep,
     return_to,
+    reach,
+    open_reach,
     version
 };
 
@@ -198,6 +200,25 @@ barrier_reply barrier_return(barrier_open_job *job, uint64_t state)
     (void)job;
     (void)state;
     return REFUSED == return_to ? refused : done;
+}
+
+/* Numbers that differ, so that it shows where two are exchanged. */
+barrier_reach_reply barrier_reach(const uint8_t *job, size_t job_len, uint64_t hazard)
+{
+    const barrier_reach_reply done = {BARRIER_DONE, 0, 1, 2, 3, 4, 5, 6, 7};
+    const barrier_reach_reply refused = {BARRIER_NO_APPROACH, 0, 0, 0, 0, 0, 0, 0, 0};
+    (void)job;
+    (void)job_len;
+    (void)hazard;
+    return REFUSED == reach ? refused : done;
+}
+
+barrier_reach_reply barrier_open_reach(const barrier_open_job *job, uint16_t name)
+{
+    const barrier_reach_reply done = {BARRIER_DONE, 0, 1, 2, 3, 4, 5, 6, 7};
+    const barrier_reach_reply refused = {BARRIER_NAME, name, 0, 0, 0, 0, 0, 0, 0};
+    (void)job;
+    return REFUSED == open_reach ? refused : done;
 }
 
 /* An engine that is not one for this header. */

@@ -4,10 +4,11 @@
  * comes from standard input; BARRIER_STACK_MAX bytes have to suffice for
  * planning it, into a large output and into one of exactly its schedule's
  * length, where the bytes needed are counted first, for its level at a
- * station, for its last hazard's corners and offset, for the queries, and for
- * every layout of four panel lengths; BARRIER_OPEN_STACK_MAX for an open job to which the job's hazards are added
- * one by one, and in which they are kept eight times. Where a reply is large,
- * its room in the caller counts too.
+ * station, for its last hazard's corners, offset and reach, for the queries, and
+ * for every layout of four panel lengths; BARRIER_OPEN_STACK_MAX for an open job
+ * to which the job's hazards are added one by one, and in which they are kept
+ * eight times, and for its last hazard's reach. Where a reply is large, its room
+ * in the caller counts too.
  *
  * Ends with 1 where a call takes more, with 2 where one is refused.
  */
@@ -35,6 +36,7 @@ static barrier_reply level_found, counted;
 static barrier_quantities_reply priced;
 static barrier_corners_reply drawn;
 static barrier_offset_reply cleared;
+static barrier_reach_reply reached, reached_open;
 static barrier_record found;
 static barrier_layout_reply laid;
 static barrier_open_job open_job, whole_job;
@@ -77,6 +79,11 @@ static void offset(void)
     cleared = barrier_offset(job, job_length, BARRIER_HAZARDS_MAX - 1, 0);
 }
 
+static void reach(void)
+{
+    reached = barrier_reach(job, job_length, BARRIER_HAZARDS_MAX - 1);
+}
+
 static void quantity(void)
 {
     counted = barrier_quantity(schedule, planned.value, BARRIER_NC_1, 0, BARRIER_STATION_MAX);
@@ -117,6 +124,11 @@ static void withdraw_last(void)
 static void schedule_open(void)
 {
     scheduled = barrier_open_schedule(&whole_job, BARRIER_RIGHT, schedule, sizeof schedule);
+}
+
+static void reach_open(void)
+{
+    reached_open = barrier_open_reach(&whole_job, last_name);
 }
 
 static void keep(void)
@@ -217,6 +229,7 @@ int main(void)
     well &= suffices("level", level, BARRIER_STACK_MAX);
     well &= suffices("corners", corners, BARRIER_STACK_MAX);
     well &= suffices("offset", offset, BARRIER_STACK_MAX);
+    well &= suffices("reach", reach, BARRIER_STACK_MAX);
     well &= suffices("quantity", quantity, BARRIER_STACK_MAX);
     well &= suffices("quantities", quantities, BARRIER_STACK_MAX);
     well &= suffices("lookup", lookup, BARRIER_STACK_MAX);
@@ -227,6 +240,7 @@ int main(void)
     well &= suffices("withdraw", withdraw_last, BARRIER_OPEN_STACK_MAX);
     well &= suffices("return", return_to_kept, BARRIER_OPEN_STACK_MAX);
     well &= suffices("schedule of an open job", schedule_open, BARRIER_OPEN_STACK_MAX);
+    well &= suffices("reach in an open job", reach_open, BARRIER_OPEN_STACK_MAX);
     well &= suffices("open", open_empty, BARRIER_OPEN_STACK_MAX);
     all_done = done("plan with an output of exactly its length", exact.number);
     all_done &= done("level", level_found.number);
@@ -235,6 +249,7 @@ int main(void)
         all_done &= done("corners", drawn.number);
     if (cleared.number != BARRIER_NO_APPROACH)
         all_done &= done("offset", cleared.number);
+    all_done &= done("reach", reached.number);
     all_done &= done("quantity", counted.number);
     all_done &= done("quantities", priced.number);
     all_done &= done("lookup", found.number);
@@ -244,6 +259,7 @@ int main(void)
     all_done &= done("withdraw", withdrawn.number);
     all_done &= done("return", returned.number);
     all_done &= done("schedule of an open job", scheduled.number);
+    all_done &= done("reach in an open job", reached_open.number);
     all_done &= done("open", opened.number);
     if (!all_done)
         return 2;

@@ -9,8 +9,8 @@ __version__ is the package's version, version() that of the library.
 """
 from .c import LibraryError
 from .calls import (
-    TRIES_MAX, Corner, Corners, Laid, Layout, Quantities, Record, Version, Written,
-    corners, layout, level, lookup, offset, plan, plan_into, quantities, quantity, version,
+    TRIES_MAX, Corner, Corners, Laid, Layout, Quantities, Reach, Record, Version, Written,
+    corners, layout, level, lookup, offset, plan, plan_into, quantities, quantity, reach, version,
 )
 from .job import Hazard, Header, Job, Side
 from .job_text import TextJob, bytes_of_text, read_job, read_text, text_of_job
@@ -26,16 +26,16 @@ from .turning import (
     turn_station,
 )
 
-__version__ = "3.2.4"
+__version__ = "3.3.0"
 
 __all__ = [
     "HAZARD_NUMBERS", "SCHEDULE_MAX", "TRIES_MAX", "Corner", "Corners", "Hazard", "Header", "Job",
     "Laid", "Layout", "LibraryError", "Malformed", "Number", "OpenJob", "Orientation",
-    "PlannedHazard", "PlannedRoad", "PlannedSide", "Quantities", "Record", "Refused", "Rounding",
-    "Run", "Schedule", "Side", "TextJob", "Version", "Written", "bytes_of_runs", "bytes_of_text",
-    "corners", "csv_tables", "get_number", "hazard_fault", "hazards_csv", "kilometres", "layout",
+    "PlannedHazard", "PlannedRoad", "PlannedSide", "Quantities", "Reach", "Record", "Refused",
+    "Rounding", "Run", "Schedule", "Side", "TextJob", "Version", "Written", "bytes_of_runs",
+    "bytes_of_text", "corners", "csv_tables", "get_number", "hazard_fault", "hazards_csv", "kilometres", "layout",
     "level", "lookup", "metres", "millimetres", "offset", "overhangs_csv", "plan", "plan_into",
-    "plan_road", "put_number", "quantities", "quantities_csv", "quantity", "read_job",
+    "plan_road", "put_number", "quantities", "quantities_csv", "quantity", "reach", "read_job",
     "read_text", "refusal", "remedy", "runs_csv", "runs_of_bytes", "station_of_kilometres",
     "swap_side", "text_of_job", "turn_corner", "turn_hazard", "turn_overhangs", "turn_range",
     "turn_run", "turn_station", "version",

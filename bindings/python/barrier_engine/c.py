@@ -61,6 +61,14 @@ class OffsetReply(Structure):
     _fields_ = [("number", c_uint64), ("value", c_uint64), ("found", c_uint64)]
 
 
+class ReachReply(Structure):
+    _fields_ = [
+        ("number", c_uint64), ("value", c_uint64), ("side", c_uint64),
+        ("start", c_uint64), ("end", c_uint64), ("before", c_uint64), ("after", c_uint64),
+        ("from", c_uint64), ("to", c_uint64),
+    ]
+
+
 class LayoutReply(Structure):
     _fields_ = [
         ("number", c_uint64), ("value", c_uint64), ("found", c_uint64), ("overrun", c_uint64),
@@ -107,6 +115,7 @@ STRUCTS: Dict[str, Any] = {
     "barrier_corner": Corner,
     "barrier_corners_reply": CornersReply,
     "barrier_offset_reply": OffsetReply,
+    "barrier_reach_reply": ReachReply,
     "barrier_layout_reply": LayoutReply,
     "barrier_hazard": Hazard,
     "barrier_place": Place,
@@ -128,6 +137,7 @@ CALLS: Dict[str, Tuple[Any, List[Any]]] = {
     "barrier_level": (Reply, _BYTES + 2 * _U64),
     "barrier_corners": (CornersReply, _BYTES + 3 * _U64),
     "barrier_offset": (OffsetReply, _BYTES + 2 * _U64),
+    "barrier_reach": (ReachReply, _BYTES + _U64),
     "barrier_quantity": (Reply, _BYTES + 3 * _U64),
     "barrier_quantities": (QuantitiesReply, _BYTES + _U64 + _NUMBERS),
     "barrier_lookup": (Record, _BYTES + _BYTES + 2 * _U64),
@@ -136,6 +146,7 @@ CALLS: Dict[str, Tuple[Any, List[Any]]] = {
     "barrier_add": (Reply, _OPEN + [c_uint16, Hazard]),
     "barrier_withdraw": (Reply, _OPEN + [c_uint16]),
     "barrier_open_schedule": (PlanReply, _OPEN + _U64 + _OUTPUT),
+    "barrier_open_reach": (ReachReply, _OPEN + [c_uint16]),
     "barrier_keep": (Reply, _OPEN + _U64),
     "barrier_return": (Reply, _OPEN + _U64),
 }
@@ -198,7 +209,7 @@ def _declare(library: ctypes.CDLL, path: str) -> None:
             call = getattr(library, name)
         except AttributeError:
             raise LibraryError(
-                f"{path} has no call {name}: it is not the engine, or older than version 3.1.0. "
+                f"{path} has no call {name}: it is not the engine, or older than version 3.3.0. "
                 + _HOW_TO_NAME
             ) from None
         call.restype, call.argtypes = reply, arguments

@@ -13,7 +13,7 @@ from dataclasses import dataclass
 from typing import Any, List, NamedTuple, Optional, Sequence, Tuple
 
 from . import c
-from .job import JobLike, job_bytes
+from .job import JobLike, Side, job_bytes
 from .refused import refuse_unless_done
 from .schedule import SCHEDULE_MAX, Schedule, ScheduleLike, schedule_bytes
 
@@ -49,6 +49,22 @@ class Corners:
     upstream: Corner
     flare: Corner
     hazard: Corner
+
+
+@dataclass(frozen=True)
+class Reach:
+    """What traffic makes of a hazard, and how far its withdrawal reaches.
+
+    envelope is [start, end), cut at the road's ends; outside of stretch, a range
+    too, a withdrawal alters no level of that side, and on the other side nothing
+    anywhere.  Both are None where nobody reaches the hazard: nothing alters.
+    """
+
+    side: Side
+    envelope: Optional[Tuple[int, int]]
+    before: int  # its own overhang before the road, in millimetres
+    after: int  # its own overhang after the road, in millimetres
+    stretch: Optional[Tuple[int, int]]
 
 
 @dataclass(frozen=True)
@@ -164,6 +180,22 @@ def offset(job: JobLike, hazard: int, longest: int) -> Optional[int]:
         data, len(data), c.u64(hazard, "a hazard's index"), c.u64(longest, "a longest approach"))
     refuse_unless_done(reply.number, reply.value, "barrier_offset")
     return int(reply.value) if reply.found else None
+
+
+def reached(reply: Any, call: str) -> Reach:
+    refuse_unless_done(reply.number, reply.value, call)
+    side = Side(reply.side)
+    if reply.end == 0:  # an envelope has at least the hazard, so there is none
+        return Reach(side, None, 0, 0, None)
+    return Reach(side, (reply.start, reply.end), reply.before, reply.after,
+                 (getattr(reply, "from"), reply.to))
+
+
+def reach(job: JobLike, hazard: int) -> Reach:
+    """The envelope of a hazard, by its index, and how far its withdrawal reaches."""
+    data = job_bytes(job)
+    reply = c.library().barrier_reach(data, len(data), c.u64(hazard, "a hazard's index"))
+    return reached(reply, "barrier_reach")
 
 
 def quantity(schedule: ScheduleLike, level: int, p: int, q: int) -> int:

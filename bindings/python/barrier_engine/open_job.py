@@ -6,7 +6,7 @@ import threading
 from typing import Any, Dict, Union
 
 from . import c
-from .calls import Written, lent, written
+from .calls import Reach, Written, lent, reached, written
 from .job import Hazard, Header, Job, JobLike, job_bytes
 from .refused import refuse_unless_done
 from .schedule import SCHEDULE_MAX, Schedule
@@ -84,6 +84,14 @@ class OpenJob:
         out = bytearray(SCHEDULE_MAX)
         done = self.schedule_into(side, out)
         return Schedule(bytes(out[: done.written]), done.before, done.after)
+
+    def reach(self, name: int) -> Reach:
+        """The envelope of the hazard under a name, and how far its withdrawal reaches:
+        asked before it is withdrawn."""
+        number = c.u16_name(name)
+        with self._lock:
+            reply = c.library().barrier_open_reach(ctypes.byref(self._memory), number)
+        return reached(reply, "barrier_open_reach")
 
     def copy(self) -> OpenJob:
         """Another open job in which the same stands and the same is kept."""

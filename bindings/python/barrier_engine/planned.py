@@ -2,8 +2,8 @@
 
 Where a text says `drives left` or `stations fall`, the engine is given the job
 swapped or turned; here all that it replies is swapped and turned back.  Nothing
-is calculated that the engine can say: a hazard's envelope is the run of a job
-with only this hazard, before it is cut at the road's ends.
+is calculated that the engine can say: a hazard's envelope is what the engine
+replies, with its overhangs at the road's ends.
 """
 from __future__ import annotations
 
@@ -11,7 +11,7 @@ from dataclasses import dataclass
 from typing import List, Optional, Sequence, Tuple
 
 from .c import RANGES_MAX
-from .calls import Corners, corners, plan, quantities
+from .calls import Corners, corners, plan, quantities, reach
 from .job import Hazard, Header, Job, Side
 from .job_text import TextJob
 from .refused import Number, Refused
@@ -31,6 +31,8 @@ class PlannedHazard:
     hazard: Hazard
     envelope: Optional[Range]  # not cut; None where nobody reaches it
     corners: Optional[Corners]  # of the adjacent traffic's approach, from (0, 0)
+    # Outside of it a withdrawal alters no level of its side; None where it alters nothing.
+    stretch: Optional[Range]
 
     @property
     def label(self) -> str:
@@ -86,13 +88,6 @@ class PlannedRoad:
         return sorted((h for side in self.sides for h in side.hazards), key=lambda h: h.index)
 
 
-def _envelope(job: Job, hazard: Hazard, lies: Orientation) -> Optional[Range]:
-    alone = plan(job.with_hazards(hazard), hazard.side)
-    if not alone.runs:
-        return None
-    return lies.range(alone.runs[0].start - alone.before, alone.runs[0].end + alone.after)
-
-
 def _corners(data: bytes, index: int, lies: Orientation) -> Optional[Corners]:
     try:
         found = corners(data, index)
@@ -103,19 +98,27 @@ def _corners(data: bytes, index: int, lies: Orientation) -> Optional[Corners]:
     return Corners(*[lies.corner(c) for c in (found.upstream, found.flare, found.hazard)])
 
 
+def _hazard(read: TextJob, index: int, hazard: Hazard) -> PlannedHazard:
+    lies, found = read.orientation, reach(read.data, index)
+    name = read.names[index] if index < len(read.names) else ""
+    envelope = stretch = None
+    if found.envelope is not None and found.stretch is not None:
+        start, end = found.envelope
+        envelope = lies.range(start - found.before, end + found.after)
+        stretch = lies.range(*found.stretch)
+    return PlannedHazard(index, name, lies.hazard(hazard), envelope,
+                         _corners(read.data, index, lies), stretch)
+
+
 def _side(job: Job, read: TextJob, side: Side) -> PlannedSide:
     lies, asked = read.orientation, read.orientation.side(side)
     found = plan(read.data, asked)
     runs = sorted((lies.run(run) for run in found.runs), key=lambda run: run.start)
     before, after = lies.overhangs(found.before, found.after)
-    names = dict(enumerate(read.names))
-    hazards = [
-        PlannedHazard(index, names.get(index, ""), lies.hazard(hazard),
-                      _envelope(job, hazard, lies), _corners(read.data, index, lies))
-        for index, hazard in enumerate(job.hazards) if hazard.side == asked
-    ]
+    hazards = tuple(_hazard(read, index, hazard)
+                    for index, hazard in enumerate(job.hazards) if hazard.side == asked)
     rises = lies.rises(side, job.header.runout_opposite > 0)
-    return PlannedSide(side, rises, Schedule(bytes_of_runs(runs), before, after), tuple(hazards))
+    return PlannedSide(side, rises, Schedule(bytes_of_runs(runs), before, after), hazards)
 
 
 def plan_road(read: TextJob) -> PlannedRoad:

@@ -56,11 +56,11 @@ class Refused(Exception):
         return f"{self.call} refused {self.number} with {self.value}: {self.message}"
 
 
-_JOB = ("barrier_plan", "barrier_level", "barrier_corners", "barrier_offset")
+_JOB = ("barrier_plan", "barrier_level", "barrier_corners", "barrier_offset", "barrier_reach")
 _BYTES = _JOB + ("barrier_open",)
 _SCHEDULE = ("barrier_quantity", "barrier_quantities", "barrier_lookup")
 _MEMORY = ("barrier_add", "barrier_withdraw", "barrier_open_schedule", "barrier_keep",
-           "barrier_return")
+           "barrier_return", "barrier_open_reach")
 
 # Which calls can be refused with a number.  3 is for memory with value 0.
 _GIVEN: Dict[int, Tuple[str, ...]] = {
@@ -75,9 +75,9 @@ _GIVEN: Dict[int, Tuple[str, ...]] = {
     Number.OUTPUT_SHORT: ("barrier_plan", "barrier_open_schedule"),
     Number.NO_SCHEDULE: _SCHEDULE,
     Number.TOO_MANY_RANGES: ("barrier_quantities",),
-    Number.NAME: ("barrier_add", "barrier_withdraw"),
+    Number.NAME: ("barrier_add", "barrier_withdraw", "barrier_open_reach"),
     Number.STATE: ("barrier_keep", "barrier_return"),
-    Number.NO_APPROACH: ("barrier_corners", "barrier_offset"),
+    Number.NO_APPROACH: ("barrier_corners", "barrier_offset", "barrier_reach"),
     Number.FULL: ("barrier_add",),
     Number.LENGTHS: ("barrier_layout",),
     Number.LIMIT: ("barrier_layout",),
@@ -138,10 +138,6 @@ _SAID: Dict[int, Pair] = {
         "not a side without barriers"),
     Number.TOO_MANY_RANGES: (
         "more than 64 ranges", "ask in several calls, of at most 64 ranges each"),
-    Number.NO_APPROACH: (
-        "no such hazard, or adjacent traffic does not reach it",
-        "hazards count from 0 in the job's order; one whose near offset n is not below the "
-        "clear-zone width C has no such approach"),
     Number.FULL: ("256 hazards stand already", "withdraw a hazard first"),
     Number.LENGTHS: (
         "no panel length, too many, or one outside its range",
@@ -211,6 +207,15 @@ def _state(call: str, _value: int) -> Pair:
             "return to a number from 0 to 7 that was kept since the job was opened")
 
 
+def _no_approach(call: str, _value: int) -> Pair:
+    counted = "hazards count from 0 in the job's order"
+    if call == "barrier_reach":
+        return "there is no such hazard in the job", counted
+    return ("no such hazard, or adjacent traffic does not reach it",
+            f"{counted}; one whose near offset n is not below the clear-zone width C has no such "
+            "approach")
+
+
 # The numbers whose words are others by the call.
 _BY_CALL: Dict[int, Callable[[str, int], Pair]] = {
     Number.HEADER_RANGE: _header,
@@ -219,6 +224,7 @@ _BY_CALL: Dict[int, Callable[[str, int], Pair]] = {
     Number.ARGUMENT: _argument,
     Number.NAME: _name,
     Number.STATE: _state,
+    Number.NO_APPROACH: _no_approach,
 }
 
 

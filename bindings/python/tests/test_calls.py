@@ -5,8 +5,8 @@ from dataclasses import replace
 
 import support
 from barrier_engine import (
-    Job, Run, SCHEDULE_MAX, Side, bytes_of_text, corners, layout, level, lookup, offset, plan,
-    plan_into, quantities, quantity, runs_of_bytes, version,
+    Job, Reach, Run, SCHEDULE_MAX, Side, bytes_of_text, corners, layout, level, lookup, offset, plan,
+    plan_into, quantities, quantity, reach, runs_of_bytes, version,
 )
 
 PRINTED = support.PRINTED
@@ -103,6 +103,26 @@ class Offset(unittest.TestCase):
     def test_the_offset_found_plans_so_long(self):
         planned = replace(PRINTED, header=replace(support.HEADER, barrier_offset=3659))
         self.assertEqual(200000 - plan(planned, Side.RIGHT).runs[0].start, 39996)
+
+
+class Reached(unittest.TestCase):
+    def test_the_manuals_figures(self):
+        for hazard, continuity, envelope, before, stretch in (
+            ({}, 0, (155773, 210000), 0, (155773, 210000)),
+            ({}, 50000, (155773, 210000), 0, (105773, 260000)),
+            ({"start": 20000, "end": 30000}, 50000, (0, 30000), 24227, (0, 80000)),
+            ({"near_offset": 9000}, 50000, None, 0, None),
+        ):
+            for side in Side:
+                job = support.job(replace(support.HEADER, continuity=continuity), {**hazard, "side": side})
+                self.assertEqual(reach(job, 0), Reach(side, envelope, before, 0, stretch))
+
+    def test_at_the_end_of_a_road_on_the_far_chainage(self):
+        header = replace(support.HEADER, begin=10**12 - 1000000, end=10**12, runout_opposite=101000,
+                         continuity=200000)
+        job = support.job(header, {"side": 1, "start": 10**12 - 10, "end": 10**12})
+        self.assertEqual(reach(job.to_bytes(), 0), Reach(
+            Side.LEFT, (10**12 - 44237, 10**12), 0, 44227, (10**12 - 244237, 10**12)))
 
 
 class Quantity(unittest.TestCase):

@@ -6,7 +6,7 @@ import unittest
 from dataclasses import replace
 
 import support
-from barrier_engine import Job, OpenJob, Side, plan
+from barrier_engine import Job, OpenJob, Reach, Refused, Side, plan, reach
 from support import HEADER, HEADWALL
 
 LATER = replace(HEADWALL, start=600000, end=600300, level=2)
@@ -22,6 +22,20 @@ class Standing(unittest.TestCase):
         self.assertEqual(open_job.job(), Job(HEADER, [HEADWALL, LATER]))
         open_job.withdraw(7)
         self.assertEqual(open_job.hazards, {1020: LATER})
+
+    def test_a_reach_changes_nothing(self):
+        open_job = OpenJob(replace(HEADER, continuity=50000))
+        open_job.add(7, HEADWALL)
+        before = bytes(open_job)
+        self.assertEqual(open_job.reach(7), Reach(Side.RIGHT, (155773, 210000), 0, 0, (105773, 260000)))
+        for name in (6, 8, 263, 65535):
+            with self.assertRaises(Refused) as caught:
+                open_job.reach(name)
+            self.assertEqual((caught.exception.number, caught.exception.value), (12, name))
+        for name in (-1, 65536, 7 + 65536):
+            with self.assertRaises(ValueError):
+                open_job.reach(name)
+        self.assertEqual(bytes(open_job), before)
 
     def test_opened_from_bytes_of_both_kinds(self):
         for header in (HEADER, replace(HEADER, panel=4000)):
@@ -52,6 +66,8 @@ class Standing(unittest.TestCase):
                 open_job.return_to(state)
             if step % 10 == 0:
                 self.assertEqual(open_job.hazards, standing)
+                for index, name in enumerate(sorted(standing)):
+                    self.assertEqual(open_job.reach(name), reach(open_job.job(), index))
                 for side in Side:
                     self.assertEqual(open_job.schedule(side), plan(open_job.job(), side))
 

@@ -3,7 +3,9 @@ import unittest
 from dataclasses import replace
 
 import support
-from barrier_engine import Job, OpenJob, Run, Side, corners, layout, level, plan, quantities
+from barrier_engine import (
+    Job, OpenJob, Run, Side, corners, layout, level, plan, quantities, reach,
+)
 from support import HEADER, HEADWALL, NO_FLARE, refusal
 
 K4_HEADER = replace(NO_FLARE, runout_opposite=101000, centreline=3500)
@@ -151,11 +153,18 @@ class Requests(unittest.TestCase):
         made = support.made_job(30)
         limit = made.header.continuity
         for index, hazard in enumerate(made.hazards):
-            alone = plan(made.with_hazards(hazard), hazard.side).runs
+            alone = plan(made.with_hazards(hazard), hazard.side)
+            found = reach(made, index)
+            self.assertEqual(found.side, hazard.side)
+            self.assertEqual((found.before, found.after), (alone.before, alone.after))
+            self.assertEqual([found.envelope] if found.envelope else [],
+                             [(run.start, run.end) for run in alone.runs])
+            start, end = found.stretch or (0, 0)
             without = made.with_hazards(*made.hazards[:index], *made.hazards[index + 1:])
             self.assertEqual(plan(made, 1 - hazard.side), plan(without, 1 - hazard.side))
             for station in range(0, 1000000, 9973):
-                inside = any(r.start - limit <= station < r.end + limit for r in alone)
+                inside = any(r.start - limit <= station < r.end + limit for r in alone.runs)
+                self.assertEqual(inside, start <= station < end)
                 if not inside:
                     self.assertEqual(level(made, hazard.side, station),
                                      level(without, hazard.side, station))

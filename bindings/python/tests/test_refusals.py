@@ -11,7 +11,7 @@ from dataclasses import replace
 import support
 from barrier_engine import (
     Hazard, Job, OpenJob, Refused, Side, corners, layout, level, lookup, offset, plan, plan_into,
-    put_number, quantities, quantity,
+    put_number, quantities, quantity, reach,
 )
 from barrier_engine import c, refused as said_so
 from support import HEADER, HEADWALL, PRINTED, refusal
@@ -24,7 +24,8 @@ KIND_2 = replace(HEADER, panel=4000)
 CALLS = (
     "barrier_plan", "barrier_level", "barrier_corners", "barrier_offset", "barrier_quantity",
     "barrier_quantities", "barrier_lookup", "barrier_layout", "barrier_open", "barrier_add",
-    "barrier_withdraw", "barrier_open_schedule", "barrier_keep", "barrier_return")
+    "barrier_withdraw", "barrier_open_schedule", "barrier_keep", "barrier_return", "barrier_reach",
+    "barrier_open_reach")
 VALUES = list(range(18)) + [255, 65535, (1 << 64) - 1]
 ROWS_IN_C = """#include <inttypes.h>
 #include <stdio.h>
@@ -33,7 +34,7 @@ int main(void)
 {
     const uint64_t values[] = {%s};
     char words[BARRIER_HELP_TEXT_MAX], remedy[BARRIER_HELP_TEXT_MAX];
-    for (unsigned call = 0; call < 14; call++)
+    for (unsigned call = 0; call < 16; call++)
         for (uint64_t number = 0; number < 20; number++)
             for (size_t i = 0; i < sizeof values / sizeof values[0]; i++) {
                 const enum barrier_help_call of = (enum barrier_help_call)call;
@@ -90,7 +91,7 @@ class OfAJob(unittest.TestCase):
             for call, name, rest in (
                 (plan, "barrier_plan", (0,)), (plan_into, "barrier_plan", (1, bytearray(9))),
                 (level, "barrier_level", (0, 0)), (corners, "barrier_corners", (0,)),
-                (offset, "barrier_offset", (0, 1)),
+                (offset, "barrier_offset", (0, 1)), (reach, "barrier_reach", (0,)),
             ):
                 self.assertEqual(refusal(call, job, *rest), (number, value, name))
 
@@ -113,6 +114,12 @@ class OfAJob(unittest.TestCase):
             self.assertEqual(refusal(offset, job, index, 99999), (14, 0, "barrier_offset"))
         # Plan's 5 comes before 14.
         self.assertEqual(refusal(corners, TOO_NEAR, 9), (5, 1, "barrier_corners"))
+
+    def test_no_such_hazard(self):
+        for index in (1, 256, 1 << 32, (1 << 64) - 1):
+            self.assertEqual(refusal(reach, PRINTED, index), (14, 0, "barrier_reach"))
+        self.assertIsNone(refusal(reach, ACCEPTED_NOT_REACHED, 0))
+        self.assertEqual(refusal(reach, TOO_NEAR, 9), (5, 1, "barrier_reach"))
 
 
 class OfASchedule(unittest.TestCase):
@@ -274,6 +281,9 @@ class Words(unittest.TestCase):
             ("the hazard to be named 9 is outside", open_job.add, 9, replace(HEADWALL, level=7)),
             ("the name 7 stands already; take another name", open_job.add, 7, HEADWALL),
             ("the name 8 does not stand", open_job.withdraw, 8),
+            ("the name 8 does not stand; it was never added", open_job.reach, 8),
+            ("the memory is not an open job", broken.reach, 8),
+            ("there is no such hazard in the job; hazards count from 0", reach, PRINTED, 1),
             ("nothing is kept under it", open_job.return_to, 1),
             ("keep under a number from 0 to 7", open_job.keep, 8),
             ("the side is neither 0 (right) nor 1 (left)", plan, PRINTED, 2),

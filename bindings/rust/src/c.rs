@@ -41,6 +41,19 @@ pub struct OffsetReply {
 }
 
 #[repr(C)]
+pub struct ReachReply {
+    pub number: u64,
+    pub value: u64,
+    pub side: u64,
+    pub start: u64,
+    pub end: u64,
+    pub before: u64,
+    pub after: u64,
+    pub from: u64,
+    pub to: u64,
+}
+
+#[repr(C)]
 pub struct Record {
     pub number: u64,
     pub found: u64,
@@ -186,6 +199,8 @@ unsafe extern "C" {
     pub fn barrier_offset(job: *const u8, job_len: usize, hazard: u64, longest: u64)
         -> OffsetReply;
 
+    pub fn barrier_reach(job: *const u8, job_len: usize, hazard: u64) -> ReachReply;
+
     pub fn barrier_quantity(
         schedule: *const u8,
         schedule_len: usize,
@@ -230,6 +245,8 @@ unsafe extern "C" {
         out: *mut u8,
         out_len: usize,
     ) -> PlanReply;
+
+    pub fn barrier_open_reach(job: *const OpenJob, name: u16) -> ReachReply;
 
     pub fn barrier_keep(job: *mut OpenJob, state: u64) -> Reply;
 

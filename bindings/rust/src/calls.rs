@@ -101,6 +101,34 @@ pub fn offset(job: &[u8], hazard: u64, longest: u64) -> Result<Option<u64>, Refu
     Call::Offset { hazard }.done(reply.number, reply.value, found)
 }
 
+/// What traffic makes of a hazard: its envelope, cut at the ends of the road, its
+/// own overhangs, and the stretch outside of which its withdrawal alters no level
+/// of its side. All three are empty or 0 where nobody reaches it.
+#[derive(Clone, Debug, PartialEq, Eq)]
+pub struct Reach {
+    pub side: Side,
+    pub envelope: Range<u64>,
+    pub before: u64,
+    pub after: u64,
+    pub stretch: Range<u64>,
+}
+
+impl Reach {
+    /// Whether any traffic reaches the hazard; if none does, nothing alters
+    /// without it.
+    pub fn is_reached(&self) -> bool {
+        !self.envelope.is_empty()
+    }
+}
+
+/// The envelope of a hazard, by its index in the job, and how far its withdrawal
+/// reaches.
+pub fn reach(job: &[u8], hazard: u64) -> Result<Reach, Refusal> {
+    // SAFETY: the pointer is good for as many bytes as are named with it.
+    let reply = unsafe { c::barrier_reach(job.as_ptr(), job.len(), hazard) };
+    Call::Reach { hazard }.reach(reply)
+}
+
 /// How many millimetres of [p, q) have exactly that level.
 pub fn quantity(schedule: &[u8], level: u64, p: u64, q: u64) -> Result<u64, Refusal> {
     // SAFETY: the pointer is good for as many bytes as are named with it.

@@ -1,6 +1,6 @@
 //! A job that is changed hazard by hazard.
 
-use crate::{c, Call, Hazard, Header, Job, Planned, PlannedSide, Refusal, Side};
+use crate::{c, Call, Hazard, Header, Job, Planned, PlannedSide, Reach, Refusal, Side};
 
 /// A job whose hazards come and go, each under a name, with up to eight kept
 /// states. Refused calls leave it as it was. It is nothing but the engine's
@@ -60,6 +60,14 @@ impl OpenJob {
     /// As `schedule`, into bytes of its own.
     pub fn plan_side(&self, side: Side) -> Result<PlannedSide, Refusal> {
         PlannedSide::written(|out| self.schedule(side, out))
+    }
+
+    /// The envelope of the hazard under a name, and how far its withdrawal
+    /// reaches: asked before it is withdrawn.
+    pub fn reach(&self, name: u16) -> Result<Reach, Refusal> {
+        // SAFETY: the memory is only read.
+        let reply = unsafe { c::barrier_open_reach(&self.memory, name) };
+        Call::OpenReach.reach(reply)
     }
 
     /// The job of this header and the hazards that stand, in rising order of

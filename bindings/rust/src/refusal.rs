@@ -4,7 +4,7 @@ use std::error::Error;
 use std::fmt;
 
 use crate::constants::*;
-use crate::{c, Planned};
+use crate::{c, Planned, Reach};
 
 /// A call, with what it was asked for where the words of a refusal need it.
 #[derive(Clone, Copy, Debug, PartialEq, Eq)]
@@ -23,6 +23,8 @@ pub enum Call {
     OpenSchedule { side: Side },
     Keep { state: u64 },
     Return { state: u64 },
+    Reach { hazard: u64 },
+    OpenReach,
 }
 
 impl Call {
@@ -30,7 +32,11 @@ impl Call {
     fn reads_job(self) -> bool {
         matches!(
             self,
-            Call::Plan { .. } | Call::Level { .. } | Call::Corners { .. } | Call::Offset { .. }
+            Call::Plan { .. }
+                | Call::Level { .. }
+                | Call::Corners { .. }
+                | Call::Offset { .. }
+                | Call::Reach { .. }
         )
     }
 
@@ -54,6 +60,7 @@ impl Call {
                 | Call::OpenSchedule { .. }
                 | Call::Keep { .. }
                 | Call::Return { .. }
+                | Call::OpenReach
         )
     }
 
@@ -80,6 +87,17 @@ impl Call {
             after: reply.after,
         };
         self.done(reply.number, reply.value, planned)
+    }
+
+    pub(crate) fn reach(self, reply: c::ReachReply) -> Result<Reach, Refusal> {
+        let reach = Reach {
+            side: reply.side,
+            envelope: reply.start..reply.end,
+            before: reply.before,
+            after: reply.after,
+            stretch: reply.from..reply.to,
+        };
+        self.done(reply.number, reply.value, reach)
     }
 }
 
@@ -145,14 +163,18 @@ impl Refusal {
             NO_SCHEDULE => "these bytes are not a schedule".into(),
             TOO_MANY_RANGES => format!("more than {RANGES_MAX} ranges"),
             NAME => match self.call {
-                Call::Withdraw => format!("the name {value} does not stand"),
-                _ => format!("the name {value} stands already"),
+                Call::Add => format!("the name {value} stands already"),
+                _ => format!("the name {value} does not stand"),
             },
             STATE => match self.call {
                 Call::Keep { .. } => "the state number is above 7".into(),
                 _ => "the state number is above 7, or nothing is kept under it".into(),
             },
-            NO_APPROACH => "no such hazard, or adjacent traffic does not reach it".into(),
+            NO_APPROACH => match self.call {
+                Call::Reach { .. } => "there is no such hazard in the job",
+                _ => "no such hazard, or adjacent traffic does not reach it",
+            }
+            .into(),
             FULL => format!("{HAZARDS_MAX} hazards stand already"),
             LENGTHS => "no panel length, too many, or one outside its range".into(),
             _ => format!("a limit of no tries, or of more than {TRIES_MAX}"),
@@ -196,8 +218,8 @@ impl Refusal {
                 format!("ask in several calls, of at most {RANGES_MAX} ranges each")
             }
             NAME => match self.call {
-                Call::Withdraw => "it was never added, or is withdrawn already: look at the name",
-                _ => "take another name, or withdraw the hazard that stands under this one",
+                Call::Add => "take another name, or withdraw the hazard that stands under this one",
+                _ => "it was never added, or is withdrawn already: look at the name",
             }
             .into(),
             STATE => match self.call {
@@ -205,9 +227,14 @@ impl Refusal {
                 _ => "return to a number from 0 to 7 that was kept since the job was opened",
             }
             .into(),
-            NO_APPROACH => "hazards count from 0 in the job's order; one whose near offset n is \
-                            not below the clear-zone width C has no such approach"
-                .into(),
+            NO_APPROACH => match self.call {
+                Call::Reach { .. } => "hazards count from 0 in the job's order",
+                _ => {
+                    "hazards count from 0 in the job's order; one whose near offset n is not \
+                     below the clear-zone width C has no such approach"
+                }
+            }
+            .into(),
             FULL => "withdraw a hazard first".into(),
             LENGTHS => {
                 format!("give one to four panel lengths, each 1 to {STOCK_PANEL_MAX} millimetres")
@@ -237,9 +264,12 @@ impl Refusal {
             OUTPUT_SHORT => matches!(call, Call::Plan { .. } | Call::OpenSchedule { .. }),
             NO_SCHEDULE => call.reads_schedule(),
             TOO_MANY_RANGES => call == Call::Quantities,
-            NAME => matches!(call, Call::Add | Call::Withdraw),
+            NAME => matches!(call, Call::Add | Call::Withdraw | Call::OpenReach),
             STATE => matches!(call, Call::Keep { .. } | Call::Return { .. }),
-            NO_APPROACH => matches!(call, Call::Corners { .. } | Call::Offset { .. }),
+            NO_APPROACH => matches!(
+                call,
+                Call::Corners { .. } | Call::Offset { .. } | Call::Reach { .. }
+            ),
             FULL => call == Call::Add,
             LENGTHS | LIMIT => call == Call::Layout,
             _ => false,

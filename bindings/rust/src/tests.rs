@@ -324,6 +324,79 @@ fn refusals_of_an_approach() {
     );
 }
 
+/// The manual's figures, of a job and of an open one, on either side.
+#[test]
+fn reaches_are_those_of_the_manual() {
+    let table = [
+        (
+            200_000..210_000,
+            5_000,
+            0,
+            155_773..210_000,
+            0,
+            155_773..210_000,
+        ),
+        (
+            200_000..210_000,
+            5_000,
+            50_000,
+            155_773..210_000,
+            0,
+            105_773..260_000,
+        ),
+        (20_000..30_000, 5_000, 50_000, 0..30_000, 24_227, 0..80_000),
+        (200_000..210_000, 9_000, 50_000, 0..0, 0, 0..0),
+    ];
+    for (stations, near_offset, continuity, envelope, before, stretch) in table {
+        for side in [RIGHT, LEFT] {
+            let mut job = printed();
+            job.header.continuity = continuity;
+            job.hazards[0] = Hazard {
+                side,
+                start: stations.start,
+                end: stations.end,
+                near_offset,
+                ..job.hazards[0]
+            };
+            let wanted = Reach {
+                side,
+                envelope: envelope.clone(),
+                before,
+                after: 0,
+                stretch: stretch.clone(),
+            };
+            assert_eq!(wanted.is_reached(), near_offset < 9_000);
+            assert_eq!(reach(&job.encode(), 0).as_ref(), Ok(&wanted));
+            let mut open = OpenJob::new(&job.header.encode()).expect("its header opens");
+            assert_eq!(open.add(65_535, job.hazards[0]), Ok(()));
+            let unchanged = open.clone();
+            assert_eq!(open.reach(65_535), Ok(wanted));
+            assert!(open == unchanged);
+        }
+    }
+}
+
+#[test]
+fn refusals_of_a_reach() {
+    let none = refusal(reach(&PRINTED, 1));
+    assert_eq!(
+        format!("{none:#}"),
+        "refused 14 with 0, there is no such hazard in the job; hazards count from 0 in the \
+         job's order"
+    );
+    assert_eq!(none.call, Call::Reach { hazard: 1 });
+    assert_eq!(
+        refusal(opened().reach(9)).to_string(),
+        "refused 12 with 9, the name 9 does not stand"
+    );
+    let mut broken = opened();
+    broken.memory.count = 1;
+    assert_eq!(
+        refusal(broken.reach(0)).to_string(),
+        "refused 3 with 0, the memory is not an open job"
+    );
+}
+
 /// The engine's own refusals on an open job: names, not indices.
 #[test]
 fn refusals_of_an_open_job_in_words() {

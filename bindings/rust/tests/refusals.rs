@@ -5,7 +5,7 @@
 use barrier_engine::{Call, Refusal};
 use std::{env, fs};
 
-const CALLS: [(&str, Call); 14] = [
+const CALLS: [(&str, Call); 16] = [
     ("barrier_plan", Call::Plan { side: 0 }),
     ("barrier_level", Call::Level { side: 0 }),
     ("barrier_corners", Call::Corners { hazard: 0 }),
@@ -20,6 +20,8 @@ const CALLS: [(&str, Call); 14] = [
     ("barrier_open_schedule", Call::OpenSchedule { side: 0 }),
     ("barrier_keep", Call::Keep { state: 0 }),
     ("barrier_return", Call::Return { state: 0 }),
+    ("barrier_reach", Call::Reach { hazard: 0 }),
+    ("barrier_open_reach", Call::OpenReach),
 ];
 
 #[test]

@@ -1,4 +1,4 @@
--- Document 02, request 11: "Bytes accepted before give the same replies, sheet corners newly in range apart." Stated as each call's whole reply, by
+-- Document 02, request 11: "Bytes accepted before give the same replies, sheet corners newly in range apart." Stated as the whole reply of each call that there was, by
 -- the job or the run list that the bytes were.
 -- Assumes nothing.
 use Prim.Native.Nat.{ℕ, _≤_, _<_}
@@ -38,7 +38,7 @@ use Rattle.as_before.specs.AcceptedBefore.{writtenBefore, JobBefore, Run
 abbrev pub plannedBefore : Job → (side room : ℕ) → Answer PlannedSide
 plannedBefore j side room = unless-refuse (leb side 1) Row.Argument >>= λ _. fitted (scheduleBefore (jobRuns j side)) (sideOverhangs j side) room
 
--- What each call replies to the bytes of the job j. No right side reads the bytes, or has a limit that the request moved.
+-- What each call that there was replies to the bytes of the job j. No right side reads the bytes, or has a limit that the request moved.
 pub record RepliesByJob (s : List ℕ) (j : Job) : Type 0 where
   pub plans : (side room : ℕ) → plan s side room ≡ plannedBefore j side room
   pub levels : (side t : ℕ) → levelAt s side t ≡ (unless-refuse (leb side 1) Row.Argument >>= λ _. accepted (jobLevel j side t))

@@ -5,6 +5,7 @@ use replies::Corners;
 use replies::LayoutReply;
 use replies::PlanReply;
 use replies::Quantities;
+use replies::ReachReply;
 use replies::Record;
 use replies::Reply;
 use replies::SmallestOffset;
@@ -14,11 +15,12 @@ ghost use Rattle.schedule.specs.Plan.{plan, bytesWritten, outputAfter};
 ghost use Rattle.station_level.specs.Level.{levelAt};
 ghost use Rattle.corners.specs.Corners.{cornersOf};
 ghost use Rattle.clear_offset.specs.Offset.{smallestOffset};
+ghost use Rattle.withdrawal.specs.Reach.{reach};
 ghost use Rattle.panels.specs.Panels.{panelsFor};
 ghost use Rattle.queries.specs.Quantity.{quantity};
 ghost use Rattle.queries.specs.Lookup.{lookup};
 ghost use Rattle.queries.specs.Ranges.{quantities};
-ghost use Rattle.replies.specs.Interface.{replyOf, planReplyOf, recordOf, quantitiesOf, cornersReplyOf, smallestOf, layoutOf, version};
+ghost use Rattle.replies.specs.Interface.{replyOf, planReplyOf, recordOf, quantitiesOf, cornersReplyOf, smallestOf, reachReplyOf, layoutOf, version};
 
 #[no_mangle]
 pub extern "C" fn barrier_plan(job: &[u8], side: u64, out: &mut [u8]) -> PlanReply
@@ -40,6 +42,13 @@ pub extern "C" fn barrier_offset(job: &[u8], hazard: u64, longest: u64) -> Small
     ensures { λ r. ⌜ r ≡ smallestOf (smallestOffset (now (job .entry)) hazard longest) ⌝ }
 {
     replies::hazard::offset(job, hazard, longest)
+}
+
+#[no_mangle]
+pub extern "C" fn barrier_reach(job: &[u8], hazard: u64) -> ReachReply
+    ensures { λ r. ⌜ r ≡ reachReplyOf (reach (now (job .entry)) hazard) ⌝ }
+{
+    replies::hazard::reach(job, hazard)
 }
 
 #[no_mangle]
@@ -87,5 +96,5 @@ pub extern "C" fn barrier_layout(lengths: &[u64], run: u64, limit: u64) -> Layou
 pub extern "C" fn barrier_version() -> u32
     ensures { λ r. ⌜ r ≡ version ⌝ }
 {
-    3002004
+    3003000
 }

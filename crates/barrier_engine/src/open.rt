@@ -7,10 +7,12 @@ use open_job::kept::empty;
 use open_job::kept::kept_from;
 use open_memory::GivenHazard;
 use replies::PlanReply;
+use replies::ReachReply;
 use replies::Reply;
 use replies::open::added;
 use replies::open::kept;
 use replies::open::opened;
+use replies::open::reached;
 use replies::open::returned;
 use replies::open::scheduled;
 use replies::open::withdrawn;
@@ -19,9 +21,9 @@ ghost use lib.ListN.{length};
 ghost use Rattle.schedule.specs.Plan.{bytesWritten, outputAfter};
 ghost use Rattle.open_memory.specs.Memory.{hazardGiven};
 ghost use Rattle.open_job.specs.States.{allSound};
-ghost use Rattle.open_job.specs.Calls.{memoryAfter, openStates, addIn, withdrawIn, scheduleIn, keepIn, returnIn};
+ghost use Rattle.open_job.specs.Calls.{memoryAfter, openStates, addIn, withdrawIn, scheduleIn, reachIn, keepIn, returnIn};
 ghost use Rattle.base.specs.Answer.{replied};
-ghost use Rattle.replies.specs.Interface.{replyOf, planReplyOf};
+ghost use Rattle.replies.specs.Interface.{replyOf, planReplyOf, reachReplyOf};
 
 // Is all that is kept sound. Every call but opening asks this first.
 fn all_sound(job: &OpenStates) -> bool
@@ -120,4 +122,12 @@ pub extern "C" fn barrier_open_schedule(job: &OpenStates, side: u64, out: &mut [
 {
     let sound = all_sound(job);
     scheduled(sound, (*job).present, side, out)
+}
+
+#[no_mangle]
+pub extern "C" fn barrier_open_reach(job: &OpenStates, name: u16) -> ReachReply
+    ensures { λ r. ⌜ r ≡ reachReplyOf (reachIn (now (job .entry)) name) ⌝ }
+{
+    let sound = all_sound(job);
+    reached(sound, (*job).present, name)
 }

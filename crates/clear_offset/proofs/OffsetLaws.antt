@@ -23,7 +23,7 @@ own-offset-unused h M z longest = refl
 pub approached-clear : {h : Header} {z : Hazard} → ApproachedFits h z → Clear h z
 approached-clear a = record { header = a .header; hazard = a .hazard; reach = a .reach; free = omega (arith, a .clear) }
 
--- By what `hazard_of` answers.
+-- By what `indexed_hazard` answers.
 module _ (s : List ℕ) (index longest : ℕ) where
   pub offset-refused : {k v : ℕ} → indexedHazard s index ≡ refused k v → smallestOffset s index longest ≡ refused k v
   unfolding smallestOffset

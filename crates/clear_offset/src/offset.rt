@@ -2,7 +2,7 @@
 use super::reply::Offset;
 use super::search::smallest_of;
 use planning::accept::Indexed;
-use planning::accept::hazard_of;
+use planning::accept::indexed_hazard;
 use refusal::Refusal;
 ghost use mathlib.Core.Path.{_≡_};
 ghost use Rattle.clear_offset.specs.Offset.{offsetReply};
@@ -13,7 +13,7 @@ ghost use Rattle.clear_offset.specs.Offset as spec;
 pub fn smallest_offset(job: &[u8], hazard: u64, longest: u64) -> Offset
     ensures { λ r. ⌜ offsetReply r ≡ spec.smallestOffset (now (job .entry)) hazard longest ⌝ }
 {
-    match hazard_of(job, hazard) {
+    match indexed_hazard(job, hazard) {
         Indexed::Hazard {
             header,
             hazard: asked,

@@ -36,7 +36,7 @@ module _ (x y : ℕ) where
     unfolding cornersOf
     on-sheet k l = rw (le-leb x sheetTop k, le-leb y sheetTop l)
 
-    -- By what `hazard_of` answers.
+    -- By what `indexed_hazard` answers.
     module _ (k : x ≤ sheetTop) (l : y ≤ sheetTop) where
       pub corners-refused : {n v : ℕ} → indexedHazard s i ≡ refused n v → cornersOf s i x y ≡ refused n v
       corners-refused e = on-sheet k l ∙ asked-refused s i (λ h z. accepted (hazardCorners x y h z)) e

@@ -7,7 +7,7 @@ use super::reply::Corners;
 use job::Hazard;
 use job::Header;
 use planning::accept::Indexed;
-use planning::accept::hazard_of;
+use planning::accept::indexed_hazard;
 use planning::envelope::adjacent_traffic;
 use refusal::Outcome;
 use refusal::Refusal;
@@ -54,7 +54,7 @@ pub fn corners(job: &[u8], hazard: u64, sheet_station: u64, sheet_offset: u64) -
     if (1000000000000 < sheet_station) | (1000000000000 < sheet_offset) {
         return refused(Refusal::Argument);
     }
-    match hazard_of(job, hazard) {
+    match indexed_hazard(job, hazard) {
         Indexed::Hazard {
             header,
             hazard: asked,

@@ -13,3 +13,4 @@ pub mod HazardLaws
 pub mod CornerLaws
 pub mod OffsetLaws
 pub mod WithdrawalLaws
+pub mod ReachLaws

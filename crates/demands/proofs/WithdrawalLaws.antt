@@ -29,9 +29,10 @@ use Rattle.planning.proofs.EnvelopeLaws.{accepted-fits, FromCut, from-cut, to-c
 use Rattle.planning.proofs.AcceptedLaws.{fitting-accepted}
 use Rattle.schedule.specs.Plan.{plan}
 use Rattle.schedule.specs.Planned.{Accepted, Planned}
+use Rattle.withdrawal.specs.Reach.{lengthenedAtBothEnds, withdrawalReach}
 use Rattle.open_memory.proofs.RuleLaws.{made-fits}
 use Rattle.demands.specs.Demands.{Alike}
-use Rattle.demands.specs.Withdrawal.{withoutAt, withoutHazard, lengthenedAtBothEnds, withdrawalReach, Unaltered, no-envelope, other-side, outside, unaltered, SameBeyond, SameShown, Withdrawal-reach}
+use Rattle.demands.specs.Withdrawal.{withoutAt, withoutHazard, Unaltered, no-envelope, other-side, Beyond, outside, unaltered, SameLevels, SameShown, Withdrawal-reach}
 use Rattle.demands.proofs.DemandLaws.{alike-cut, more-envelopes, counted-alike}
 use Rattle.demands.proofs.AlikeLaws.{same-levels, same-plan}
 use Rattle.demands.proofs.LevelLaws.{level-lookup}
@@ -118,7 +119,7 @@ module _ (j k : Job) (to : Alike (j .header) (k .header)) (back : Alike (k .head
         ap (λ (G : ℕ). requiredLevel (sideEnvelopes k side) G t) (ap (λ (x : Header). x .continuity) back)
         ∙ sym (level-without (cutEnvelope (j .header) z) (sideEnvelopes j side) (sideEnvelopes k side) (j .header .continuity) t long out (either side) (more-envelopes k j back side (λ x s. fewer x (s .member))))
 
-    pub same-beyond : SameBeyond (j .header) z (jobLevel j) (jobLevel k)
+    pub same-beyond : SameLevels (Beyond (j .header) z) (jobLevel j) (jobLevel k)
     same-beyond side t (unaltered u) = side-levels side u t
     same-beyond side t (outside n) = go (ℕ-discrete side (z .side)) (decided (reached (j .header) z))
       where
@@ -128,8 +129,10 @@ module _ (j k : Job) (to : Alike (j .header) (k .header)) (back : Alike (k .head
         go (no off) r = side-levels side (other-side off) t
 
 -- Lookup shows what the jobs require.
-pub same-shown : (s₁ s₂ : List ℕ) (j k : Job) → Accepted s₁ j → Accepted s₂ k → (h : Header) (z : Hazard) → SameBeyond h z (jobLevel j) (jobLevel k) → SameShown h z (jobLevel j) (Planned s₁) (Planned s₂)
-same-shown s₁ s₂ j k a₁ a₂ h z same side low right left rightAfter leftAfter p₁ p₂ t b = record {
+pub same-shown :
+    (s₁ s₂ : List ℕ) (j k : Job) → Accepted s₁ j → Accepted s₂ k → (Away : (side t : ℕ) → Type 0) → SameLevels Away (jobLevel j) (jobLevel k)
+    → SameShown Away (jobLevel j) (Planned s₁) (Planned s₂)
+same-shown s₁ s₂ j k a₁ a₂ Away same side low right left rightAfter leftAfter p₁ p₂ t b = record {
   before = level-lookup s₁ j side right left a₁ low p₁ t .shown;
   after = level-lookup s₂ k side rightAfter leftAfter a₂ low p₂ t .shown ∙ ap accepted (same side t b);
 }
@@ -139,7 +142,7 @@ withdrawal-reach s j a i l = record {
   one-less = one-less ∙ fits .fits .hazards .count;
   still-accepted = still;
   levels = same;
-  shown = same-shown s (writeJob k) j k a still (j .header) z same;
+  shown = same-shown s (writeJob k) j k a still (Beyond (j .header) z) same;
   nothing-alters = side-plans j k to back z only fewer s (writeJob k) a still;
 }
   where
@@ -172,5 +175,5 @@ withdrawal-reach s j a i l = record {
         fitting-accepted k (made-fits (j .header) (k .hazards) (fits .fits .header) (omega (arith, one-less, fits .fits .hazards .count, header-bounds (j .header) (fits .fits .header) .count))
         (λ x m. record { fits = fits .fits .hazards .each x (fewer x m); passed = fits .passed x (fewer x m) }))
 
-    same : SameBeyond (j .header) z (jobLevel j) (jobLevel k)
+    same : SameLevels (Beyond (j .header) z) (jobLevel j) (jobLevel k)
     same = same-beyond j k to back z only fewer fits (getD-member (j .hazards) i (hazardOf []) l)

@@ -11,3 +11,4 @@ pub mod Corners
 pub mod CornerCases
 pub mod Offset
 pub mod Withdrawal
+pub mod Reach

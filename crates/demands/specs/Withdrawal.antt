@@ -1,6 +1,6 @@
 -- Document 02's request 14 as statements about the definitions: how far the withdrawal of one hazard from a job reaches.
 -- Assumes nothing.
-use Prim.Native.Nat.{ℕ, zero, suc, _+_, _-_, _≤_, _<_}
+use Prim.Native.Nat.{ℕ, zero, suc, _+_, _≤_, _<_}
 use mathlib.Core.Path.{_≡_}
 use mathlib.Core.Logic.{_≢_}
 use mathlib.Core.Bool.{false}
@@ -11,13 +11,13 @@ use Rattle.job.specs.declared.Header.{Header}
 use Rattle.job.specs.declared.Hazard.{Hazard}
 use Rattle.job.specs.Job.{Job, madeFrom}
 use Rattle.job.specs.Writing.{writeJob}
-use Rattle.runs.specs.declared.Stretch.{Stretch}
 use Rattle.runs.specs.Level.{Has}
-use Rattle.planning.specs.Envelope.{reached, cutEnvelope}
+use Rattle.planning.specs.Envelope.{reached}
 use Rattle.planning.specs.Required.{jobLevel}
 use Rattle.planning.specs.Approached.{hazardAt}
 use Rattle.schedule.specs.Plan.{plan}
 use Rattle.schedule.specs.Planned.{Accepted, Planned}
+use Rattle.withdrawal.specs.Reach.{withdrawalReach}
 use Rattle.queries.specs.Lookup.{asked}
 use Rattle.demands.specs.Level.{lookupLevel}
 
@@ -33,15 +33,7 @@ withoutAt (suc i) (x ∷ xs) = x ∷ withoutAt i xs
 abbrev pub withoutHazard : Job → (i : ℕ) → Job
 withoutHazard j i = madeFrom (j .header) (withoutAt i (j .hazards))
 
--- The reach
-
--- A stretch "lengthened by G at both ends". Stations begin at 0, and there the subtraction stops.
-unfoldable pub lengthenedAtBothEnds : (G : ℕ) → Stretch → Stretch
-lengthenedAtBothEnds G e = record { start = e .start - G; end = e .end + G; level = e .level }
-
--- "Its envelope lengthened by G at both ends": the envelope with approach lengths raised to whole panels, cut at A and B.
-unfoldable pub withdrawalReach : Header → Hazard → Stretch
-withdrawalReach h z = lengthenedAtBothEnds (h .continuity) (cutEnvelope h z)
+-- Where nothing alters
 
 -- The sides of which the withdrawal of a hazard alters nothing.
 pub data Unaltered (h : Header) (z : Hazard) (side : ℕ) : Type 0 where
@@ -57,9 +49,10 @@ pub data Beyond (h : Header) (z : Hazard) (side t : ℕ) : Type 0 where
   -- And all of a side that is not altered.
   unaltered : Unaltered h z side → Beyond h z side t
 
--- "Requires the same level" there, where f is the level required before the withdrawal and g the one after it.
-abbrev pub SameBeyond : Header → Hazard → (f g : (side t : ℕ) → ℕ) → Type 0
-SameBeyond h z f g = (side t : ℕ) → Beyond h z side t → g side t ≡ f side t
+-- "Requires the same level" at the millimetres of a side that are `Away`, where f is the level required before the withdrawal and g the one after
+-- it.
+abbrev pub SameLevels : (Away : (side t : ℕ) → Type 0) → (f g : (side t : ℕ) → ℕ) → Type 0
+SameLevels Away f g = (side t : ℕ) → Away side t → g side t ≡ f side t
 
 -- Through the schedules
 
@@ -70,18 +63,18 @@ pub record ShownAlike (f : (side t : ℕ) → ℕ) (right left rightAfter leftAf
 
 -- "Offices re-issue sheets": lookup shows there what was required before the withdrawal, where Before w says that w is the side's schedule before it
 -- and After w that it is the one after it; whatever the schedules of the other side are. An accepted job has one for each side (demand3-planned).
-abbrev pub SameShown : Header → Hazard → (f : (side t : ℕ) → ℕ) → (Before After : (side : ℕ) → List ℕ → Type 0) → Type 0
-SameShown h z f Before After =
+abbrev pub SameShown : (Away : (side t : ℕ) → Type 0) → (f : (side t : ℕ) → ℕ) → (Before After : (side : ℕ) → List ℕ → Type 0) → Type 0
+SameShown Away f Before After =
     (side : ℕ) → side ≤ 1 → (right left rightAfter leftAfter : List ℕ) → Before side (asked side right left) → After side (asked side rightAfter leftAfter)
-    → (t : ℕ) → Beyond h z side t → ShownAlike f right left rightAfter leftAfter side t
+    → (t : ℕ) → Away side t → ShownAlike f right left rightAfter leftAfter side t
 
 -- Of the hazard at an index of a job.
 pub record ReachesNoFarther (s : List ℕ) (j : Job) (i : ℕ) : Type 0 where
   pub one-less : withoutHazard j i .header .count + 1 ≡ j .header .count
   pub still-accepted : Accepted (writeJob (withoutHazard j i)) (withoutHazard j i)
   -- "The job without it requires the same level at every millimetre outside its envelope lengthened by G at both ends."
-  pub levels : SameBeyond (j .header) (hazardAt j i) (jobLevel j) (jobLevel (withoutHazard j i))
-  pub shown : SameShown (j .header) (hazardAt j i) (jobLevel j) (Planned s) (Planned (writeJob (withoutHazard j i)))
+  pub levels : SameLevels (Beyond (j .header) (hazardAt j i)) (jobLevel j) (jobLevel (withoutHazard j i))
+  pub shown : SameShown (Beyond (j .header) (hazardAt j i)) (jobLevel j) (Planned s) (Planned (writeJob (withoutHazard j i)))
   -- "Where it has no envelope, and on the other side always, nothing alters": plan's whole reply, the overhangs too.
   pub nothing-alters : (side : ℕ) → Unaltered (j .header) (hazardAt j i) side → (room : ℕ) → plan (writeJob (withoutHazard j i)) side room ≡ plan s side room
 

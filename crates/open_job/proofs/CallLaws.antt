@@ -1,11 +1,12 @@
 -- The calls, step by step: the memory, the name, the hazard, and what is then made.
 -- Assumes nothing.
-use Prim.Native.Nat.{ℕ, _*_, _≤_}
+use Prim.Native.Nat.{ℕ, _≤_, _<_, _*_}
 use native.Mathlib.Omega.{arith}
-use mathlib.Core.Path.{_≡_, refl, sym, ap, subst, _∙_}
+use mathlib.Core.Path.{_≡_, refl, sym, subst, ap, _∙_}
 use mathlib.Core.Bool.{Bool, true, false}
 use mathlib.Core.List.{List, [], _∷_, append-nil, List·Memᴰ}
-use lib.ListN.{length}
+use lib.ListN.{length, getD}
+use lib.Seq.{getD-take}
 use lib.Dec.{leb, eqb}
 use borrow.Author.Tests.{le-leb, eqb-true}
 use Rattle.base.specs.Answer.{Answer, accepted, refused, _>>=_}
@@ -16,15 +17,16 @@ use Rattle.refusal.specs.declared.Outcome.{Outcome}
 use Rattle.refusal.specs.declared.Outcome.the-variants.{Done, Refused}
 use Rattle.refusal.proofs.RefuseLaws.{tested}
 use Rattle.base.proofs.AnswerLaws.{bind-assoc, bind-same}
+use Rattle.base.proofs.ListLaws.{getD-member}
 use Rattle.base.proofs.TestLaws.{impossible}
 use Rattle.job.specs.declared.Header.{Header}
 use Rattle.job.specs.declared.Hazard.{Hazard}
 use Rattle.job.specs.declared.NamedHazard.{NamedHazard}
 use Rattle.job.specs.declared.StoredJob.{StoredJob}
-use Rattle.job.specs.Job.{Job, Fields, named, jobOf, headerSize, readHeader, headerOf, readJob}
+use Rattle.job.specs.Job.{Job, Fields, named, unnamed, jobOf, headerSize, readHeader, headerOf, readJob}
 use Rattle.job.specs.Writing.{writeJob}
+use Rattle.job.specs.Reply.{unused, headerReading, headerAt, jobHeader, readOpening, hazardsFrom}
 use Rattle.job.specs.Given.{givenHazards}
-use Rattle.job.specs.Reply.{headerReading, headerAt, jobHeader, readOpening, hazardsFrom}
 use Rattle.job.proofs.JobLaws.{job-fits}
 use Rattle.job.proofs.OpeningLaws.{job-header}
 use Rattle.job.proofs.RestLaws.{given-all}
@@ -35,7 +37,7 @@ use Rattle.planning.specs.Envelope.{sideOverhangs, standsNear, testHazard, test
 use Rattle.planning.specs.Required.{jobRuns}
 use Rattle.planning.specs.Reply.{Cuts, cutsOf, testedEnvelopes}
 use Rattle.planning.specs.declared.walk.Walked.{Walked}
-use Rattle.planning.specs.Walk.{Given, cutsTaken, walkedAnswer}
+use Rattle.planning.specs.Walk.{GivenFits, cutsTaken, walkedAnswer}
 use Rattle.planning.specs.Rows.{AcceptedFits}
 use Rattle.planning.proofs.AcceptedSideLaws.{job-sound}
 use Rattle.planning.proofs.AcceptedLaws.{hazards-pass, fitting-accepted}
@@ -45,12 +47,14 @@ use Rattle.schedule.proofs.PlanLaws.{planned-bytes}
 use Rattle.open_job.specs.declared.Change.{Change}
 use Rattle.open_job.specs.declared.KeptState.{KeptState}
 use Rattle.open_job.specs.States.{isUsed, stateOf}
-use Rattle.open_memory.specs.Memory.{standing, laidOut, stands, isFull, admit, isOpenJob}
-use Rattle.job.specs.Fits.{HazardFits, hazardInRange}
-use Rattle.open_job.specs.Calls.{openJob, underRules, addTo, withdrawFrom, testState, keptJob, Changes}
+use Rattle.withdrawal.specs.declared.reply.Reach.{Reach}
+use Rattle.withdrawal.specs.Reach.{hazardReach}
+use Rattle.open_memory.specs.Memory.{standing, laidOut, stands, hazardUnder, isFull, admit, isOpenJob}
+use Rattle.job.specs.Fits.{hazardInRange, HazardFits}
+use Rattle.open_job.specs.Calls.{openJob, underRules, addTo, withdrawFrom, reachUnder, testState, keptJob, Changes}
 use Rattle.open_memory.specs.Steps.{rank, putAt, takenAt}
-use Rattle.open_memory.proofs.RuleLaws.{admit-ranged, open-count, open-standing}
-use Rattle.open_memory.proofs.PlaceLaws.{inserted-at, without-at}
+use Rattle.open_memory.proofs.RuleLaws.{Admitted, admit-ranged, stand-each, open-count, open-standing, open-accepted}
+use Rattle.open_memory.proofs.PlaceLaws.{inserted-at, without-at, rank-within, under-at}
 use Rattle.open_memory.proofs.WalkLaws.{standing-length}
 
 -- A call by value: refused, or done.
@@ -126,6 +130,28 @@ module _ (m : StoredJob) (good : isOpenJob m ≡ true) where
       rw e
       (ap (λ (ps : List NamedHazard). accepted (laidOut (m .header) ps)) (without-at (m .header) name 0 (standing m) (open-standing m good) e ∙ ap (λ (k : ℕ). takenAt k (standing m)) (sym place)))
 
+  -- The hazard at the place of a name that stands is the one under it, and it could be added.
+  module _ (size : length (m .hazards) ≡ 256) (name : ℕ) (e : stands name (standing m) ≡ true) (at : ℕ) (place : at ≡ rank name (standing m)) where
+    pub place-within : at < m .header .count
+    place-within = omega (arith, rank-within (m .header) name 0 (standing m) (open-standing m good) e, standing-length m size (open-count m good))
+
+    stored : getD (standing m) at unused ≡ getD (m .hazards) at unused
+    stored = getD-take (m .header .count) (m .hazards) at unused place-within
+
+    under : hazardUnder name (standing m) ≡ getD (m .hazards) at unused
+    under = under-at (m .header) name 0 (standing m) (open-standing m good) e ∙ ap (λ (k : ℕ). getD (standing m) k unused) (sym place) ∙ stored
+
+    module _ (z : Hazard) (own : z ≡ unnamed (getD (m .hazards) at unused)) where
+      pub place-admitted : Admitted (m .header) z
+      place-admitted =
+          let there : at < length (standing m) = omega (arith, place-within, standing-length m size (open-count m good)) in
+          let may = stand-each (m .header) 0 (standing m) (open-standing m good) (getD-member (standing m) at unused there) in
+          subst (Admitted (m .header)) (ap unnamed stored ∙ sym own) may
+
+      pub reach-done : {r : Reach} → r ≡ hazardReach (m .header) z → accepted r ≡ reachUnder m name
+      unfolding reachUnder
+      reach-done q = rw e (ap accepted (q ∙ ap (hazardReach (m .header)) (own ∙ ap unnamed (sym under))))
+
 -- Schedule
 
 -- Plan, of the writing of a job that is accepted.
@@ -138,7 +164,7 @@ module _ (m : StoredJob) (fits : AcceptedFits (jobOf m)) (ns : List ℕ) (are : 
   count-same : m .header .count ≡ length (givenHazards ns)
   count-same = sym (ap (λ (zs : List Hazard). length zs) are ∙ fits .fits .hazards .count)
 
-  pub numbers-given : length ns ≡ m .header .count * 3 → Given (m .header) ns []
+  pub numbers-given : length ns ≡ m .header .count * 3 → GivenFits (m .header) ns []
   numbers-given full = record {
     whole = omega (arith, count-same);
     fit = subst (λ (zs : List Hazard). (z : Hazard) → List·Memᴰ z zs → HazardFits (m .header) z) (sym are) (fits .fits .hazards .each);

@@ -14,11 +14,13 @@ use Rattle.job.specs.declared.Header.{Header}
 use Rattle.job.specs.declared.Hazard.{Hazard}
 use Rattle.job.specs.declared.NamedHazard.{NamedHazard}
 use Rattle.job.specs.declared.StoredJob.{StoredJob}
-use Rattle.job.specs.Job.{named, jobOf, headerSize, readHeader, headerOf}
+use Rattle.job.specs.Job.{named, unnamed, jobOf, headerSize, readHeader, headerOf}
 use Rattle.job.specs.Writing.{writeJob}
 use Rattle.planning.specs.Envelope.{acceptJob}
 use Rattle.schedule.specs.Plan.{PlannedSide, plan}
-use Rattle.open_memory.specs.Memory.{standing, laidOut, stands, isFull, inserted, without, admit}
+use Rattle.withdrawal.specs.declared.reply.Reach.{Reach}
+use Rattle.withdrawal.specs.Reach.{hazardReach}
+use Rattle.open_memory.specs.Memory.{standing, laidOut, stands, hazardUnder, isFull, inserted, without, admit}
 use Rattle.open_job.specs.declared.Change.{Change}
 use Rattle.open_job.specs.declared.KeptState.{KeptState}
 use Rattle.open_job.specs.declared.OpenStates.{OpenStates}
@@ -85,6 +87,15 @@ withdrawIn m name = changedIn m (withdrawFrom (m .present) name)
 -- "Schedule of a side": what plan answers for the job that stands, 8 and 9 with it.
 unfoldable pub scheduleIn : OpenStates → (side room : ℕ) → Answer PlannedSide
 scheduleIn m side room = underRules (areOpenStates m) (plan (writeJob (jobOf (m .present))) side room)
+
+-- Reach
+
+-- How far the withdrawal of the hazard that stands under a name would reach, as the job stands now. Where it does not stand: 12, and it returns the name.
+unfoldable pub reachUnder : StoredJob → (name : ℕ) → Answer Reach
+reachUnder a name = unless-refuse (stands name (standing a)) (Row.Name name) >>= λ _. accepted (hazardReach (a .header) (unnamed (hazardUnder name (standing a))))
+
+unfoldable pub reachIn : OpenStates → (name : ℕ) → Answer Reach
+reachIn m name = underRules (areOpenStates m) (reachUnder (m .present) name)
 
 -- Keep and return
 

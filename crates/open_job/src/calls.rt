@@ -25,6 +25,8 @@ use refusal::Outcome;
 use refusal::Refusal;
 use schedule::plan::plan_side;
 use schedule::reply::Plan;
+use withdrawal::reach::hazard_reach;
+use withdrawal::reply::Reached;
 ghost use mathlib.Core.Path.{_≡_};
 ghost use mathlib.Core.Bool.{true, _&&_};
 ghost use Prim.Native.Nat.{_*_};
@@ -36,8 +38,9 @@ ghost use Rattle.job.specs.Given.{givenHazards};
 ghost use Rattle.job.specs.Writing.{writeJob};
 ghost use Rattle.job.specs.Fits.{headerInRange, JobFits};
 ghost use Rattle.schedule.specs.Plan.{plan, planReply, bytesWritten, outputAfter};
+ghost use Rattle.withdrawal.specs.Reach.{reachReply};
 ghost use Rattle.open_memory.specs.Memory.{hazardGiven, admit, isOpenJob};
-ghost use Rattle.open_job.specs.Calls.{openJob, underRules, addTo, withdrawFrom, testState, keptJob, Changes};
+ghost use Rattle.open_job.specs.Calls.{openJob, underRules, addTo, withdrawFrom, reachUnder, testState, keptJob, Changes};
 
 // A refusal, and the present state as it was.
 fn unchanged(job: StoredJob, refusal: Refusal) -> Change
@@ -215,6 +218,35 @@ pub fn schedule(sound: bool, job: StoredJob, side: u64, out: &mut [u8]) -> Plan
         }
     } else {
         Plan::Refused(Refusal::HeaderRange(0))
+    }
+}
+
+// From an open job: 12, or how far the withdrawal of the hazard would reach.
+fn reach_named(job: StoredJob, name: u16) -> Reached
+    requires { ⌜ isOpenJob job ≡ true ⌝ }
+    ensures { λ r. ⌜ reachReply r ≡ reachUnder job name ⌝ }
+{
+    let at = place_of(job, name);
+    if stands_at(job, at, name) {
+        let header = job.header;
+        Reached::Hazard(hazard_reach(header, unnamed(job.hazards[at])))
+    } else {
+        Reached::Refused(Refusal::Name(name as usize))
+    }
+}
+
+// How far the withdrawal of the hazard under a name would reach.
+pub fn reach(sound: bool, job: StoredJob, name: u16) -> Reached
+    ensures { λ r. ⌜ reachReply r ≡ underRules (isOpenJob job && sound) (reachUnder job name) ⌝ }
+{
+    if sound {
+        if is_open_job(job) {
+            reach_named(job, name)
+        } else {
+            Reached::Refused(Refusal::HeaderRange(0))
+        }
+    } else {
+        Reached::Refused(Refusal::HeaderRange(0))
     }
 }
 

@@ -14,7 +14,8 @@ use Rattle.base.proofs.TestLaws.{any-intro, not-both}
 use Rattle.job.specs.declared.Header.{Header}
 use Rattle.job.specs.declared.NamedHazard.{NamedHazard}
 use Rattle.job.specs.Job.{unnamed}
-use Rattle.open_memory.specs.Memory.{greatestName, stands, inserted, without}
+use Rattle.job.specs.Reply.{unused}
+use Rattle.open_memory.specs.Memory.{greatestName, stands, hazardUnder, inserted, without}
 use Rattle.open_memory.specs.Steps.{rank, putAt, takenAt}
 use Rattle.open_memory.proofs.RuleLaws.{Admitted, Stand}
 
@@ -137,6 +138,25 @@ module _ (h : Header) (name : ℕ) where
           let within = r (rw (ne-eqb (p .name) name (λ q. omega arith)) at f) in
           rw (lt-ltb (p .name) name l) (omega arith)
       go (no l) r f = rw (le-ltb (p .name) name (omega arith)) (omega arith)
+
+  -- The hazard under a name that stands is the one at its place.
+  pub under-at : (low : ℕ) (ps : List NamedHazard) → Stand h low ps → stands name ps ≡ true → hazardUnder name ps ≡ getD ps (rank name ps) unused
+  unfolding rank stands someOf hazardUnder filter
+  under-at low [] t e = absurd (false≢true e)
+  under-at low (p ∷ ps) t e = go (decLt (p .name) name) (ℕ-discrete (p .name) name) (under-at (p .name + 1) ps (t .3)) e
+    where
+      own : NamedHazard → Bool
+      own q = eqb (q .name) name
+
+      go : Dec (p .name < name) → Dec (p .name ≡ name) → (someOf own ps ≡ true → getD (filter own ps) 0 unused ≡ getD ps (rank name ps) unused) → (eqb (p .name) name || someOf own ps) ≡ true
+          → getD (if eqb (p .name) name then p ∷ filter own ps else filter own ps) 0 unused ≡ getD (p ∷ ps) (if ltb (p .name) name then suc (rank name ps) else 0) unused
+      go (yes l) s r f =
+          let apart : eqb (p .name) name ≡ false = ne-eqb (p .name) name (λ q. omega arith) in
+          rw (apart, lt-ltb (p .name) name l) (r (rw apart at f))
+      go (no l) (yes s) r f = rw (eq-eqb (p .name) name s, le-ltb (p .name) name (omega arith))
+      go (no l) (no s) r f =
+          let apart = ne-eqb (p .name) name s in
+          absurd (not-both (rw apart at f) (none-below h (p .name + 1) name ps (t .3) (omega arith)))
 
 -- Putting in keeps the rules
 

@@ -3,7 +3,7 @@
 use Prim.Native.Nat.{ℕ, _+_}
 use mathlib.Core.Bool.{Bool, true, _&&_, not}
 use mathlib.Core.List.{List, [], _∷_}
-use lib.ListN.{length, take, drop}
+use lib.ListN.{length, take, drop, getD}
 use lib.Dec.{leb, ltb, eqb}
 use Rattle.base.specs.Choice.{if_then_else_, someOf, allOf, filter}
 use Rattle.base.specs.Answer.{Answer, _>>=_, isAccepted}
@@ -40,6 +40,10 @@ laidOut h ps = record { header = counted h (length ps); hazards = padded mostSta
 -- Some hazard stands under the name.
 unfoldable pub stands : (name : ℕ) → List NamedHazard → Bool
 stands name ps = someOf (λ (p : NamedHazard). eqb (p .name) name) ps
+
+-- The hazard that stands under a name; zeros where none does.
+unfoldable pub hazardUnder : (name : ℕ) → List NamedHazard → NamedHazard
+hazardUnder name ps = getD (filter (λ (p : NamedHazard). eqb (p .name) name) ps) 0 unused
 
 -- As many stand as may stand together.
 abbrev pub isFull : List NamedHazard → Bool

@@ -6,7 +6,7 @@ use mathlib.Core.Path.{_≡_, refl, sym, ap, subst, _∙_}
 use mathlib.Core.Logic.{_⊎_, inl, inr, _↔_, ⊎-elim}
 use mathlib.Core.Bool.{Bool, true, false, _||_, not, false≢true}
 use mathlib.Core.List.{List, [], _∷_, _++_, map, List·Memᴰ, List·Memᴰ·head, List·Memᴰ·tail, List·Memᴰ·cases-cons, List·Memᴰ·not-nil, List·Memᴰ·append-cases, List·Memᴰ·eq-of-singleton, Memᴰ·append-left, Memᴰ·append-right, Memᴰ·map, Memᴰ·of-map}
-use lib.ListN.{length, take, drop, take-append-drop}
+use lib.ListN.{length, take, drop, getD, take-append-drop}
 use lib.Dec.{eqb}
 use borrow.Author.Tests.{eq-eqb, ne-eqb, eqb-true}
 use Rattle.base.specs.Choice.{if_then_else_, someOf, filter}
@@ -15,10 +15,11 @@ use Rattle.job.specs.declared.Header.{Header}
 use Rattle.job.specs.declared.Hazard.{Hazard}
 use Rattle.job.specs.declared.NamedHazard.{NamedHazard}
 use Rattle.job.specs.Job.{unnamed}
-use Rattle.open_memory.specs.Memory.{stands, inserted, without}
+use Rattle.job.specs.Reply.{unused}
+use Rattle.open_memory.specs.Memory.{stands, hazardUnder, inserted, without}
 use Rattle.open_memory.specs.Steps.{rank}
 use Rattle.open_memory.proofs.RuleLaws.{Stand}
-use Rattle.open_memory.proofs.PlaceLaws.{other-name, none-below, inserted-at}
+use Rattle.open_memory.proofs.PlaceLaws.{standing-named, other-name, none-below, inserted-at}
 
 -- Which hazards
 
@@ -59,6 +60,26 @@ stands-none name ps none = go (decided (stands name ps))
     go : (stands name ps ≡ true) ⊎ (stands name ps ≡ false) → stands name ps ≡ false
     go (inr f) = f
     go (inl t) = let w = stands-which name ps t in absurd (none (w .0) (w .1) (w .2))
+
+-- The same hazards have the same names.
+pub stands-alike : (name : ℕ) (ps qs : List NamedHazard) → ((p : NamedHazard) → List·Memᴰ p ps ↔ List·Memᴰ p qs) → stands name ps ≡ stands name qs
+stands-alike name ps qs same = go (decided (stands name qs))
+  where
+    go : (stands name qs ≡ true) ⊎ (stands name qs ≡ false) → stands name ps ≡ stands name qs
+    go (inl t) = let w = stands-which name qs t in (rw (w .2) at (standing-named (same (w .0) .1 (w .1)))) ∙ sym t
+    go (inr f) = stands-none name ps (λ p m. other-name name qs p f (same p .0 m)) ∙ sym f
+
+-- The hazard under a name that stands is one of them, and has the name.
+pub under-which : (name : ℕ) (ps : List NamedHazard) → stands name ps ≡ true → List·Memᴰ (hazardUnder name ps) ps × (hazardUnder name ps .name ≡ name)
+unfolding hazardUnder stands someOf filter
+under-which name [] e = absurd (false≢true e)
+under-which name (p ∷ ps) e = go (eqb (p .name) name) refl e (under-which name ps)
+  where
+    go : (b : Bool) → eqb (p .name) name ≡ b → (b || stands name ps) ≡ true → (stands name ps ≡ true → List·Memᴰ (hazardUnder name ps) ps × (hazardUnder name ps .name ≡ name))
+        → List·Memᴰ (getD (if b then p ∷ filter (λ (q : NamedHazard). eqb (q .name) name) ps else filter (λ (q : NamedHazard). eqb (q .name) name) ps) 0 unused) (p ∷ ps)
+        × (getD (if b then p ∷ filter (λ (q : NamedHazard). eqb (q .name) name) ps else filter (λ (q : NamedHazard). eqb (q .name) name) ps) 0 unused .name ≡ name)
+    go true q f r = (List·Memᴰ·head refl, eqb-true _ _ q)
+    go false q f r = let w = r f in (List·Memᴰ·tail (w .0), w .1)
 
 -- The names of some of the hazards are no others.
 pub stands-fewer : (name : ℕ) (ps qs : List NamedHazard) → ((p : NamedHazard) → List·Memᴰ p qs → List·Memᴰ p ps) → stands name ps ≡ false → stands name qs ≡ false

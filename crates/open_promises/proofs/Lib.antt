@@ -13,3 +13,4 @@ pub mod BuildLaws
 pub mod MeaningLaws
 pub mod EqualLaws
 pub mod WithdrawalLaws
+pub mod ReachLaws

@@ -24,7 +24,7 @@ use Rattle.open_memory.specs.Memory.{standing, isOpenJob}
 use Rattle.open_memory.proofs.RangeLaws.{counted-fits}
 use Rattle.open_memory.proofs.RuleLaws.{counted-hazard, counted-passed, made-fits, Stand}
 use Rattle.open_job.specs.States.{nothingKept, keptFrom, stateOf, isUsed, isNothingKept, keptStates, keptUnder, areOpenStates}
-use Rattle.open_job.specs.Calls.{memoryAfter, addIn, withdrawIn, scheduleIn, keepIn, returnIn}
+use Rattle.open_job.specs.Calls.{memoryAfter, addIn, withdrawIn, scheduleIn, reachIn, keepIn, returnIn}
 use Rattle.open_job.proofs.LayoutLaws.{KeepsRules, open-exactly}
 use Rattle.open_job.specs.declared.KeptState.{KeptState}
 use Rattle.open_job.specs.declared.OpenStates.{OpenStates}
@@ -147,5 +147,12 @@ memory-promise m places = (
 )
 
 pub rules-promise : RulesPromise
-unfolding addIn withdrawIn scheduleIn keepIn returnIn
-rules-promise m broken = record { adds = λ name z. rw broken; withdrawals = λ name. rw broken; schedules = λ side room. rw broken; keeps = λ number. rw broken; returns = λ number. rw broken }
+unfolding addIn withdrawIn scheduleIn reachIn keepIn returnIn
+rules-promise m broken = record {
+  adds = λ name z. rw broken;
+  withdrawals = λ name. rw broken;
+  schedules = λ side room. rw broken;
+  reaches = λ name. rw broken;
+  keeps = λ number. rw broken;
+  returns = λ number. rw broken;
+}

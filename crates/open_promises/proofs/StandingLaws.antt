@@ -3,7 +3,7 @@
 use Prim.Native.Nat.{ℕ, _≤_}
 use native.Mathlib.Omega.{arith}
 use mathlib.Core.Path.{_≡_, refl, sym, ap, _∙_}
-use mathlib.Core.Logic.{_⊎_, inl, inr, _↔_, ⊎-elim}
+use mathlib.Core.Logic.{inl, inr, _↔_, ⊎-elim}
 use mathlib.Core.Bool.{Bool, true, false, not}
 use mathlib.Core.List.{List, [], _∷_, _++_, List·Memᴰ, List·Memᴰ·head, List·Memᴰ·append-cases, List·Memᴰ·eq-of-singleton, Memᴰ·append-left, Memᴰ·append-right}
 use lib.ListN.{length, length-append}
@@ -12,7 +12,7 @@ use Rattle.base.specs.Choice.{if_then_else_}
 use Rattle.base.specs.Answer.{Answer, accepted, refused, _>>=_, isAccepted}
 use Rattle.refusal.specs.Refusal.{unless-refuse}
 use Rattle.refusal.specs.declared.Refusal.the-variants as Row
-use Rattle.base.proofs.TestLaws.{decided, impossible}
+use Rattle.base.proofs.TestLaws.{impossible}
 use Rattle.job.specs.declared.Header.{Header}
 use Rattle.job.specs.declared.Hazard.{Hazard}
 use Rattle.job.specs.declared.NamedHazard.{NamedHazard}
@@ -20,11 +20,11 @@ use Rattle.job.specs.declared.StoredJob.{StoredJob}
 use Rattle.job.specs.Job.{named}
 use Rattle.open_memory.specs.Memory.{mostStanding, laidOut, stands, isFull, inserted, without, admit}
 use Rattle.open_memory.proofs.RuleLaws.{admitted, Stand}
-use Rattle.open_memory.proofs.PlaceLaws.{other-name, standing-named, inserted-stand, inserted-length, without-stand}
+use Rattle.open_memory.proofs.PlaceLaws.{inserted-stand, inserted-length, without-stand}
 use Rattle.open_job.specs.Calls.{testAdd, memoryAfter, addTo, withdrawFrom}
 use Rattle.open_job.proofs.LayoutLaws.{add-laid, withdraw-laid}
 use Rattle.open_promises.specs.Lists.{Edit, add, withdraw, Nameable, standAfter}
-use Rattle.open_promises.proofs.HazardLaws.{inserted-which, without-cases, without-other, stands-which, stands-none, none-taken, Distinct, stand-distinct, distinct-more, distinct-less, without-length, one-less}
+use Rattle.open_promises.proofs.HazardLaws.{inserted-which, without-cases, without-other, stands-alike, none-taken, Distinct, stand-distinct, distinct-more, distinct-less, without-length, one-less}
 
 -- An add that is not refused.
 pub record MayAdd (h : Header) (ps : List NamedHazard) (name : ℕ) (z : Hazard) : Type 0 where
@@ -75,11 +75,7 @@ pub record Agree (h : Header) (ps past : List NamedHazard) : Type 0 where
 
 module _ (h : Header) {ps past : List NamedHazard} (k : Agree h ps past) where
   pub stands-same : (name : ℕ) → stands name ps ≡ stands name past
-  stands-same name = go (decided (stands name past))
-    where
-      go : (stands name past ≡ true) ⊎ (stands name past ≡ false) → stands name ps ≡ stands name past
-      go (inl t) = let w = stands-which name past t in (rw (w .2) at (standing-named (k .same (w .0) .1 (w .1)))) ∙ sym t
-      go (inr f) = stands-none name ps (λ p m. other-name name past p f (k .same p .0 m)) ∙ sym f
+  stands-same name = stands-alike name ps past (k .same)
 
   -- So an add is tested alike.
   pub tests-same : (name : ℕ) (z : Hazard) → testAdd h ps name z ≡ testAdd h past name z

@@ -22,7 +22,8 @@ use Rattle.planning.proofs.EnvelopeLaws.{accepted-fits}
 use Rattle.schedule.specs.Plan.{plan}
 use Rattle.schedule.specs.Planned.{Accepted, scheduleAlone, Planned}
 use Rattle.demands.specs.Demands.{Alike}
-use Rattle.demands.specs.Withdrawal.{lengthenedAtBothEnds, withdrawalReach, Unaltered, no-envelope, other-side, Beyond, outside, unaltered, SameBeyond}
+use Rattle.withdrawal.specs.Reach.{lengthenedAtBothEnds, withdrawalReach}
+use Rattle.demands.specs.Withdrawal.{Unaltered, no-envelope, other-side, Beyond, outside, unaltered, SameLevels}
 use Rattle.demands.proofs.DemandLaws.{counted-alike}
 use Rattle.demands.proofs.WithdrawalLaws.{same-beyond, side-plans, same-shown}
 use Rattle.open_memory.specs.Memory.{standing, stands, without}
@@ -53,12 +54,12 @@ under-name h s m stood name e =
 -- The jobs before and after
 
 -- The hazard count has no part in a withdrawal's reach.
-unaltered-counted : (h : Header) (n : ℕ) (z : Hazard) (side : ℕ) → Unaltered h z side → Unaltered (counted h n) z side
+pub unaltered-counted : (h : Header) (n : ℕ) (z : Hazard) (side : ℕ) → Unaltered h z side → Unaltered (counted h n) z side
 unfolding reached reaches farther
 unaltered-counted h n z side (no-envelope r) = no-envelope r
 unaltered-counted h n z side (other-side d) = other-side d
 
-beyond-counted : (h : Header) (n : ℕ) (z : Hazard) (side t : ℕ) → Beyond h z side t → Beyond (counted h n) z side t
+pub beyond-counted : (h : Header) (n : ℕ) (z : Hazard) (side t : ℕ) → Beyond h z side t → Beyond (counted h n) z side t
 unfolding withdrawalReach lengthenedAtBothEnds cutEnvelope cutToRoad envelope lengthening reaches reachOf offsetOf farther
 beyond-counted h n z side t (outside k) = outside k
 beyond-counted h n z side t (unaltered u) = unaltered (unaltered-counted h n z side u)
@@ -86,7 +87,7 @@ module _ (h : Header) (past : List NamedHazard) (name : ℕ) (p : NamedHazard) (
   back : Alike (counted h (length others)) (counted h (length zs))
   back = counted-alike h (length others) (length zs)
 
-  without-levels : AcceptedFits (madeFrom h zs) → SameBeyond h (unnamed p) (jobLevel (madeFrom h zs)) (jobLevel (madeFrom h others))
+  without-levels : AcceptedFits (madeFrom h zs) → SameLevels (Beyond h (unnamed p)) (jobLevel (madeFrom h zs)) (jobLevel (madeFrom h others))
   without-levels fits side t b = same-beyond (madeFrom h zs) (madeFrom h others) to back (unnamed p) only among fits (Memᴰ·map unnamed (under .member)) side t (beyond-counted h (length zs) (unnamed p) side t b)
 
   without-plans : (s₁ s₂ : List ℕ) → Accepted s₁ (madeFrom h zs) → Accepted s₂ (madeFrom h others) → (side : ℕ) → Unaltered h (unnamed p) side → (room : ℕ) → plan s₂ side room ≡ plan s₁ side room
@@ -120,7 +121,7 @@ module _ (s : List ℕ) (j : Job) (calls : List Call) (m : OpenStates) (from : C
     }
 
 -- The schedule call's bytes are the planned schedule of the job that the memory answers as.
-scheduled-planned : (m : OpenStates) (j : Job) → AnswersAs m j → (side : ℕ) (w : List ℕ) → Scheduled m side w → Planned (writeJob j) side w
+pub scheduled-planned : (m : OpenStates) (j : Job) → AnswersAs m j → (side : ℕ) (w : List ℕ) → Scheduled m side w → Planned (writeJob j) side w
 scheduled-planned m j a side w p room l = ap scheduleAlone (sym (a .planned side room)) ∙ p room l
 
 pub withdrawal-promise : WithdrawalPromise
@@ -132,7 +133,7 @@ withdrawal-promise s j calls m from name next e = record {
   after = after;
   levels = levels;
   shown = λ side low right left rightAfter leftAfter p q.
-      same-shown (writeJob old) (writeJob new) old new (before .is-accepted) (after .is-accepted) h (unnamed (found .0)) levels side low right left rightAfter leftAfter
+      same-shown (writeJob old) (writeJob new) old new (before .is-accepted) (after .is-accepted) (Beyond h (unnamed (found .0))) levels side low right left rightAfter leftAfter
       (scheduled-planned m old before side _ p) (scheduled-planned next new after side _ q);
   nothing-alters = λ side u room. after .planned side room ∙ plans side u room ∙ sym (before .planned side room);
 }
@@ -164,7 +165,7 @@ withdrawal-promise s j calls m from name next e = record {
     same : new ≡ madeFrom h (map unnamed (without name past))
     same = ap (λ (l : List NamedHazard). madeFrom h (map unnamed l)) (added-without h calls name)
 
-    levels : SameBeyond h (unnamed (found .0)) (jobLevel old) (jobLevel new)
+    levels : SameLevels (Beyond h (unnamed (found .0))) (jobLevel old) (jobLevel new)
     levels = rw same (without-levels h past name (found .0) (found .1) (accepted-fits (writeJob old) old (before .is-accepted)))
 
     plans : (side : ℕ) → Unaltered h (unnamed (found .0)) side → (room : ℕ) → plan (writeJob new) side room ≡ plan (writeJob old) side room

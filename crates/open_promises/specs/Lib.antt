@@ -3,3 +3,4 @@ pub mod Lists
 pub mod Rules
 pub mod Adding
 pub mod Withdrawal
+pub mod Reach

@@ -15,7 +15,7 @@ use Rattle.open_memory.specs.Memory.{mostStanding, standing}
 use Rattle.open_job.specs.declared.KeptState.{KeptState}
 use Rattle.open_job.specs.declared.OpenStates.{OpenStates}
 use Rattle.open_job.specs.States.{greatestStateNumber, isUsed, keptStates, keptUnder, areOpenStates}
-use Rattle.open_job.specs.Calls.{addIn, withdrawIn, scheduleIn, keepIn, returnIn}
+use Rattle.open_job.specs.Calls.{addIn, withdrawIn, scheduleIn, reachIn, keepIn, returnIn}
 use Rattle.open_promises.specs.Lists.{Call, CallsFrom}
 
 -- Memory that breaks the rules
@@ -25,6 +25,7 @@ pub record AllRefused (m : OpenStates) : Type 0 where
   pub adds : (name : ℕ) (z : Hazard) → addIn m name z ≡ refused 3 0
   pub withdrawals : (name : ℕ) → withdrawIn m name ≡ refused 3 0
   pub schedules : (side room : ℕ) → scheduleIn m side room ≡ refused 3 0
+  pub reaches : (name : ℕ) → reachIn m name ≡ refused 3 0
   pub keeps : (number : ℕ) → keepIn m number ≡ refused 3 0
   pub returns : (number : ℕ) → returnIn m number ≡ refused 3 0
 

@@ -28,12 +28,12 @@ use Rattle.planning.specs.Envelope.{testHazards, acceptJob}
 use Rattle.planning.specs.Approached.{hazardAt}
 use Rattle.planning.specs.Reply.{Cuts, cutsOf, testedEnvelopes}
 use Rattle.planning.specs.Rows.{Passed, AcceptedFits}
-use Rattle.planning.specs.Walk.{Given}
+use Rattle.planning.specs.Walk.{GivenFits}
 use Rattle.planning.specs.Accept.{AcceptedSide, sideOf, AcceptedHazard, indexedHazard}
 use Rattle.planning.proofs.EnvelopeLaws.{accepted-fits}
 
 -- No hazard is given beside bytes.
-pub none-given : (h : Header) (s : List ℕ) → Given h [] s
+pub none-given : (h : Header) (s : List ℕ) → GivenFits h [] s
 unfolding givenHazards
 none-given h s = record { whole = omega arith; fit = λ z m. absurd (List·Memᴰ·not-nil m); alone = λ some. absurd (omega arith) }
 

@@ -63,7 +63,7 @@ module _ (j : Job) (fits : AcceptedFits j) (i : ℕ) (l : i < length (j .hazards
       let reach = reached-near (j .header) (hazardAt j i) (hazard-bounds (j .header) (hazardAt j i) own-fits .side) ∙ lt-ltb _ _ r in
       record { header = fits .fits .header; hazard = own-fits; reach = r; clear = fits .passed (hazardAt j i) member .clear reach }
 
--- As it is asked for by `hazard_of`, which refuses where there is none.
+-- As it is asked for by `indexed_hazard`, which refuses where there is none.
 module _ (s : List ℕ) (i : ℕ) where
   -- What is known of it.
   record Known (h : Header) (z : Hazard) : Type 0 where

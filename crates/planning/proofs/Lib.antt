@@ -12,3 +12,4 @@ pub mod RowLaws
 pub mod RoadLaws
 pub mod AdjacentLaws
 pub mod ApproachedLaws
+pub mod OwnLaws

@@ -35,7 +35,7 @@ use Rattle.planning.specs.declared.Overhangs.{Overhangs}
 use Rattle.planning.specs.declared.walk.Taken.{Taken}
 use Rattle.planning.specs.Envelope.{reached, envelope, envelopes, cutToRoad, overhang, noOverhang, greater, overhangs, standsNear, testHazard, testHazards}
 use Rattle.planning.specs.Reply.{Cuts, noCuts, cutsOf, _followedBy_, testedHazard, testedEnvelopes}
-use Rattle.planning.specs.Walk.{Places, nothingTaken, cutsTaken, takenAnswer, Takes, walkedAnswer, Walks}
+use Rattle.planning.specs.Walk.{PlacesFor, nothingTaken, cutsTaken, takenAnswer, Takes, walkedAnswer, Walks}
 use Rattle.planning.proofs.OverhangLaws.{greater-assoc, greater-none, none-greater}
 
 -- Hazards, and one behind them
@@ -223,14 +223,14 @@ pub record SoFar (h : Header) (given : List Hazard) (side asked : ℕ) (s : List
   pub keyed : Keyed keys ends (t .count)
   pub few : t .count ≤ i
   pub near : t .near ≤ 256
-  pub places : Places h side asked keys ends noted
+  pub places : PlacesFor h side asked keys ends noted
   pub note : t .near ≡ 256 → 2 ≤ side → hazardOf noted ≡ getD got asked (hazardOf noted₀)
 
 pub none-keyed : (keys ends : List ℕ) → Keyed keys ends 0
 none-keyed keys ends = record { few = omega arith; keys-there = omega arith; ends-there = omega arith; own = λ i l. absurd (omega arith) }
 
 module _ (h : Header) (given : List Hazard) (side asked : ℕ) (s : List ℕ) (first : ℕ) (noted₀ : List ℕ) where
-  pub walk-begun : (keys ends : List ℕ) → Places h side asked keys ends noted₀ → SoFar h given side asked s first noted₀ keys ends noted₀ nothingTaken first 0
+  pub walk-begun : (keys ends : List ℕ) → PlacesFor h side asked keys ends noted₀ → SoFar h given side asked s first noted₀ keys ends noted₀ nothingTaken first 0
   unfolding testedEnvelopes testHazards envelopes overhangs
   walk-begun keys ends places = record {
     got = [];

@@ -39,7 +39,7 @@ pub record AcceptedHazard : Type 0 where
   pub header : Header
   pub hazard : Hazard
 
--- "14, no such hazard." It returns 0.
+-- "14, no such hazard or .." It returns 0.
 unfoldable pub indexedHazard : (s : List ℕ) (index : ℕ) → Answer AcceptedHazard
 indexedHazard s i =
     acceptJob s >>= λ j.

@@ -5,4 +5,5 @@ pub mod Approached
 pub mod Reply
 pub mod Walk
 pub mod Accept
+pub mod Own
 pub mod Rows

@@ -1,4 +1,4 @@
--- The walk over a job's hazards: what it asks, what it takes, and what is so far.
+-- The walk over a job's hazards: what it asks, what it takes, and what it has taken so far.
 -- Assumes nothing.
 use Prim.Native.Nat.{ℕ, _+_, _*_, _≤_, _<_}
 use mathlib.Core.Path.{_≡_}
@@ -25,13 +25,13 @@ use Rattle.planning.specs.Reply.{Cuts, _followedBy_, testedHazard, teste
 -- What it asks
 
 -- Hazards given as numbers lie in their ranges, and no bytes stand beside them.
-pub record Given (h : Header) (numbers s : List ℕ) : Type 0 where
+pub record GivenFits (h : Header) (numbers s : List ℕ) : Type 0 where
   pub whole : length numbers ≡ 3 * length (givenHazards numbers)
   pub fit : (z : Hazard) → List·Memᴰ z (givenHazards numbers) → HazardFits h z
   pub alone : 0 < length numbers → length s ≡ 0
 
--- Places for every envelope of a side, and for the hazard that is asked for.
-pub record Places (h : Header) (side asked : ℕ) (keys ends noted : List ℕ) : Type 0 where
+-- PlacesFor for every envelope of a side, and for the hazard that is asked for.
+pub record PlacesFor (h : Header) (side asked : ℕ) (keys ends noted : List ℕ) : Type 0 where
   pub for-keys : side ≤ 1 → h .count ≤ length keys
   pub for-ends : side ≤ 1 → h .count ≤ length ends
   pub for-hazard : asked < h .count → length noted ≡ 6

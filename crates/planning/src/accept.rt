@@ -72,7 +72,7 @@ pub fn side_of(s: &[u8], side: u64, keys: &mut [u64], ends: &mut [u64]) -> Side
 }
 
 // The hazard with this index of the accepted job that the bytes are; or the first refusal of 1 to 5 and 7, then 14.
-pub fn hazard_of(s: &[u8], index: u64) -> Indexed
+pub fn indexed_hazard(s: &[u8], index: u64) -> Indexed
     ensures { λ r. ⌜ indexedAnswer r ≡ indexedHazard (now (s .entry)) index ⌝ }
 {
     match read_header(s) {

@@ -2,6 +2,7 @@
 pub mod accept; // the entrances: a side, and a hazard, of an accepted job
 pub mod envelope; // a hazard's envelope, cut at the road's ends, and its test
 pub mod near; // a hazard too near to the barrier
+pub mod own; // the envelope of one hazard
 pub mod side; // the runs of a side
 pub mod walk; // one walk over a job's hazards
 

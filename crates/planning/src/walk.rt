@@ -1,4 +1,5 @@
-// One walk over a job's hazards, for every call: each is read and tested as it comes, and nothing but what is asked for is stored.
+// One walk over a job's hazards, for every call that plans or asks about a hazard: each is read and tested as it comes, and nothing but what is asked
+// for is stored.
 use super::Overhangs;
 use super::envelope::Tested;
 use super::envelope::test_hazard;
@@ -19,7 +20,7 @@ ghost use Rattle.job.specs.Given.{givenHazards};
 ghost use Rattle.job.specs.Fits.{HeaderFits, HazardFits};
 ghost use Rattle.runs.specs.Keys.{Keyed};
 ghost use Rattle.planning.specs.Envelope.{greater};
-ghost use Rattle.planning.specs.Walk.{nothingTaken, Takes, Walks, Places, Given};
+ghost use Rattle.planning.specs.Walk.{nothingTaken, Takes, Walks, PlacesFor, GivenFits};
 
 // What a walk has taken: the envelopes of a side, whose keys and ends stand in the first `count` places of two arrays, and their greatest
 // overhangs. The first hazard that stands too near is held, as 7 is tested before 5; 256 for none.
@@ -151,8 +152,8 @@ pub fn walk(
     noted: &mut [u64],
 ) -> Walked
     requires { ⌜ HeaderFits header ⌝ }
-    requires { ⌜ Given header (now given) (now s) ⌝ }
-    requires { ⌜ Places header side asked (now keys) (now ends) (now noted) ⌝ }
+    requires { ⌜ GivenFits header (now given) (now s) ⌝ }
+    requires { ⌜ PlacesFor header side asked (now keys) (now ends) (now noted) ⌝ }
     ensures { λ r. ⌜ Walks header (givenHazards (now (given .entry))) side asked (now (s .entry)) first (now (noted .entry)) (now (keys .exit)) (now (ends .exit)) (now (noted .exit)) r ⌝ }
 {
     let count = header.count as usize;

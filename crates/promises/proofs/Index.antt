@@ -103,6 +103,8 @@ pub use Rattle.panels.proofs.WorkedLaws.{five-tries, all-tries, none-covers}
 -- Document 02, request 14: how far one withdrawal reaches
 pub use Rattle.demands.proofs.WithdrawalLaws.{withdrawal-reach}
 pub use Rattle.open_promises.proofs.WithdrawalLaws.{withdrawal-promise}
+pub use Rattle.demands.proofs.ReachLaws.{reach-given, reach-refusals, reach-fourteen}
+pub use Rattle.open_promises.proofs.ReachLaws.{reach-promise}
 -- Where literal words and computing forms stand side by side
 pub use Rattle.station_level.proofs.NearestLaws.{level-found, level-lower}
 pub use Rattle.clear_offset.proofs.SearchLaws.{least-exactly, none-exactly}

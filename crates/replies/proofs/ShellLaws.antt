@@ -14,11 +14,11 @@ use Rattle.schedule.specs.Plan.{plan, bytesWritten, outputAfter}
 use Rattle.open_memory.specs.Memory.{isOpenJob}
 use Rattle.open_job.specs.declared.OpenStates.{OpenStates}
 use Rattle.open_job.specs.States.{keptStates, keptFrom, statesFrom, allSound, areOpenStates}
-use Rattle.open_job.specs.Calls.{memoryAfter, openStates, underRules, changedIn, addTo, addIn, withdrawFrom, withdrawIn, scheduleIn, testState, keepIn, keptJob, returnIn}
+use Rattle.open_job.specs.Calls.{memoryAfter, openStates, underRules, changedIn, addTo, addIn, withdrawFrom, withdrawIn, scheduleIn, reachUnder, reachIn, testState, keepIn, keptJob, returnIn}
 use Rattle.open_job.specs.Parts.{lookedFor, eachChosen, eachEmptied}
 use Rattle.open_job.proofs.WholeLaws.{change-whole, keep-whole, return-whole, open-whole}
 use Rattle.replies.specs.declared.open.Changed.{Changed}
-use Rattle.replies.specs.Interface.{replyOf, planReplyOf}
+use Rattle.replies.specs.Interface.{replyOf, planReplyOf, reachReplyOf}
 use Rattle.replies.specs.OpenInterface.{changedBy, endedBy, openedBy}
 
 module _ (m : OpenStates) where
@@ -62,3 +62,7 @@ module _ (m : OpenStates) where
       (planReplyOf (bytesWritten a) ≡ planReplyOf (bytesWritten (scheduleIn m side (length out)))) × (outputAfter a out ≡ outputAfter (scheduleIn m side (length out)) out)
   unfolding scheduleIn areOpenStates
   schedule-shell side out = (refl, refl)
+
+  pub reach-shell : (name : ℕ) → reachReplyOf (tested (reachUnder (m .present) name)) ≡ reachReplyOf (reachIn m name)
+  unfolding reachIn areOpenStates
+  reach-shell name = refl

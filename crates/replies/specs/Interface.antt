@@ -7,6 +7,7 @@ use Rattle.schedule.specs.declared.reply.Written.{Written}
 use Rattle.corners.specs.Corners.{Points}
 use Rattle.corners.specs.Reply.{cornersReplied}
 use Rattle.clear_offset.specs.Offset.{Smallest, offset, none}
+use Rattle.withdrawal.specs.declared.reply.Reach.{Reach}
 use Rattle.panels.specs.Panels.{Panels}
 use Rattle.panels.specs.Reply.{layoutReplied}
 use Rattle.queries.specs.Lookup.{Found, found, nowhere}
@@ -17,6 +18,7 @@ use Rattle.replies.specs.declared.Record.{Record}
 use Rattle.replies.specs.declared.Quantities.{Quantities}
 use Rattle.replies.specs.declared.Corners.{Corners}
 use Rattle.replies.specs.declared.SmallestOffset.{SmallestOffset}
+use Rattle.replies.specs.declared.ReachReply.{ReachReply}
 use Rattle.replies.specs.declared.LayoutReply.{LayoutReply}
 
 abbrev pub reply : (number value : ℕ) → Reply
@@ -61,6 +63,21 @@ smallestOf (accepted (offset M)) = record { number = 0; value = M; found = 1 }
 smallestOf (accepted none) = record { number = 0; value = 0; found = 0 }
 smallestOf (refused number value) = record { number = number; value = value; found = 0 }
 
+-- How far a withdrawal reaches; zeros beside a refusal.
+unfoldable pub reachReplyOf : Answer Reach → ReachReply
+reachReplyOf (accepted r) = record {
+  number = 0;
+  value = 0;
+  side = r .side;
+  start = r .start;
+  end = r .end;
+  before = r .overhangs .before;
+  after = r .overhangs .after;
+  from = r .from;
+  to = r .to;
+}
+reachReplyOf (refused number value) = record { number = number; value = value; side = 0; start = 0; end = 0; before = 0; after = 0; from = 0; to = 0 }
+
 -- The smallest overrun and its first layout, a count for each length and zeros after them; zeros where no tried layout covers. Tries and floor
 -- stand in both; beside a refusal zeros only.
 unfoldable pub layoutOf : Answer Panels → LayoutReply
@@ -70,6 +87,6 @@ layoutOf a =
     let some : ℕ = if r .found then 1 else 0 in
     record { number = how .number; value = how .value; found = some; overrun = r .overrun; counts = r .counts; tries = r .tries; floor = r .floor }
 
--- Version 3.2.4, as one number.
+-- Version 3.3.0, as one number.
 abbrev pub version : ℕ
-version = 3 * 1000000 + 2 * 1000 + 4
+version = 3 * 1000000 + 3 * 1000

@@ -1,9 +1,12 @@
-// The call smallest offset, and what C is told.
+// The calls smallest offset and reach, and what C is told.
+use super::ReachReply;
 use super::SmallestOffset;
+use super::reach_reply;
 use clear_offset::reply::Offset;
 ghost use mathlib.Core.Path.{_≡_};
 ghost use Rattle.clear_offset.specs.Offset.{smallestOffset};
-ghost use Rattle.replies.specs.Interface.{smallestOf};
+ghost use Rattle.withdrawal.specs.Reach.{reach};
+ghost use Rattle.replies.specs.Interface.{smallestOf, reachReplyOf};
 
 // The smallest barrier offset whose adjacent approach of a hazard is no longer than wanted.
 pub fn offset(job: &[u8], hazard: u64, longest: u64) -> SmallestOffset
@@ -26,4 +29,11 @@ pub fn offset(job: &[u8], hazard: u64, longest: u64) -> SmallestOffset
             found: 0,
         },
     }
+}
+
+// How far the withdrawal of a hazard reaches.
+pub fn reach(job: &[u8], hazard: u64) -> ReachReply
+    ensures { λ r. ⌜ r ≡ reachReplyOf (reach (now (job .entry)) hazard) ⌝ }
+{
+    reach_reply(withdrawal::reach::reach(job, hazard))
 }

@@ -3,13 +3,15 @@ use corners::reply::Corner;
 use refusal::Outcome;
 use refusal::Refusal;
 use schedule::reply::Plan;
+use withdrawal::reply::Reached;
 ghost use mathlib.Core.Path.{_≡_};
 ghost use Rattle.refusal.specs.Refusal.{numberOf, valueOf, outcome};
 ghost use Rattle.schedule.specs.Plan.{planReply};
-ghost use Rattle.replies.specs.Interface.{reply, replyOf, planReplyOf};
+ghost use Rattle.withdrawal.specs.Reach.{reachReply};
+ghost use Rattle.replies.specs.Interface.{reply, replyOf, planReplyOf, reachReplyOf};
 
 pub mod calls; // the calls on job and schedule bytes
-pub mod hazard; // the call smallest offset
+pub mod hazard; // the calls smallest offset and reach
 pub mod layout; // the call layout
 pub mod open; // the calls on the parts of an open job
 
@@ -65,6 +67,21 @@ pub struct SmallestOffset {
     pub found: u64,
 }
 
+// Number 0: done, with the hazard's side, its envelope [start, end) cut at A and B, its own overhangs, and the stretch [from, to) outside which its
+// withdrawal alters no level of that side; but for the side, 0 where nobody reaches it. Else the refusal, and 0 in all the others.
+#[repr(C)]
+pub struct ReachReply {
+    pub number: u64,
+    pub value: u64,
+    pub side: u64,
+    pub start: u64,
+    pub end: u64,
+    pub before: u64,
+    pub after: u64,
+    pub from: u64,
+    pub to: u64,
+}
+
 // Number 0: where found is 1, the smallest overrun and its first layout's counts, in the order of the lengths, 0 behind them; where it is 0 no
 // tried layout covers, and overrun and counts are 0. Else the refusal, and 0 in all the others.
 #[repr(C)]
@@ -118,6 +135,38 @@ fn plan_reply(reply: Plan) -> PlanReply
             value: refusal::refusal_value(refusal),
             before: 0,
             after: 0,
+        },
+    }
+}
+
+fn reach_reply(reply: Reached) -> ReachReply
+    ensures { λ r. ⌜ r ≡ reachReplyOf (reachReply reply) ⌝ }
+{
+    match reply {
+        Reached::Hazard(reach) => {
+            let overhangs = reach.overhangs;
+            ReachReply {
+                number: 0,
+                value: 0,
+                side: reach.side,
+                start: reach.start,
+                end: reach.end,
+                before: overhangs.before,
+                after: overhangs.after,
+                from: reach.from,
+                to: reach.to,
+            }
+        }
+        Reached::Refused(refusal) => ReachReply {
+            number: refusal::refusal_number(refusal),
+            value: refusal::refusal_value(refusal),
+            side: 0,
+            start: 0,
+            end: 0,
+            before: 0,
+            after: 0,
+            from: 0,
+            to: 0,
         },
     }
 }

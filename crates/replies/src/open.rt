@@ -1,8 +1,10 @@
 // The calls on the parts of an open job's memory, and what C is told. `sound` says that all that is kept keeps the rules.
 use super::PlanReply;
+use super::ReachReply;
 use super::Reply;
 use super::ended;
 use super::plan_reply;
+use super::reach_reply;
 use job::StoredJob;
 use open_job::Change;
 use open_job::KeptState;
@@ -17,8 +19,8 @@ ghost use Rattle.job.specs.Writing.{writeJob};
 ghost use Rattle.schedule.specs.Plan.{plan, bytesWritten, outputAfter};
 ghost use Rattle.open_memory.specs.Memory.{hazardGiven, isOpenJob};
 ghost use Rattle.base.specs.Answer.{replied};
-ghost use Rattle.open_job.specs.Calls.{underRules, addTo, withdrawFrom, testState, keptJob};
-ghost use Rattle.replies.specs.Interface.{replyOf, planReplyOf};
+ghost use Rattle.open_job.specs.Calls.{underRules, addTo, withdrawFrom, reachUnder, testState, keptJob};
+ghost use Rattle.replies.specs.Interface.{replyOf, planReplyOf, reachReplyOf};
 ghost use Rattle.replies.specs.OpenInterface.{changedBy, endedBy, openedBy};
 
 // The present state after a call, and the reply.
@@ -104,4 +106,10 @@ pub fn scheduled(sound: bool, job: StoredJob, side: u64, out: &mut [u8]) -> Plan
     ensures { λ r. ⌜ (r ≡ planReplyOf (bytesWritten (underRules (isOpenJob job && sound) (plan (writeJob (jobOf job)) side (length (now (out .entry))))))) × (now (out .exit) ≡ outputAfter (underRules (isOpenJob job && sound) (plan (writeJob (jobOf job)) side (length (now (out .entry))))) (now (out .entry))) ⌝ }
 {
     plan_reply(open_job::calls::schedule(sound, job, side, out))
+}
+
+pub fn reached(sound: bool, job: StoredJob, name: u16) -> ReachReply
+    ensures { λ r. ⌜ r ≡ reachReplyOf (underRules (isOpenJob job && sound) (reachUnder job name)) ⌝ }
+{
+    reach_reply(open_job::calls::reach(sound, job, name))
 }

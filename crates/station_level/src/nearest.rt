@@ -13,7 +13,7 @@ ghost use Rattle.runs.specs.Keys.{keyedEnvelopes, Keyed};
 ghost use Rattle.runs.specs.Sweep.{AllSound};
 ghost use Rattle.station_level.specs.Nearest.{NearestOf, hasStation};
 
-// What a pass over envelopes keeps for a station, by level; none has level 7, which the last place of a key could say.
+// What a pass over envelopes keeps for a station, by level; a key could say level 7, but no envelope has it.
 pub struct Nearest {
     // The last end of the envelopes that start at or before the station: one that has it, or the nearest before it; 0 for none.
     pub ends: [u64; 8],

@@ -19,6 +19,7 @@ from .scene import Scene
 from .sides import LANE, SideDrawing, stations_title, title_of_band
 from .svg import Sheet, text_width
 from .tables import Table, draw_legend, flow, tables_of
+from .withdrawal import sentences
 
 STATION_SIZE = 9.0
 LABEL_HALF = 7.0  # half the height that a station's label takes on the road
@@ -173,6 +174,9 @@ def told(scene: Scene) -> List[str]:
     for planned in scene.sides:
         if planned.before or planned.after:
             rows.append(f"overhang {planned.letter} {planned.before} {planned.after}")
+    if scene.without is not None:
+        start, end = scene.without.stretch or (0, 0)
+        rows.append(f"without {scene.without.index} {'RL'[scene.without.hazard.side]} {start} {end}")
     return rows
 
 
@@ -196,6 +200,7 @@ def draw(
     parts are the parts of all sheets, where there are several.
     """
     sheet, frame, notes = Sheet(), frame_of(scene, width), Notes()
+    notes.first = sentences(scene, parts)
     _road(sheet, scene, frame)
     sides = [SideDrawing(sheet, scene, frame, planned, notes, lanes_most) for planned in scene.sides]
     for drawing in sides:
@@ -203,7 +208,7 @@ def draw(
     right, left = sides
     _road_ends(sheet, scene, frame, sides)
     bottom = _lots(sheet, scene, frame, sides, right.y, notes)
-    bottom = draw_legend(sheet, bottom + 8, width)
+    bottom = draw_legend(sheet, scene, bottom + 8, width)
     for row in notes.rows(width - 24):
         sheet.text(12, bottom, row, 10)
         bottom += NOTE_ROW

@@ -3,7 +3,7 @@ from __future__ import annotations
 
 from typing import Sequence
 
-from barrier_engine import PlannedSide, metres
+from barrier_engine import PlannedSide, Side, metres
 from barrier_engine.planned import Range
 
 from . import palette
@@ -15,12 +15,21 @@ BAND = 8.0  # how high a side's barriers are drawn
 LEFT_EDGE = 150.0
 MARKS_MOST = 200  # more sheets than this are not marked one by one
 SIZE = 9.0
+OUTLINE = f' stroke="{palette.STRETCH_EDGE}" stroke-width="0.5"'
 
 
 def _barriers(sheet: Sheet, planned: PlannedSide, scale: float, begin: int, y: float) -> None:
     for run in planned.runs:
         x1, x2 = (LEFT_EDGE + scale * (t - begin) for t in (run.start, run.end))
         sheet.rect(x1, y, max(x2, x1 + 0.7), y + BAND, palette.LEVEL[run.level])
+
+
+def _stretch(sheet: Sheet, scene: Scene, side: Side, scale: float, y: float) -> None:
+    """What a withdrawal may alter on a side, behind its barriers."""
+    stretch = scene.stretch_of(side)
+    if stretch is not None:
+        x1, x2 = (LEFT_EDGE + scale * (t - scene.header.begin) for t in stretch)
+        sheet.rect(x1, y - 1, max(x2, x1 + 0.7), y + BAND + 1, palette.STRETCH, OUTLINE)
 
 
 def draw_key_plan(
@@ -33,8 +42,9 @@ def draw_key_plan(
     middle = top + 24
     right, left = scene.sides
     sheet.rect(LEFT_EDGE, middle - 4, width - 20, middle + 4, palette.ROAD)
-    _barriers(sheet, left, scale, begin, middle - 5 - BAND)
-    _barriers(sheet, right, scale, begin, middle + 5)
+    for planned, y in ((left, middle - 5 - BAND), (right, middle + 5)):
+        _stretch(sheet, scene, planned.side, scale, y)
+        _barriers(sheet, planned, scale, begin, y)
     if len(parts) <= MARKS_MOST:
         for start, _ in parts[1:]:
             x = LEFT_EDGE + scale * (start - begin)

@@ -17,6 +17,7 @@ class Notes:
     """Sentences with what they are said of, and counts of what had no room."""
 
     def __init__(self) -> None:
+        self.first: List[str] = []  # whole sentences, which stand before the others
         self.said: Dict[str, List[str]] = {}
         self.left_out: Dict[Tuple[str, str], int] = {}
 
@@ -30,7 +31,7 @@ class Notes:
             self.left_out[one, many] = self.left_out.get((one, many), 0) + count
 
     def sentences(self) -> List[str]:
-        found = [sentence.format(", ".join(what)) for sentence, what in self.said.items()]
+        found = self.first + [sentence.format(", ".join(what)) for sentence, what in self.said.items()]
         if self.left_out:
             counts = ", ".join(f"{count} {one if count == 1 else many}"
                                for (one, many), count in self.left_out.items())

@@ -5,6 +5,7 @@ INK, QUIET, FAINT = "#1f2933", "#52606d", "#cbd2d9"
 ROAD, VERGE = "#dde2e7", "#f3f6ec"
 BARRIER = "#0f4c81"
 ZONE = "#b84e12"
+STRETCH, STRETCH_EDGE = "#d3e9f5", "#2b7a9b"  # what a withdrawal may alter
 LEADER = "#7b8794"
 HATCH = (
     '<pattern id="over" width="3" height="3" patternUnits="userSpaceOnUse" '

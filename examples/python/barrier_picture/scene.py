@@ -8,8 +8,8 @@ from dataclasses import dataclass, replace
 from typing import List, Optional, Sequence, Tuple
 
 from barrier_engine import (
-    Header, Orientation, PlannedHazard, PlannedRoad, PlannedSide, TextJob, kilometres, metres,
-    plan_road,
+    Header, Orientation, PlannedHazard, PlannedRoad, PlannedSide, Side, TextJob, kilometres,
+    metres, plan_road,
 )
 from barrier_engine.planned import LEVELS, Range
 
@@ -32,6 +32,7 @@ class Scene:
     lot_stations: Tuple[int, ...]
     window: Range  # the first and the end station drawn
     in_kilometres: bool = False
+    without: Optional[PlannedHazard] = None  # to be withdrawn: what that may alter is shaded
 
     @property
     def header(self) -> Header:
@@ -66,6 +67,11 @@ class Scene:
     @property
     def is_part(self) -> bool:
         return self.part != (self.header.begin, self.header.end)
+
+    def stretch_of(self, side: Side) -> Optional[Range]:
+        """Where a withdrawal may alter levels of a side, if it may."""
+        drawn = self.without
+        return None if drawn is None or drawn.hazard.side != side else drawn.stretch
 
     def within(self, window: Range) -> Scene:
         return replace(self, window=window)

@@ -7,6 +7,7 @@ from barrier_engine.planned import Range
 
 from .draw import sheet_pages
 from .scene import Scene
+from .withdrawal import sheet_number
 
 SHEETS_MAX = 999
 
@@ -27,10 +28,9 @@ def _window(scene: Scene, part: Range) -> Range:
 def sheets(scene: Scene, name: str, length: int) -> Iterator[Tuple[str, str]]:
     """Each page's number, like 03 or 03-2, and the text of its SVG file."""
     parts = parts_of(scene, length)
-    digits = max(2, len(str(len(parts))))
     for number, part in enumerate(parts, 1):
         here = scene.within(_window(scene, part))
         title = (f"{name}, sheet {number} of {len(parts)}: "
                  f"{scene.station(part[0])} to {scene.station(part[1])}")
         for page, text in enumerate(sheet_pages(here, title, parts), 1):
-            yield f"{number:0{digits}d}" + (f"-{page}" if page > 1 else ""), text
+            yield sheet_number(number, len(parts)) + (f"-{page}" if page > 1 else ""), text

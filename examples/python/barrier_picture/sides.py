@@ -96,6 +96,26 @@ class SideDrawing:
         self.y += self.out * height
         return inner, self.y
 
+    def _shade(self, inner: float, outer: float) -> None:
+        """What a withdrawal may alter, behind what is drawn in a band."""
+        stretch = self.scene.stretch_of(self.side)
+        if stretch is not None and self.frame.shows(*stretch):
+            x1, x2 = (self.frame.x(station) for station in stretch)
+            # A little into the band before, so that no light shows between two.
+            self.sheet.rect(x1, inner - self.out * 0.5, x2, outer, palette.STRETCH,
+                            ' class="stretch"')
+
+    def _band(self, height: float) -> Tuple[float, float]:
+        inner, outer = self._advance(height)
+        self._shade(inner, outer)
+        return inner, outer
+
+    def _stretch_ends(self, inner: float, outer: float) -> None:
+        for station in self.scene.stretch_of(self.side) or ():
+            if self.frame.first <= station <= self.frame.last:
+                x = self.frame.x(station)
+                self.sheet.line([(x, inner), (x, outer)], palette.STRETCH_EDGE, 0.8, "5 3", "stretch")
+
     def _in_window(self) -> List[PlannedHazard]:
         """The hazards that are in the window, themselves or their envelopes."""
         return [d for d in self.planned.hazards
@@ -104,9 +124,9 @@ class SideDrawing:
     def draw(self) -> None:
         self._plan_view()
         self._hazard_numbers()
-        self._advance(GAP)
+        self._band(GAP)
         self._envelopes()
-        self._advance(GAP)
+        self._band(GAP)
         self._levels()
         self._run_numbers()
         self._run_stations()
@@ -119,6 +139,7 @@ class SideDrawing:
         header = self.scene.header
         begin, end = self.frame.x(header.begin), self.frame.x(header.end)
         self.sheet.rect(begin, inner, end, outer, palette.VERGE)
+        self._shade(inner, outer)
         self._offset_lines(begin, end)
         inside = self._in_window()
         self.sheet.raw('<g clip-path="url(#window)">')
@@ -130,6 +151,7 @@ class SideDrawing:
             if self.frame.shows(barrier.start, barrier.end):
                 self._barrier(barrier)
         self.sheet.raw("</g>")
+        self._stretch_ends(inner, outer)
         title_of_band(self.sheet, (inner + outer) / 2, "plan view")
 
     def _offset_lines(self, begin: float, end: float) -> None:
@@ -225,7 +247,7 @@ class SideDrawing:
             placed = in_rows(at, widths, LEFT, self.frame.right, 1, WAY) or []
         rows = 1 + max((place.row for place in placed), default=0)
         first = _fan(farthest(at, placed))
-        inner, _ = self._advance(first + NUMBER_ROW + (rows - 1) * (FAN + NUMBER_ROW))
+        inner, _ = self._band(first + NUMBER_ROW + (rows - 1) * (FAN + NUMBER_ROW))
         for drawn, word, x, place in zip(shown, words, at, placed):
             self._hazard_number(drawn, word, x, place, inner, first)
         title_of_band(self.sheet, inner + self.out * (first + 6), "hazards")
@@ -278,7 +300,7 @@ class SideDrawing:
         if self.lanes_most is not None and self.lanes > self.lanes_most:
             self.lanes = self.lanes_most
             self.notes.leave_out("envelope", "envelopes", sum(1 for lane in lane_of if lane >= self.lanes))
-        inner, _ = self._advance(LANE * self.lanes)
+        inner, _ = self._band(LANE * self.lanes)
         for drawn, lane, (start, end, behind) in zip(shown, lane_of, stretches):
             if lane >= self.lanes:
                 continue
@@ -296,8 +318,10 @@ class SideDrawing:
         if drawn.envelope is not None:
             start, end = drawn.envelope
             begin, stop = self.scene.header.begin, self.scene.header.end
-            self.sheet.rect(frame.x(max(start, begin)), top, frame.x(min(end, stop)), bottom,
-                            _colour(drawn), BAR_KIND + ' fill-opacity="0.45"')
+            x1, x2 = frame.x(max(start, begin)), frame.x(min(end, stop))
+            if self.scene.stretch_of(self.side) is not None:
+                self.sheet.rect(x1, top, x2, bottom, "#ffffff")  # so that no shade shows through
+            self.sheet.rect(x1, top, x2, bottom, _colour(drawn), BAR_KIND + ' fill-opacity="0.45"')
             self._over(start, begin, top, bottom)
             self._over(stop, end, top, bottom)
         x1, x2 = _wide_enough(frame.x(hazard.start), frame.x(hazard.end))
@@ -311,7 +335,7 @@ class SideDrawing:
 
     def _levels(self) -> None:
         """The required level along the side: the higher the level, the higher the bar."""
-        inner, outer = self._advance(6 * LEVEL_STEP)
+        inner, outer = self._band(6 * LEVEL_STEP)
         floor = max(inner, outer)
         self.strip = (min(inner, outer), floor)
         for level in range(7):
@@ -325,6 +349,7 @@ class SideDrawing:
                 x1, x2 = self.frame.x(run.start), self.frame.x(run.end)
                 self.sheet.rect(x1, floor, max(x2, x1 + 0.5), floor - LEVEL_STEP * run.level,
                                 palette.LEVEL[run.level], BAR_KIND)
+        self._stretch_ends(inner, outer)
         header, planned = self.scene.header, self.planned
         # Across the foot line: the reply has no level for what hangs over.
         top, bottom = floor - BAR / 2, floor + BAR / 2

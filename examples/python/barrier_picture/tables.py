@@ -172,13 +172,17 @@ def _quantities(scene: Scene, width: float) -> Table:
     return Table("Quantities: metres of each level", heads, rows, width)
 
 
-def draw_legend(sheet: Sheet, y: float, width: float) -> float:
+def draw_legend(sheet: Sheet, scene: Scene, y: float, width: float) -> float:
     """What the colours and lines mean; the height behind it."""
     x = MARGIN
     swatches = [(palette.LEVEL[level], f"NC-{level}") for level in LEVELS]
     swatches.append((palette.NONE, "hazard outside the clear zone"))
     swatches.append(("url(#over)", "past the end of the road (neighbouring contract)"))
+    if scene.without is not None and scene.without.stretch is not None:
+        swatches.append((palette.STRETCH, f"may change without hazard {scene.without.index}"))
     for fill, words in swatches:
+        if x + 18 + text_width(words, SIZE) > width - MARGIN:
+            x, y = MARGIN, y + 16
         sheet.rect(x, y + 2, x + 14, y + 12, fill)
         sheet.text(x + 18, y + 7, words, SIZE)
         x += 18 + text_width(words, SIZE) + 16

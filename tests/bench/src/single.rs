@@ -4,14 +4,14 @@
 use std::hint::black_box;
 
 use cases::calls::{
-    contract, corners_reply, layout_reply, offset_reply, plan_reply, record, reply,
+    contract, corners_reply, layout_reply, offset_reply, plan_reply, reach_reply, record, reply,
 };
 use reference::layout::MOST_TRIES;
 use reference::open::Name;
 
 use crate::jobs::{self, Kind, LAST, Order, ROAD_END};
 
-pub const NAMES: [&str; 29] = [
+pub const NAMES: [&str; 32] = [
     "sparse-shuffled",
     "sparse-shuffled-64",
     "sparse-shuffled-8",
@@ -26,6 +26,7 @@ pub const NAMES: [&str; 29] = [
     "level-dense-shuffled",
     "corners-sparse-shuffled",
     "offset-sparse-shuffled",
+    "reach-sparse-shuffled",
     "layout-4-all",
     "quantity-511",
     "quantities-64-all",
@@ -35,10 +36,12 @@ pub const NAMES: [&str; 29] = [
     "open-add-255",
     "open-withdraw-256",
     "open-schedule-256",
+    "open-reach-256",
     "open-add-255-kept",
     "open-withdraw-256-kept",
     "open-keep-256-kept",
     "open-return-256-kept",
+    "open-reach-256-kept",
     "open-test-256",
     "open-test-256-kept",
 ];
@@ -94,6 +97,7 @@ impl Single {
             "level-dense-shuffled" => self.level(Kind::Dense),
             "corners-sparse-shuffled" => self.corners(),
             "offset-sparse-shuffled" => self.offset(),
+            "reach-sparse-shuffled" => self.reach(),
             "layout-4-all" => self.layout(),
             "quantity-511" => self.quantity(),
             "quantities-64-all" => self.quantities(&jobs::schedule_of_one_level(3), 3),
@@ -103,10 +107,12 @@ impl Single {
             "open-add-255" => self.add(jobs::open()),
             "open-withdraw-256" => self.withdraw(jobs::open()),
             "open-schedule-256" => self.schedule(),
+            "open-reach-256" => self.open_reach(jobs::open()),
             "open-add-255-kept" => self.add(jobs::open_and_kept()),
             "open-withdraw-256-kept" => self.withdraw(jobs::open_and_kept()),
             "open-keep-256-kept" => self.keep(),
             "open-return-256-kept" => self.return_to(jobs::open_and_kept(), 3),
+            "open-reach-256-kept" => self.open_reach(jobs::open_and_kept()),
             // Refused 13 next after the test of the memory.
             "open-test-256" => self.return_to(jobs::open(), 8),
             _ => self.return_to(jobs::open_and_kept(), 8),
@@ -158,6 +164,18 @@ impl Single {
             black_box(match self.who {
                 Who::Engine => engine::offset(job, LAST, longest),
                 Who::Reference => offset_reply(reference::offset(job, LAST, longest)),
+            });
+        }
+    }
+
+    /// The last of 256 hazards.
+    fn reach(&self) {
+        let job = jobs::job(Kind::Sparse, Order::Shuffled, 256);
+        for _ in 0..self.times {
+            let job = black_box(&job);
+            black_box(match self.who {
+                Who::Engine => engine::reach(job, LAST),
+                Who::Reference => reach_reply(reference::reach(job, LAST)),
             });
         }
     }
@@ -278,6 +296,18 @@ impl Single {
             black_box(match self.who {
                 Who::Engine => engine::return_to(memory, state),
                 Who::Reference => reply(reference::return_to(&mut memory.job, state)),
+            });
+        }
+    }
+
+    /// One of 256 hazards; the memory is only read.
+    fn open_reach(&self, open: jobs::Open) {
+        let mut memory = open.memory;
+        for _ in 0..self.times {
+            let memory = black_box(&mut memory);
+            black_box(match self.who {
+                Who::Engine => engine::open_reach(memory, NAME),
+                Who::Reference => reach_reply(reference::open_reach(&memory.job, NAME)),
             });
         }
     }

@@ -4,9 +4,9 @@ use std::hint::black_box;
 use std::process::ExitCode;
 
 use cases::calls::{
-    contract, corners_reply, layout_reply, offset_reply, plan_reply, record, reply,
+    contract, corners_reply, layout_reply, offset_reply, plan_reply, reach_reply, record, reply,
 };
-use cases::{Memory, Reply};
+use cases::{Memory, ReachReply, Reply};
 use reference::layout::MOST_TRIES;
 
 use crate::jobs::{self, Kind, LAST, Order, ROAD_END};
@@ -198,7 +198,20 @@ fn print_one_hazard() {
             black_box(offset_reply(given));
         }),
     };
-    for (name, pair) in [("corners", corners), ("smallest offset", smallest)] {
+    let reach = Pair {
+        engine: Box::new(|| {
+            black_box(engine::reach(black_box(&job), LAST));
+        }),
+        reference: Box::new(|| {
+            black_box(reach_reply(reference::reach(black_box(&job), LAST)));
+        }),
+    };
+    let pairs = [
+        ("corners", corners),
+        ("smallest offset", smallest),
+        ("reach", reach),
+    ];
+    for (name, pair) in pairs {
         println!("| {name} | {} |", columns(&pair.times()));
     }
 }
@@ -392,6 +405,11 @@ fn measure_open_job(open: &jobs::Open) -> Vec<(&'static str, Times)> {
             plan_reply(planned).reply()
         },
     );
+    let reach = on_memory(
+        memory,
+        |memory| said(engine::open_reach(memory, 127)),
+        |memory| said(reach_reply(reference::open_reach(&memory.job, 127))),
+    );
     // Refused 13 next after the test of the memory.
     let test = on_memory(
         memory,
@@ -402,9 +420,19 @@ fn measure_open_job(open: &jobs::Open) -> Vec<(&'static str, Times)> {
         ("add", add),
         ("withdraw", withdraw),
         ("schedule", schedule),
+        ("reach", reach),
         ("test of the memory", test),
     ];
     pairs.map(|(name, pair)| (name, pair.times())).into()
+}
+
+/// What is timed is the call; of its reply one number is looked at.
+fn said(reply: ReachReply) -> Reply {
+    let reply = black_box(reply);
+    Reply {
+        number: reply.number,
+        value: reply.to,
+    }
 }
 
 /// A call on an open job; it is given a fresh copy each time.

@@ -7,7 +7,7 @@ use reference::job::Hazard;
 use reference::layout::MOST_LENGTHS;
 use reference::memory;
 use reference::open::Name;
-use reference::{Corner, Corners, Lookup, Outcome, Planned, Quantities, Refusal, Tried};
+use reference::{Corner, Corners, Lookup, Outcome, Planned, Quantities, Reached, Refusal, Tried};
 
 /// The reply of level, quantity and the calls that change an open job: number 0
 /// with the level, the millimetres or 0, else the paper's refusal number with its
@@ -111,6 +111,23 @@ pub struct LayoutReply {
     pub floor: u64,
 }
 
+/// The reply of reach, of a job and of an open job: number 0 with the hazard's
+/// side, its envelope [start, end), its overhangs and the stretch [from, to)
+/// outside which its withdrawal alters nothing, all but the side 0 where nobody
+/// reaches it. Else the refusal number with its value, and all the rest 0.
+#[derive(Clone, Copy, Debug, Default, PartialEq, Eq)]
+pub struct ReachReply {
+    pub number: u64,
+    pub value: u64,
+    pub side: u64,
+    pub start: u64,
+    pub end: u64,
+    pub before: u64,
+    pub after: u64,
+    pub from: u64,
+    pub to: u64,
+}
+
 /// Guard bytes on each side of lent memory.
 pub const GUARD: usize = 24;
 
@@ -146,6 +163,9 @@ pub type CornersCall = dyn Fn(&mut [u8], u64, u64, u64) -> CornersReply;
 /// Job, hazard index, the wanted longest approach.
 pub type OffsetCall = dyn Fn(&mut [u8], u64, u64) -> OffsetReply;
 
+/// Job, hazard index.
+pub type ReachCall = dyn Fn(&mut [u8], u64) -> ReachReply;
+
 /// Panel lengths, the run's length, the limit of tries.
 pub type LayoutCall = dyn Fn(&mut [u64], u64, u64) -> LayoutReply;
 
@@ -167,6 +187,9 @@ pub type AddCall = dyn Fn(&mut Memory, Name, Hazard) -> Reply;
 /// The memory of an open job, name.
 pub type WithdrawCall = dyn Fn(&mut Memory, Name) -> Reply;
 
+/// The memory of an open job, which is only read, and a name.
+pub type OpenReachCall = dyn Fn(&mut Memory, Name) -> ReachReply;
+
 /// The memory of an open job, the number of a state: keep and return.
 pub type StateCall = dyn Fn(&mut Memory, u64) -> Reply;
 
@@ -180,6 +203,7 @@ pub struct Calls {
     pub level: Box<LevelCall>,
     pub corners: Box<CornersCall>,
     pub offset: Box<OffsetCall>,
+    pub reach: Box<ReachCall>,
     pub layout: Box<LayoutCall>,
     pub quantity: Box<QuantityCall>,
     pub quantities: Box<QuantitiesCall>,
@@ -190,6 +214,7 @@ pub struct Calls {
     pub keep: Box<StateCall>,
     pub return_to: Box<StateCall>,
     pub open_schedule: Box<OpenScheduleCall>,
+    pub open_reach: Box<OpenReachCall>,
 }
 
 /// The reference in the place of the engine.
@@ -205,6 +230,7 @@ pub fn right() -> Calls {
         offset: Box::new(|job, hazard, longest| {
             offset_reply(reference::offset(job, hazard, longest))
         }),
+        reach: Box::new(|job, hazard| reach_reply(reference::reach(job, hazard))),
         layout: Box::new(|lengths, run, limit| {
             layout_reply(reference::layout(lengths, run, limit))
         }),
@@ -225,6 +251,7 @@ pub fn right() -> Calls {
         open_schedule: Box::new(|memory, side, room, lent| {
             plan_reply(reference::open_schedule(&memory.job, side, &mut room[lent]))
         }),
+        open_reach: Box::new(|memory, name| reach_reply(reference::open_reach(&memory.job, name))),
     }
 }
 
@@ -280,6 +307,27 @@ pub fn offset_reply(result: Result<Option<u64>, Refusal>) -> OffsetReply {
         number,
         value,
         found,
+    }
+}
+
+pub fn reach_reply(result: Result<Reached, Refusal>) -> ReachReply {
+    match result {
+        Ok(reached) => ReachReply {
+            number: 0,
+            value: 0,
+            side: reached.side,
+            start: reached.envelope.start,
+            end: reached.envelope.end,
+            before: reached.overhang.before,
+            after: reached.overhang.after,
+            from: reached.altered.start,
+            to: reached.altered.end,
+        },
+        Err(Refusal { number, value }) => ReachReply {
+            number,
+            value,
+            ..ReachReply::default()
+        },
     }
 }
 

@@ -12,10 +12,11 @@ use reference::open::Name;
 
 use crate::calls::{
     self, Calls, Contract, CornersReply, GUARD, LayoutReply, Memory, OffsetReply, PlanReply,
-    Record, Reply,
+    ReachReply, Record, Reply,
 };
 use crate::hex;
 use crate::reach::{self, Sheets};
+use crate::reached;
 use crate::tally::Tally;
 
 /// The inputs of one call. `fill` chooses the bytes that the output contains
@@ -49,6 +50,8 @@ pub enum Case {
         run: u64,
         limit: u64,
     },
+    /// The reach of one hazard; and an accepted job with it and without it.
+    Reach { job: Vec<u8>, hazard: u64 },
     /// An accepted job with the hazard of this index and without it.
     OneLess { job: Vec<u8>, hazard: u64 },
     Quantity {
@@ -72,6 +75,12 @@ pub enum Case {
     OpenJob {
         memory: Box<[u8; BYTES]>,
         step: Step,
+    },
+    /// The reach of the hazard of this name; and the schedules of the open job
+    /// with it and without it.
+    OpenReach {
+        memory: Box<[u8; BYTES]>,
+        name: Name,
     },
     /// The schedules of an open job before a withdrawal and after it.
     OpenOneLess {
@@ -138,6 +147,7 @@ impl fmt::Display for Case {
                 run,
                 limit,
             } => write!(f, "--layout {} {run} {limit}", hex::write_numbers(lengths)),
+            Case::Reach { job, hazard } => write!(f, "--reach {} {hazard}", hex::write(job)),
             Case::OneLess { job, hazard } => {
                 write!(f, "--one-less {} {hazard}", hex::write(job))
             }
@@ -181,6 +191,10 @@ impl fmt::Display for Case {
                         fill,
                     } => write!(f, "--schedule {memory} {side} {out_length} {fill}"),
                 }
+            }
+            Case::OpenReach { memory, name } => {
+                let memory = hex::write_memory(&memory[..]);
+                write!(f, "--open-reach {memory} {name}")
             }
             Case::OpenOneLess { memory, name } => {
                 let memory = hex::write_memory(&memory[..]);
@@ -426,6 +440,90 @@ impl Checker {
             return Ok(got);
         }
         Err(self.difference(case(), what, offset_text(expected), offset_text(got)))
+    }
+
+    /// Tries the reach of one hazard. What the engine says of it is held against
+    /// its own schedules of the job with the hazard and without it, too.
+    pub fn reach(&mut self, job: &[u8], hazard: u64) -> Result<ReachReply, Box<Difference>> {
+        let case = || Case::Reach {
+            job: job.to_vec(),
+            hazard,
+        };
+        self.trace(case);
+        self.fill += 1;
+        let mut lent = job.to_vec();
+        let expected = calls::reach_reply(reference::reach(job, hazard));
+        let got = (self.calls.reach)(&mut lent, hazard);
+        self.tally.count(expected.number);
+
+        let mut what = Vec::new();
+        note_reply(&mut what, expected != got);
+        note_input(&mut what, "job", job, &lent);
+        if let Some(fewer) = reach::without(job, hazard) {
+            let sheets = Sheets {
+                before: reach::both_sides(|side| self.own_plan(job, side)),
+                after: reach::both_sides(|side| self.own_plan(&fewer.job, side)),
+            };
+            self.note_own_reach(&mut what, &got, &sheets);
+        }
+        if what.is_empty() {
+            return Ok(got);
+        }
+        Err(self.difference(case(), what, reach_text(expected), reach_text(got)))
+    }
+
+    /// The same of a hazard that stands in an open job, whose memory is not
+    /// changed.
+    pub fn open_reach(
+        &mut self,
+        memory: &[u8; BYTES],
+        name: Name,
+    ) -> Result<ReachReply, Box<Difference>> {
+        let case = || Case::OpenReach {
+            memory: Box::new(*memory),
+            name,
+        };
+        self.trace(case);
+        self.fill += 1;
+        let untouched = Memory::new(memory);
+        let mut lent = untouched.clone();
+        let expected = calls::reach_reply(reference::open_reach(memory, name));
+        let got = (self.calls.open_reach)(&mut lent, name);
+        self.tally.count(expected.number);
+
+        let mut what = Vec::new();
+        note_reply(&mut what, expected != got);
+        note_memory(&mut what, &untouched, &lent);
+        if expected.number == 0 {
+            let mut lent = untouched;
+            let before = reach::both_sides(|side| self.own_open_schedule(&mut lent, side));
+            (self.calls.withdraw)(&mut lent, name);
+            let after = reach::both_sides(|side| self.own_open_schedule(&mut lent, side));
+            self.note_own_reach(&mut what, &got, &Sheets { before, after });
+        }
+        if what.is_empty() {
+            return Ok(got);
+        }
+        Err(self.difference(case(), what, reach_text(expected), reach_text(got)))
+    }
+
+    /// What the engine's own schedules show against the reach that it says, by
+    /// its own lookup and by the reading of the schedules.
+    fn note_own_reach(&mut self, what: &mut Vec<String>, said: &ReachReply, sheets: &Sheets) {
+        reach::note_reach(what, sheets, &reached::said(said));
+        let side = said.side.min(1);
+        let [Ok(before), Ok(after)] = [&sheets.before, &sheets.after].map(|s| &s[side as usize])
+        else {
+            return;
+        };
+        let level = |schedule: &[u8], station| self.own_level(schedule, side, station);
+        let alters = |station: &u64| level(before, *station) != level(after, *station);
+        if let Some(station) = reached::beyond(said).iter().find(|station| alters(station)) {
+            what.push(format!("its own lookup at {station}, beyond the reach"));
+        }
+        let inside = reached::inside(said, before, after);
+        let altered = inside.iter().filter(|station| alters(station)).count();
+        self.tally.saw_altered(altered as u64);
     }
 
     /// Tries the layouts of one run.
@@ -768,10 +866,12 @@ impl Checker {
                 side,
                 station,
             } => self.lookup(right, left, *side, *station).map(|_| ()),
+            Case::Reach { job, hazard } => self.reach(job, *hazard).map(|_| ()),
             Case::OneLess { job, hazard } => self.one_less(job, *hazard),
             Case::OpenJob { memory, step } => {
                 self.step(&mut memory.clone(), step.clone()).map(|_| ())
             }
+            Case::OpenReach { memory, name } => self.open_reach(memory, *name).map(|_| ()),
             Case::OpenOneLess { memory, name } => self.open_one_less(memory, *name).map(|_| ()),
         }
     }
@@ -898,6 +998,22 @@ fn offset_text(reply: OffsetReply) -> String {
         found,
     } = reply;
     format!("number {number} value {value} found {found}")
+}
+
+fn reach_text(reply: ReachReply) -> String {
+    let ReachReply {
+        number,
+        value,
+        side,
+        start,
+        end,
+        before,
+        after,
+        from,
+        to,
+    } = reply;
+    let envelope = format!("side {side} start {start} end {end} before {before} after {after}");
+    format!("number {number} value {value} {envelope} from {from} to {to}")
 }
 
 fn layout_text(reply: LayoutReply) -> String {

@@ -214,6 +214,17 @@ impl Damage<'_> {
         for call in calls {
             self.checker.step(&mut memory.clone(), call)?;
         }
+        self.reach(&memory)
+    }
+
+    /// The reach of a name that stood before the damage, or of any.
+    fn reach(&mut self, memory: &[u8; BYTES]) -> Outcome {
+        let standing: Vec<Name> = self.open.standing.keys().copied().collect();
+        let name = match standing.is_empty() || self.random.percent(20) {
+            true => any_name(self.random),
+            false => self.random.pick(&standing),
+        };
+        self.checker.open_reach(memory, name)?;
         Ok(())
     }
 

@@ -12,7 +12,7 @@ use crate::draft::{
     number_bytes, printed, range,
 };
 use crate::faults::{BAD_SIDES, Broken, FAULTS, GREAT_VALUES, wrong_forms};
-use crate::{chainage, damaged, jobs, layouts, one_hazard, open, reach};
+use crate::{chainage, damaged, jobs, layouts, one_hazard, open, reach, reached};
 
 pub type Outcome = Result<(), Box<Difference>>;
 
@@ -42,6 +42,8 @@ pub const ALL: &[Family] = &[
         "smallest offsets of refused jobs",
         one_hazard::refused_offsets,
     ),
+    family("reaches of every hazard", reached::reaches),
+    family("reaches of refused jobs", reached::refused),
     family("jobs with one hazard less", reach::one_less),
     family("layouts of every limit", layouts::every_limit),
     family("layouts at random", layouts::at_random),
@@ -58,6 +60,7 @@ pub const ALL: &[Family] = &[
     family("open jobs, lists of calls", open::lists),
     family("open jobs, 256 hazards", open::full_jobs),
     family("open jobs, full states", open::full_states),
+    family("open jobs, reaches of every name", reached::open_reaches),
     family("open jobs, one hazard less", reach::open_one_less),
     family("open jobs, openings", open::openings),
     family("open jobs, damaged memory", damaged::damaged_memory),

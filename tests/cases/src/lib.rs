@@ -14,6 +14,7 @@ pub mod layouts;
 pub mod one_hazard;
 pub mod open;
 pub mod reach;
+pub mod reached;
 pub mod tally;
 pub mod wrong;
 pub mod wrong_chainage;
@@ -27,10 +28,12 @@ pub mod wrong_offset;
 pub mod wrong_open;
 pub mod wrong_overhang;
 pub mod wrong_reach;
+pub mod wrong_reached;
 pub mod wrong_states;
 
 pub use calls::{
-    Calls, Contract, CornersReply, LayoutReply, Memory, OffsetReply, PlanReply, Record, Reply,
+    Calls, Contract, CornersReply, LayoutReply, Memory, OffsetReply, PlanReply, ReachReply, Record,
+    Reply,
 };
 pub use compare::{Case, Checker, Difference, Step};
 pub use reference::draft;

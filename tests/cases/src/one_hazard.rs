@@ -25,7 +25,7 @@ fn indices(draft: &Draft) -> Vec<u64> {
 }
 
 /// A hazard of the job mostly.
-fn index(random: &mut Random, draft: &Draft) -> u64 {
+pub fn index(random: &mut Random, draft: &Draft) -> u64 {
     let all = indices(draft);
     match random.below(10) {
         0 => random.pick(&all),
@@ -35,7 +35,7 @@ fn index(random: &mut Random, draft: &Draft) -> u64 {
 
 /// Accepted jobs of every sort, so many random ones among them, each given with
 /// the indices to ask for.
-fn each_job(
+pub fn each_job(
     checker: &mut Checker,
     random: &mut Random,
     random_jobs: u64,
@@ -94,7 +94,7 @@ fn steep_jobs() -> Vec<Draft> {
 /// Jobs with faults, cut at every byte, and with every number out of its form
 /// and out of its range. Also said is the draft that was accepted, and whether
 /// an argument is to be out of its range, too.
-fn each_refused_job(
+pub fn each_refused_job(
     checker: &mut Checker,
     random: &mut Random,
     ask: impl Fn(&mut Checker, &mut Random, &Draft, &[u8], bool) -> Outcome,

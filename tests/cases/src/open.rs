@@ -2,13 +2,14 @@
 
 use std::collections::BTreeMap;
 
-use reference::job::{self, Hazard};
+use reference::job;
 use reference::memory::BYTES;
 use reference::open::{MOST_STANDING, Name, STATES};
 use reference::planned;
 
 use crate::Random;
 use crate::compare::{Checker, Step};
+pub use crate::draft::hazard;
 use crate::draft::{Draft, FIELDS, number_bytes, range};
 use crate::families::{KINDS, Outcome, accepted_of_kind, around};
 use crate::faults::{BAD_SIDES, Broken, FAULTS, GREATEST_READ, wrong_forms};
@@ -25,18 +26,6 @@ pub struct Open {
     pub header: Draft,
     pub standing: Standing,
     pub kept: [Option<Standing>; STATES],
-}
-
-pub fn hazard(fields: [u64; FIELDS]) -> Hazard {
-    let [side, start, end, near, far, level] = fields;
-    Hazard {
-        side,
-        start,
-        end,
-        near,
-        far,
-        level,
-    }
 }
 
 impl Open {

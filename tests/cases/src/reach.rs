@@ -259,15 +259,20 @@ pub fn some_hazards(random: &mut Random, count: usize) -> Vec<u64> {
     list
 }
 
-/// Each hazard removed in turn.
-pub fn one_less(checker: &mut Checker, random: &mut Random) -> Outcome {
+/// The jobs of one round, each asked with some of its hazards.
+pub fn each_hazard(random: &mut Random, mut ask: impl FnMut(&[u8], u64) -> Outcome) -> Outcome {
     for draft in jobs_of_a_round(random) {
         let job = draft.bytes();
         for hazard in some_hazards(random, draft.hazards.len()) {
-            checker.one_less(&job, hazard)?;
+            ask(&job, hazard)?;
         }
     }
     Ok(())
+}
+
+/// Each hazard removed in turn.
+pub fn one_less(checker: &mut Checker, random: &mut Random) -> Outcome {
+    each_hazard(random, |job, hazard| checker.one_less(job, hazard))
 }
 
 /// After a list of calls each hazard that stands withdrawn, each time from the

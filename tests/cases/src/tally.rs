@@ -13,6 +13,8 @@ pub struct Tally {
     /// Cases by refusal number; at 0 those without a refusal.
     outcomes: [u64; 18],
     most_runs: u64,
+    /// Stations at which a withdrawal altered the level, inside the hazard's reach.
+    altered: u64,
 }
 
 impl Tally {
@@ -37,6 +39,10 @@ impl Tally {
         self.most_runs = self.most_runs.max(runs);
     }
 
+    pub fn saw_altered(&mut self, stations: u64) {
+        self.altered += stations;
+    }
+
     pub fn family(&self) -> &'static str {
         self.families
             .get(self.current)
@@ -54,6 +60,10 @@ impl Tally {
     pub fn most_runs(&self) -> u64 {
         self.most_runs
     }
+
+    pub fn altered(&self) -> u64 {
+        self.altered
+    }
 }
 
 impl fmt::Display for Tally {
@@ -68,6 +78,8 @@ impl fmt::Display for Tally {
                 write!(f, ", {cases} refused {number}")?;
             }
         }
-        writeln!(f, "; most runs in a schedule: {}", self.most_runs)
+        writeln!(f, "; most runs in a schedule: {}", self.most_runs)?;
+        let altered = self.altered;
+        writeln!(f, "{altered} stations altered inside a hazard's reach")
     }
 }

@@ -21,7 +21,7 @@ use crate::draft::{G, KIND, PANEL, number_bytes};
 use crate::wrong_numbers::{JobReading, RIGHT_READING, by_reading, not_shortest};
 use crate::{
     wrong_chainage, wrong_corners, wrong_layout, wrong_level, wrong_memory, wrong_names,
-    wrong_offset, wrong_open, wrong_overhang, wrong_reach, wrong_states,
+    wrong_offset, wrong_open, wrong_overhang, wrong_reach, wrong_reached, wrong_states,
 };
 
 /// Every wrong engine with the name of its slip.
@@ -49,6 +49,7 @@ pub fn all() -> Vec<(&'static str, Calls)> {
     list.extend(wrong_names::all());
     list.extend(wrong_layout::all());
     list.extend(wrong_reach::all());
+    list.extend(wrong_reached::all());
     list
 }
 

@@ -5,9 +5,9 @@ use reference::calls::{level_of_job, plan_job, tested};
 use reference::corners::{Point, SHEET_END};
 use reference::job::{self, Job, NATIONAL, ReadNumber, Reader, RoadLimits};
 use reference::number::{self, Fault, Number};
-use reference::{OpenJob, Refusal, corners, memory, offset};
+use reference::{OpenJob, Refusal, corners, memory, offset, reached};
 
-use crate::calls::{Calls, corners_reply, offset_reply, plan_reply, reply, right};
+use crate::calls::{Calls, corners_reply, offset_reply, plan_reply, reach_reply, reply, right};
 
 /// How a number is read.
 #[derive(Clone, Copy)]
@@ -125,6 +125,10 @@ pub fn by_reading(reading: JobReading) -> Calls {
         offset: Box::new(move |bytes, hazard, longest| {
             let job = reading.job(bytes).and_then(tested);
             offset_reply(job.and_then(|job| offset::of_accepted(&job, hazard, longest)))
+        }),
+        reach: Box::new(move |bytes, hazard| {
+            let job = reading.job(bytes).and_then(tested);
+            reach_reply(job.and_then(|job| reached::of_accepted(&job, hazard)))
         }),
         open: Box::new(move |memory, bytes| {
             let opened = reading.open(bytes);

@@ -75,7 +75,7 @@ fn as_they_were(seen: &Rc<Seen>) -> Calls {
         true => by_reading(JOBS),
         false => right(),
     };
-    let [plan, level, corners, offset] = [(); 4].map(|()| seen.clone());
+    let [plan, level, corners, offset, reach] = [(); 5].map(|()| seen.clone());
     let [quantity, quantities, lookup] = [(); 3].map(|()| seen.clone());
     Calls {
         plan: Box::new(move |job, side, room, lent| {
@@ -90,6 +90,7 @@ fn as_they_were(seen: &Rc<Seen>) -> Calls {
         offset: Box::new(move |job, hazard, longest| {
             (calls(offset.job(job)).offset)(job, hazard, longest)
         }),
+        reach: Box::new(move |job, hazard| (calls(reach.job(job)).reach)(job, hazard)),
         open: Box::new(move |memory, bytes| (calls(JOBS.open(bytes).is_ok()).open)(memory, bytes)),
         quantity: Box::new(
             move |schedule, level, p, q| match quantity.schedule(schedule) {

@@ -2,7 +2,7 @@
 
 use std::time::SystemTime;
 
-use cases::{Case, ROUNDS, SEED, Step, hex};
+use cases::{Case, ROUNDS, SEED, Step, draft, hex};
 use reference::job::Hazard;
 
 pub const HELP: &str = "\
@@ -17,6 +17,7 @@ one case alone, bytes in hex, no bytes as -:
   --corners JOB HAZARD SHEET_STATION SHEET_OFFSET
   --offset JOB HAZARD LONGEST
   --layout LENGTH,LENGTH RUN LIMIT (no lengths as -)
+  --reach JOB HAZARD
   --one-less JOB HAZARD (an accepted job that has the hazard)
   --quantity SCHEDULE LEVEL P Q
   --quantities SCHEDULE LEVEL P,Q,P,Q (no ranges as -)
@@ -28,6 +29,7 @@ on an open job, its memory in hex, bytes of 0 at the end left out:
   --keep MEMORY STATE
   --return MEMORY STATE
   --schedule MEMORY SIDE OUTPUT_LENGTH FILL
+  --open-reach MEMORY NAME
   --open-one-less MEMORY NAME
 ";
 
@@ -93,7 +95,7 @@ fn values(option: &str) -> Option<usize> {
         "--plan" | "--corners" | "--quantity" | "--lookup" | "--schedule" => Some(4),
         "--level" | "--offset" | "--layout" | "--quantities" | "--add" => Some(3),
         "--open" | "--withdraw" | "--keep" | "--return" => Some(2),
-        "--one-less" | "--open-one-less" => Some(2),
+        "--reach" | "--open-reach" | "--one-less" | "--open-one-less" => Some(2),
         _ => None,
     }
 }
@@ -134,9 +136,17 @@ fn read_case(option: &str, values: &[&str]) -> Option<Case> {
             run: value(1)?,
             limit: value(2)?,
         },
+        "--reach" => Case::Reach {
+            job: bytes(0)?,
+            hazard: value(1)?,
+        },
         "--one-less" => Case::OneLess {
             job: bytes(0)?,
             hazard: value(1)?,
+        },
+        "--open-reach" => Case::OpenReach {
+            memory: Box::new(hex::read_memory(values.first()?)?),
+            name: value(1)?.try_into().ok()?,
         },
         "--open-one-less" => Case::OpenOneLess {
             memory: Box::new(hex::read_memory(values.first()?)?),
@@ -178,15 +188,5 @@ fn read_case(option: &str, values: &[&str]) -> Option<Case> {
 }
 
 fn hazard(fields: &[u64]) -> Option<Hazard> {
-    let &[side, start, end, near, far, level] = fields else {
-        return None;
-    };
-    Some(Hazard {
-        side,
-        start,
-        end,
-        near,
-        far,
-        level,
-    })
+    Some(draft::hazard(fields.try_into().ok()?))
 }

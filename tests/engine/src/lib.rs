@@ -6,7 +6,8 @@ use std::ops::Range;
 
 use barrier_engine::{self as barrier, Refusal, c};
 use cases::{
-    Calls, Contract, CornersReply, LayoutReply, Memory, OffsetReply, PlanReply, Record, Reply,
+    Calls, Contract, CornersReply, LayoutReply, Memory, OffsetReply, PlanReply, ReachReply, Record,
+    Reply,
 };
 use reference::Corner;
 use reference::job::Hazard;
@@ -50,6 +51,19 @@ struct COffsetReply {
     number: u64,
     value: u64,
     found: u64,
+}
+
+#[repr(C)]
+struct CReachReply {
+    number: u64,
+    value: u64,
+    side: u64,
+    start: u64,
+    end: u64,
+    before: u64,
+    after: u64,
+    from: u64,
+    to: u64,
 }
 
 #[repr(C)]
@@ -112,6 +126,8 @@ unsafe extern "C" {
         sheet_offset: u64,
     ) -> CCornersReply;
     fn barrier_offset(job: *const u8, job_len: usize, hazard: u64, longest: u64) -> COffsetReply;
+    fn barrier_reach(job: *const u8, job_len: usize, hazard: u64) -> CReachReply;
+    fn barrier_open_reach(job: *const c::OpenJob, name: Name) -> CReachReply;
     fn barrier_layout(
         lengths: *const u64,
         lengths_len: usize,
@@ -182,6 +198,22 @@ impl From<COffsetReply> for OffsetReply {
             number: reply.number,
             value: reply.value,
             found: reply.found,
+        }
+    }
+}
+
+impl From<CReachReply> for ReachReply {
+    fn from(reply: CReachReply) -> ReachReply {
+        ReachReply {
+            number: reply.number,
+            value: reply.value,
+            side: reply.side,
+            start: reply.start,
+            end: reply.end,
+            before: reply.before,
+            after: reply.after,
+            from: reply.from,
+            to: reply.to,
         }
     }
 }
@@ -301,6 +333,16 @@ pub fn offset(job: &[u8], hazard: u64, longest: u64) -> OffsetReply {
     unsafe { barrier_offset(job.as_ptr(), job.len(), hazard, longest).into() }
 }
 
+pub fn reach(job: &[u8], hazard: u64) -> ReachReply {
+    // SAFETY: the pointer is good for as many bytes as are named with it.
+    unsafe { barrier_reach(job.as_ptr(), job.len(), hazard).into() }
+}
+
+pub fn open_reach(memory: &mut Memory, name: Name) -> ReachReply {
+    // SAFETY: as in `open`.
+    unsafe { barrier_open_reach(open_job(memory), name).into() }
+}
+
 pub fn layout(lengths: &[u64], run: u64, limit: u64) -> LayoutReply {
     // SAFETY: the pointer is good for as many numbers as are named with it.
     unsafe { barrier_layout(lengths.as_ptr(), lengths.len(), run, limit).into() }
@@ -356,6 +398,11 @@ pub fn calls() -> Calls {
             // SAFETY: as in `offset`.
             unsafe { barrier_offset(job.as_mut_ptr(), job_len, hazard, longest).into() }
         }),
+        reach: Box::new(|job, hazard| {
+            let job_len = job.len();
+            // SAFETY: as in `reach`.
+            unsafe { barrier_reach(job.as_mut_ptr(), job_len, hazard).into() }
+        }),
         layout: Box::new(|lengths, run, limit| {
             let lengths_len = lengths.len();
             // SAFETY: as in `layout`.
@@ -397,6 +444,7 @@ pub fn calls() -> Calls {
                 barrier_open_schedule(job, side, out, lent.len()).into()
             }
         }),
+        open_reach: Box::new(open_reach),
     }
 }
 
@@ -426,6 +474,8 @@ pub fn shipped_calls() -> Calls {
         offset: Box::new(|job, hazard, longest| {
             offset_of_hazard(barrier::offset(job, hazard, longest))
         }),
+        reach: Box::new(|job, hazard| reached(barrier::reach(job, hazard))),
+        open_reach: Box::new(|memory, name| reached(shipped_job(memory).reach(name))),
         layout: Box::new(|lengths, run, limit| laid(barrier::layout(lengths, run, limit))),
         open: Box::new(|memory, bytes| done(shipped_job(memory).open(bytes))),
         add: Box::new(|memory, name, hazard| {
@@ -468,6 +518,30 @@ fn planned(answer: Result<barrier::Planned, Refusal>) -> PlanReply {
             after: planned.after,
         },
         Err(refusal) => reply(Err(refusal)).into(),
+    }
+}
+
+fn reached(answer: Result<barrier::Reach, Refusal>) -> ReachReply {
+    match answer {
+        Ok(reach) => ReachReply {
+            number: 0,
+            value: 0,
+            side: reach.side,
+            start: reach.envelope.start,
+            end: reach.envelope.end,
+            before: reach.before,
+            after: reach.after,
+            from: reach.stretch.start,
+            to: reach.stretch.end,
+        },
+        Err(refusal) => {
+            let Reply { number, value } = reply(Err(refusal));
+            ReachReply {
+                number,
+                value,
+                ..ReachReply::default()
+            }
+        }
     }
 }
 

@@ -1,6 +1,7 @@
 //! Jobs as lists of numbers, before they are bytes: a helper for tests. The
 //! reading of document 01 does not use it.
 
+use crate::job::Hazard;
 use crate::number;
 
 /// Places in the header, from 0 (the paper counts from 1).
@@ -41,6 +42,18 @@ pub const LEVEL: usize = 5;
 
 /// Numbers of a hazard.
 pub const FIELDS: usize = 6;
+
+/// The hazard with these fields.
+pub fn hazard([side, start, end, near, far, level]: [u64; FIELDS]) -> Hazard {
+    Hazard {
+        side,
+        start,
+        end,
+        near,
+        far,
+        level,
+    }
+}
 
 /// The job on paper without its hazard.
 pub const PRINTED: Draft = Draft {

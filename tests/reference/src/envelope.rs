@@ -94,12 +94,18 @@ pub fn approaches(job: &Job, hazard: &Hazard) -> Vec<Approach> {
     list
 }
 
+/// The hazard with this index; 14 where there is no such hazard. An index is 64
+/// bits wide.
+pub fn asked(job: &Job, index: u64) -> Result<Hazard, Refusal> {
+    let index = usize::try_from(index).ok();
+    let hazard = index.and_then(|index| job.hazards.get(index));
+    hazard.copied().ok_or(Refusal::no_such_hazard())
+}
+
 /// The hazard with this index and its adjacent traffic; 14 where there is no such
 /// hazard or adjacent traffic does not reach it.
 pub fn adjacent_approach(job: &Job, index: u64) -> Result<(Hazard, Approach), Refusal> {
-    let index = usize::try_from(index).ok();
-    let hazard = index.and_then(|index| job.hazards.get(index));
-    let hazard = *hazard.ok_or(Refusal::no_such_hazard())?;
+    let hazard = asked(job, index)?;
     let mut approaches = approaches(job, &hazard).into_iter();
     let adjacent = approaches.find(|approach| !approach.far);
     Ok((hazard, adjacent.ok_or(Refusal::no_such_hazard())?))

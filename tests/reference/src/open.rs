@@ -150,6 +150,6 @@ pub fn open_schedule(memory: &[u8], side: u64, out: &mut [u8]) -> Result<Planned
 
 /// Memory whose header, names or hazards, the kept ones too, break the rules is
 /// refused 3 with 0 before any other test.
-fn tested(memory: &[u8]) -> Result<OpenJob, Refusal> {
+pub fn tested(memory: &[u8]) -> Result<OpenJob, Refusal> {
     memory::read(memory).ok_or(Refusal::header_range(0))
 }

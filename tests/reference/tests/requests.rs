@@ -180,17 +180,6 @@ fn without_flare_the_straight_part_changes_nothing() {
 
 // 3: hazards that come and go while the job is open.
 
-fn hazard([side, start, end, near, far, level]: [u64; 6]) -> Hazard {
-    Hazard {
-        side,
-        start,
-        end,
-        near,
-        far,
-        level,
-    }
-}
-
 /// The printed job's header, opened.
 fn opened() -> Vec<u8> {
     opened_in(PRINTED)

@@ -12,8 +12,8 @@ use std::process::ExitCode;
 
 use barrier_engine::{
     corners, decode_schedule, layout, level, metres, millimetres_of_text, offset, quantities,
-    quantity, version, Corner, Hazard, Header, Layout, OpenJob, Rounding, Run, LEFT, NC_1, NC_2,
-    NC_3, NC_4, NC_6, RIGHT, TRIES_MAX, VERSION,
+    quantity, version, Corner, Hazard, Header, Layout, OpenJob, Reach, Rounding, Run, LEFT, NC_1,
+    NC_2, NC_3, NC_4, NC_6, RIGHT, TRIES_MAX, VERSION,
 };
 use example::printed;
 
@@ -116,14 +116,34 @@ fn morning(out: &mut impl Write, job: &mut OpenJob) -> Done {
     print_schedule(out, job)
 }
 
+/// Which sheets the office has to issue again: those that have any of the stretch.
+fn print_reach(out: &mut impl Write, name: u16, reach: &Reach) -> Done {
+    if !reach.is_reached() {
+        writeln!(
+            out,
+            "  without drawing {name} nothing changes: nobody reaches it"
+        )?;
+        return Ok(());
+    }
+    let side = if reach.side == RIGHT { "right" } else { "left" };
+    let (start, end) = (metres(reach.stretch.start), metres(reach.stretch.end));
+    writeln!(
+        out,
+        "  without drawing {name} only the {side} side may change, {start} to {end} m"
+    )?;
+    Ok(())
+}
+
 fn variant(out: &mut impl Write, job: &mut OpenJob) -> Done {
     writeln!(
         out,
         "Noon: what if the culvert were piped and the tree felled?"
     )?;
     job.keep(MORNING)?;
-    job.withdraw(CULVERT)?;
-    job.withdraw(TREE)?;
+    for name in [CULVERT, TREE] {
+        print_reach(out, name, &job.reach(name)?)?;
+        job.withdraw(name)?;
+    }
     print_schedule(out, job)?;
     job.return_to(MORNING)?;
     let names: Vec<String> = job.standing().map(|(name, _)| name.to_string()).collect();

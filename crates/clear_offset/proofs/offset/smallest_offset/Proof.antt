@@ -19,7 +19,7 @@ abbrev asked : tie.After-header → Hazard
 asked c = c .header .given .0 .1 .0
 
 found : (c : tie.After-header) → let a = c .before .before .before .before .args in indexedHazard (a .job .now) (a .hazard) ≡ accepted (record { header = header c; hazard = asked c })
-found c = sym (c .before .before .hazard-of .ensures) ∙ ap indexedAnswer (c .header .given .1)
+found c = sym (c .before .before .indexed-hazard .ensures) ∙ ap indexedAnswer (c .header .given .1)
 
 returns : tie.Need-returns
 returns c =
@@ -43,7 +43,7 @@ returns-3 : tie.Need-returns-3
 returns-3 c =
     let r = c .before .before .before in
     let a = r .before .before .args in
-    sym (offset-refused (a .job .now) (a .hazard) (a .longest) (sym (r .hazard-of .ensures) ∙ ap indexedAnswer (c .before .refusal .given .1)))
+    sym (offset-refused (a .job .now) (a .hazard) (a .longest) (sym (r .indexed-hazard .ensures) ∙ ap indexedAnswer (c .before .refusal .given .1)))
 
 pub smallest-offset-spec : {M : Type 1} → statement M
 smallest-offset-spec =

@@ -29,7 +29,7 @@ abbrev asked : tie.After-header → Hazard
 asked c = c .header .given .0 .1 .0
 
 found : (c : tie.After-header) → let a = c .before .before .before .before .before .args in indexedHazard (a .job .now) (a .hazard) ≡ accepted (record { header = header c; hazard = asked c })
-found c = sym (c .before .before .hazard-of .ensures) ∙ ap indexedAnswer (c .header .given .1)
+found c = sym (c .before .before .indexed-hazard .ensures) ∙ ap indexedAnswer (c .header .given .1)
 
 returns-2 : tie.Need-returns-2
 returns-2 c =
@@ -57,7 +57,7 @@ returns-4 c =
     let r = c .before .before .before .before in
     let e = r .before in
     let a = e .before .before .args in
-    rw (corners-refused (a .sheet-station) (a .sheet-offset) (a .job .now) (a .hazard) (on e .0) (on e .1) (sym (r .hazard-of .ensures) ∙ ap indexedAnswer (c .before .before .refusal .given .1))) (c .refused3 .ensures)
+    rw (corners-refused (a .sheet-station) (a .sheet-offset) (a .job .now) (a .hazard) (on e .0) (on e .1) (sym (r .indexed-hazard .ensures) ∙ ap indexedAnswer (c .before .before .refusal .given .1))) (c .refused3 .ensures)
 
 pub corners-spec : {M : Type 1} → statement M
 corners-spec =

@@ -1,4 +1,4 @@
--- `planning::accept::hazard_of` meets its contract: the header, the walk behind it, and the hazard that it noted. Assumes nothing.
+-- `planning::accept::indexed_hazard` meets its contract: the header, the walk behind it, and the hazard that it noted. Assumes nothing.
 use Prim.Native.Nat.{_≤_, _<_}
 use native.Mathlib.Omega.{arith}
 use mathlib.Core.Path.{_≡_, refl, sym, ap, _∙_}
@@ -19,8 +19,8 @@ use Rattle.planning.specs.Approached.{hazardAt}
 use Rattle.planning.specs.Accept.{AcceptedHazard}
 use Rattle.planning.proofs.EnvelopeLaws.{accepted-fits}
 use Rattle.planning.proofs.AcceptLaws.{none-given, walk-accepts, walk-refuses, accept-unread, indexed-refused, indexed-none, indexed-found}
-use Rattle.planning.proofs.accept.hazard_of.Statement.{statement}
-use Rattle.planning.proofs.accept.hazard_of.Tie as tie
+use Rattle.planning.proofs.accept.indexed_hazard.Statement.{statement}
+use Rattle.planning.proofs.accept.indexed_hazard.Tie as tie
 
 -- The header was read.
 read : (c : tie.After-header) → headerAt (c .before .before .before .before .args .s .now) ≡ accepted (record { header = c .header .given .0 .0; next = c .header .given .0 .1 .0 })
@@ -98,8 +98,8 @@ returns-4 c =
     let x = c .before .refusal .given in
     sym (indexed-refused (a .s .now) (a .index) (x .0 .0) (accept-unread (a .s .now) (x .0 .0) (sym (r .read-header .ensures) ∙ ap headerAnswer (x .1))))
 
-pub hazard-of-spec : {M : Type 1} → statement M
-hazard-of-spec =
+pub indexed-hazard-spec : {M : Type 1} → statement M
+indexed-hazard-spec =
     tie.close
     (tie.spec (λ c κs. search needs) (λ c. search needs) (λ c. search needs) (λ c. search needs) (λ c. search needs) (λ c. search needs) walk-requires (λ c. search needs) returns
     (λ c. search needs) (λ c. search needs) (λ c. search needs) (λ c. omega (arith, bounds (c .before .before) (found (c .before .before)) (c .if1 .left))) (λ c. search needs) (λ c. omega (arith, bounds (c .before .before) (found (c .before .before)) (c .if1 .left)))
