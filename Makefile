@@ -1,8 +1,9 @@
 # Two commands for a fresh machine with the Rattle toolchain, gcc and cargo: make run, make test. The second also needs g++, pkg-config and python3.
 # Beside them: make fuzz SECONDS=n, make bench, make bench-instructions (with valgrind), Makefile.vendor's make install and make examples, for the engine as C
-# make portable, make portable-mutants, make platforms (with the compilers and emulators that portable/platforms.sh names), and for what is delivered
-# make dist [GATE=LOG] and make dist-check [DIST=DELIVERY].
-.PHONY: run test promises proved engine hand fuzz bench bench-instructions portable portable-test portable-mutants platforms bench-portable dist dist-check
+# make portable, make portable-mutants, make platforms (with the compilers and emulators that portable/platforms.sh names), for the page that plans in a
+# browser make web (with clang and lld) and make web-test (with the packages that tests/web/run.sh names), and for what is delivered
+# make dist [GATE=LOG] [WEB=no] and make dist-check [DIST=DELIVERY].
+.PHONY: run test promises proved engine hand fuzz bench bench-instructions portable portable-test portable-mutants platforms bench-portable web-test dist dist-check
 
 SECONDS ?= 60
 # The tests are of the archive that is named to them.
@@ -61,17 +62,24 @@ platforms: engine
 bench-portable: engine
 	sh portable/bench.sh
 
-# target/dist/barrier_engine-VERSION and its tar.gz, from the last commit. GATE names the log of a gate run of that commit (.ci/run >LOG); without it the gate
+# The page in real browsers; no part of the gate, which needs none.
+web-test: web
+	sh tests/web/run.sh
+
+# target/dist/barrier_engine-VERSION and its tar.gz, from the last commit. The page is part of it, and is built here with clang and lld; where these are not,
+# that is said before anything runs, and WEB=no delivers without the page. GATE names the log of a gate run of that commit (.ci/run >LOG); without it the gate
 # runs first, and its log is kept as target/gate.log. The gate removes target/ on its way.
 dist:
 	@[ -z "$(GATE)" ] || [ -f "$(GATE)" ] || { echo "dist: there is no log $(GATE)" >&2; exit 1; }
+	@[ "$(WEB)" = no ] || python3 -B web/build.py --tools || { echo "dist: or leave the page out, WEB=no" >&2; exit 1; }
 	@python3 -B delivery/dist.py ready
 	@if [ -z "$(GATE)" ]; then \
 	    log=$$(mktemp) && echo "dist: the gate runs first; its log is $$log" && \
 	    { MAKEFLAGS='' .ci/run >"$$log" 2>&1 || { tail -n 20 "$$log"; exit 1; }; } && mv "$$log" target/gate.log; \
 	fi
 	@$(MAKE) --no-print-directory engine
-	@python3 -B delivery/dist.py make "$(or $(GATE),target/gate.log)"
+	@[ "$(WEB)" = no ] || $(MAKE) --no-print-directory web
+	@python3 -B delivery/dist.py make "$(or $(GATE),target/gate.log)" $(if $(filter no,$(WEB)),--no-page)
 
 # One command that compares: all is proved and built again, and held against CHANGELOG.md and, where DIST names a delivery (its folder or its tar.gz), against
 # that. Without the toolchain, what can be compared without it.

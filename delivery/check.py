@@ -12,6 +12,7 @@ import io
 import pathlib
 import tarfile
 
+import page
 import repository
 from built import ARCHIVE, BUILT_AT, C_FILE, PROGRAM, in_changelog, read, sha256
 from refused import Refused, need, run
@@ -86,12 +87,27 @@ def against_repository(files, report):
         print('not compared  the delivery\'s other files: %s' % e)
         return
     wanted = {path: sha256(read(path)) for path in names}
-    have = {path: sha256(data) for path, data in files.items() if path not in OWN + (ARCHIVE, PROGRAM)}
+    have = {path: sha256(data) for path, data in files.items() if path not in OWN + (ARCHIVE, PROGRAM, page.PAGE)}
     wrong = sorted(path for path in wanted.keys() | have.keys() if wanted.get(path) != have.get(path))
     for path in wrong:
         report.different(path, 'the delivery has %s, this repository %s' % (have.get(path, 'none'), wanted.get(path, 'none')))
     if not wrong:
         print('same          %d files of the delivery: this repository' % len(have))
+
+
+def against_sources(data, report):
+    """The delivery's page, beside what the sources here make with its module, and beside the one that is built again by the same compiler."""
+    same = page.from_sources(data) == data
+    if not same:
+        report.different(page.PAGE, 'this repository\'s web/ makes another page with the module that is in it')
+        return
+    print('same          %s: web/ of this repository, with the module that is in it' % page.PAGE)
+    again, compiler = page.built_again()
+    theirs = page.made_by(data)[1]
+    if again is None or compiler != theirs:
+        print('not compared  the module in %s: it was made by %s; here: %s' % (page.PAGE, theirs, compiler))
+    else:
+        report.compare('the module in ' + page.PAGE, {'built again': sha256(page.made_by(again)[0]), 'the delivery': sha256(page.made_by(data)[0])})
 
 
 def of_this_commit(files):
@@ -131,6 +147,10 @@ def main():
         of_this_commit(files)
         against_own_sums(files, report)
         against_repository(files, report)
+        if page.PAGE in files:
+            against_sources(files[page.PAGE], report)
+        else:
+            print('not compared  %s: the delivery has none' % page.PAGE)
     for path, seen in places.items():
         sums = {where: sha256(data) for where, data in seen.items()}
         sums.update({'the delivery': sha256(files[path])} if path in files else {})

@@ -1,9 +1,10 @@
 """What is delivered: a folder and a tar.gz of it, the same bytes each time from the same commit.
 
     python3 -B delivery/dist.py ready              refuses what can be refused before the gate has run
-    python3 -B delivery/dist.py make GATE_LOG      makes target/dist/barrier_engine-VERSION and .tar.gz
+    python3 -B delivery/dist.py make GATE_LOG [--no-page]
+                                                   makes target/dist/barrier_engine-VERSION and .tar.gz
 
-Run from the root of the repository, after the archive and the program are built. files.txt names what goes in. Nothing of this machine does: not the
+Run from the root of the repository, after the archive, the program and the page are built. files.txt names what goes in. Nothing of this machine does: not the
 time, the umask, the locale, the user or the folder. The compressed bytes are those of zlib at level 9. Tested (tests/vendor/dist.sh) and not proved.
 """
 import io
@@ -16,10 +17,11 @@ import sys
 import tarfile
 import zlib
 
+import page
 import repository
 from built import ARCHIVE, BUILT_AT, C_FILE, PROGRAM, in_changelog, read, sha256
 from gate import Log
-from proof import proof
+from proof import page_proof, proof
 from refused import need, run
 
 OUT = pathlib.Path('target/dist')
@@ -48,6 +50,13 @@ def same_crates(c_text, log):
     need(named, '%s does not name the crates that it was made from', C_FILE)
     for crate, digits in named:
         need(log.sums.get(crate, '').startswith(digits), '%s was made from crate %s with sum %s, and the gate proved %s', C_FILE, crate, digits, log.sums.get(crate, 'none'))
+
+
+def tested_page():
+    """The page, which has to be what the committed sources make with the module in it; its compiler stands in it."""
+    data = read(page.BUILT_AT)
+    need(page.from_sources(data) == data, '%s is not what web/ makes: build it again (make web)', page.BUILT_AT)
+    return data
 
 
 def sums(files):
@@ -96,7 +105,7 @@ def write_folder(folder, files, time):
         os.utime(folder / path, (time, time))
 
 
-def make(log_file):
+def make(log_file, with_page=True):
     files = ready()
     log = Log(read(log_file).decode('utf-8', 'replace'), repository.commit(), repository.crates())
     made = {ARCHIVE: (False, read(BUILT_AT[ARCHIVE])), PROGRAM: (True, read(BUILT_AT[PROGRAM])), C_FILE: files[C_FILE]}
@@ -104,7 +113,11 @@ def make(log_file):
     same_crates(files[C_FILE][1].decode('utf-8'), log)
     version = repository.version_of(files['include/barrier.h'][1].decode('utf-8'))
     files.update(made)
-    files['PROOF.txt'] = (False, proof(version, log, repository.commit(), repository.crates()).encode())
+    page_lines = ''
+    if with_page:
+        files[page.PAGE] = (False, tested_page())
+        page_lines = page_proof(sha256(files[page.PAGE][1]), page.made_by(files[page.PAGE][1])[1])
+    files['PROOF.txt'] = (False, (proof(version, log, repository.commit(), repository.crates()) + page_lines).encode())
     files['SHA256SUMS'] = (False, sums(files))
     name, time = 'barrier_engine-' + version, repository.commit_time()
     write_folder(OUT / name, files, time)
@@ -119,6 +132,8 @@ def main():
         return 0
     if sys.argv[1:2] == ['make'] and len(sys.argv) == 3:
         return make(sys.argv[2])
+    if sys.argv[1:2] == ['make'] and sys.argv[3:] == ['--no-page']:
+        return make(sys.argv[2], with_page=False)
     sys.exit(__doc__)
 
 

@@ -43,5 +43,16 @@ def proof(version, log, commit, crates):
         'c': C_FILE, 'c_sum': log.files[C_FILE], 'c_line': log.c_line}
 
 
+PAGE_TEXT = '''
+web/barrier.html SHA-256 %s
+    its module is that C, compiled by %s
+    tested (make web-test, which is no part of the gate) and not proved: the page, the module, and the compiler that made it
+'''
+
+
+def page_proof(total, compiler):
+    return PAGE_TEXT % (total, compiler)
+
+
 def axioms_line(block):
     return '; '.join(axioms(block)) or 'axioms: none'

@@ -39,6 +39,10 @@ for crate in $crates; do
     printf 'crate %s\nsum %s%048d\n' "$crate" "${digits:-0000000000000000}" 7 >"$tmp/target/rlib/$crate.rlib/format"
 done
 cp "$LIBDIR/libbarrier_engine.a" "$tmp/target/staticlib"
+# The page, with a stand-in for its module: clang need not be here.
+printf 'a module' >"$tmp/module"
+mkdir -p "$tmp/target/web"
+python3 -B web/build.py "$tmp/target/web/barrier.html" --module "$tmp/module" >"$tmp/said"
 if [ -n "${BARRIER:-}" ]; then cp "$BARRIER" "$tmp/target/bin/barrier"; else echo 'no program' >"$tmp/target/bin/barrier"; fi
 build() {
     rm -rf "$1/target"
@@ -137,6 +141,8 @@ $(sed -n 's/^delivery: crate //p' "$tmp/log")
     logic=proved functions=9 target=x sum=12 native=nat
     axioms: none
     axioms libc: libc::read, libc::write (2 of the 50 declared)
+web/barrier.html SHA-256 $(sha256sum <"$folder/web/barrier.html" | cut -d ' ' -f 1)
+    its module is that C, compiled by given
 $(sed -n 's/^delivery: file \([^ ]*\) /\1 SHA-256 /p' "$tmp/log")
 END
 [ "$(grep -c '^    logic=proved functions=' "$folder/PROOF.txt")" -eq $(($(echo "$crates" | wc -l) + 2)) ] || fail "PROOF.txt has not a verdict of each crate"
@@ -182,6 +188,12 @@ damaged "ln -s first.c examples/other.c"
 check 'other.c is no plain file' 1 "$tmp/damaged"
 head -c 5000 "$one/target/dist/$name.tar.gz" >"$tmp/short.tar.gz"
 check 'cannot be unpacked' 1 "$tmp/short.tar.gz"
+damaged "sed -i 's/barrierPage/barrierPages/' web/barrier.html && $again"
+check '^different  *web/barrier.html: .* makes another page' 1 "$tmp/damaged"
+damaged "echo nothing >web/barrier.html && $again"
+check 'web/barrier.html is not the page' 1 "$tmp/damaged"
+check '^same  *web/barrier.html: web/ of this repository, with the module that is in it$' 0 "$folder"
+check '^not compared  *the module in web/barrier.html: it was made by given' 0 "$folder"
 echo "dist: dist-check finds a changed byte, a file more, a file less and a link, with SHA256SUMS written again too"
 
 # What is refused, with words. In the second folder, of which the log holds too.
@@ -206,6 +218,13 @@ sed '/^portable: /d' "$tmp/log" >"$tmp/other"
 refused 'does not say that the C' "$two" "$tmp/other"
 echo >>"$two/target/staticlib/libbarrier_engine.a"
 refused 'libbarrier_engine.a is .* and the gate tested' "$two" "$tmp/log"
+build "$two"
+sed -i 's/barrierPage/barrierPages/' "$two/target/web/barrier.html"
+refused 'barrier.html is not what web/ makes' "$two" "$tmp/log"
+rm "$two/target/web/barrier.html"
+refused 'target/web/barrier.html: No such file' "$two" "$tmp/log"
+(cd "$two" && python3 -B delivery/dist.py make "$tmp/log" --no-page) >"$tmp/said" 2>&1 || fail "without the page: $(cat "$tmp/said")"
+if [ -e "$two/target/dist/$name/web/barrier.html" ] || grep -q barrier.html "$two/target/dist/$name/PROOF.txt" "$two/target/dist/$name/SHA256SUMS"; then fail "a delivery without the page names it"; fi
 build "$two"
 echo untracked >"$two/crates/refusal/src/untracked.rt"
 refused 'the tree is not committed: crates/refusal/src/untracked.rt' "$two" "$tmp/log"
