@@ -91,7 +91,8 @@ module _ (a b T L R m : ℕ) (some : 0 < a * R) (uncut : a * m ≤ a * R) where
 
       go : Dec (formulaLength a 0 T L R m ≤ T) → approachLength a b T L R m ≤ L
       go (yes l) = omega (arith, approach-unflared a b T L R m l, unflared)
-      go (no l) = let h : T < formulaLength a 0 T L R m = omega arith in omega (arith, approach-flared a b T L R m h, flare-shortens a b T L R m some uncut h .1, unflared)
+      go (no l) = let h : T < formulaLength a 0 T L R m = omega arith in
+          omega (arith, approach-flared a b T L R m h, flare-shortens a b T L R m some uncut h .1, unflared)
 
 -- The rule's test with no division and without a: "the length without flare (b = 0) is at most T".
 pub unflared-test : (a T L R m : ℕ) → 1 ≤ a → m < R → (formulaLength a 0 T L R m ≤ T) ↔ (L * (R - m) ≤ T * R)

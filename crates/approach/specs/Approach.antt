@@ -10,7 +10,8 @@ unfoldable pub ceilDiv : (x y : ℕ) → ℕ
 ceilDiv x y = (x + (y - 1)) / y
 
 -- "L × (a × R + b × T − a × m) / (b × L + a × R), rounded up to the next whole millimetre if not whole."
--- Runout length L, hazard reach R, barrier offset m; flare b across for a along, after T straight. Where the formula is asked, its subtraction is exact (law nothing-cut-off).
+-- Runout length L, hazard reach R, barrier offset m; flare b across for a along, after T straight. Where the formula is asked, its subtraction is exact (law
+-- nothing-cut-off).
 unfoldable pub formulaLength : (a b T L R m : ℕ) → ℕ
 formulaLength a b T L R m = ceilDiv (L * (a * R + b * T - a * m)) (b * L + a * R)
 

@@ -44,7 +44,8 @@ ranges-wider a b wider got [] e = refl
 ranges-wider a b wider got (x ∷ xs) e =
     let here = ranges-cons a got x xs e in
     let c = wider got in
-    and-intro (and-intro (le-leb (b got .low) x (omega (arith, within-low (a got) x (here .0), c .0))) (le-leb x (b got .high) (omega (arith, within-high (a got) x (here .0), c .1))))
+    and-intro (and-intro (le-leb (b got .low) x (omega (arith, within-low (a got) x (here .0), c .0)))
+    (le-leb x (b got .high) (omega (arith, within-high (a got) x (here .0), c .1))))
     (ranges-wider a b wider (got ++ x ∷ []) xs (here .1))
 
 header-fits : (h : Header) → HeaderBefore h → HeaderFits h

@@ -110,10 +110,12 @@ rising-part e v (q ∷ qs) rest up = (up .0, rising-part (q .end) (q .level) qs 
 find-run : (e v i : ℕ) (before : List Stretch) (r : Stretch) (rest : List Stretch) (t : ℕ) → Rising e v (before ++ r ∷ rest) → Has r t
     → findRecord e i (before ++ r ∷ rest) t ≡ found (record { at = i + length (writeRecords e before); len = length (writeRecord (lastEnd e before) r) })
 unfolding findRecord writeRecords
-find-run e v i [] r rest t up h = rw (le-leb (r .start) t (h .0), lt-ltb t (r .end) (h .1)) (ap (λ (at : ℕ). found (record { at = at; len = length (writeRecord e r) })) (omega arith))
+find-run e v i [] r rest t up h =
+    rw (le-leb (r .start) t (h .0), lt-ltb t (r .end) (h .1)) (ap (λ (at : ℕ). found (record { at = at; len = length (writeRecord e r) })) (omega arith))
 find-run e v i (q ∷ qs) r rest t up h =
     let a = among (q .end) (q .level) qs r rest (up .1) in
-    let place : i + length (writeRecord e q) + length (writeRecords (q .end) qs) ≡ i + length (writeRecord e q ++ writeRecords (q .end) qs) = rw (length-append (writeRecord e q) (writeRecords (q .end) qs)) (omega arith) in
+    let place : i + length (writeRecord e q) + length (writeRecords (q .end) qs) ≡ i + length (writeRecord e q ++ writeRecords (q .end) qs) =
+    rw (length-append (writeRecord e q) (writeRecords (q .end) qs)) (omega arith) in
     rw (le-leb (q .start) t (omega (arith, up .0 .long, a .after, h .0)), le-ltb t (q .end) (omega (arith, a .after, h .0)), ← place)
     (find-run (q .end) (q .level) (i + length (writeRecord e q)) qs r rest t (up .1) h)
 
@@ -153,7 +155,8 @@ module _ (rs : List Stretch) (b : RunsBefore rs) where
     place : length (writeIn 5 (length rs)) + length (writeRecords 0 before) ≡ length (writtenBefore (length rs ∷ allRecordNumbers 0 before))
     unfolding writtenBefore
     place =
-        ap (λ (l : List ℕ). length (writeIn 5 (length rs)) + length l) (records-five 0 0 before (rising-part 0 0 before (r ∷ rest) up) (λ q m. ends q (Memᴰ·append-left (r ∷ rest) m)))
+        ap (λ (l : List ℕ). length (writeIn 5 (length rs)) + length l)
+        (records-five 0 0 before (rising-part 0 0 before (r ∷ rest) up) (λ q m. ends q (Memᴰ·append-left (r ∷ rest) m)))
         ∙ sym (length-append (writeIn 5 (length rs)) (writtenBefore (allRecordNumbers 0 before)))
 
     size : writeRecord (lastEnd 0 before) r ≡ writtenBefore (recordNumbers (lastEnd 0 before) r)
@@ -161,7 +164,11 @@ module _ (rs : List Stretch) (b : RunsBefore rs) where
         let a = among 0 0 before r rest up in
         record-five (lastEnd 0 before) r (ends r (Memᴰ·append-right before (List·Memᴰ·head refl))) (omega (arith, a .long)) (a .top)
 
-    found-run : findRecord 0 (length (writeIn 5 (length rs))) rs t ≡ found (record { at = length (writtenBefore (length rs ∷ allRecordNumbers 0 before)); len = length (writtenBefore (recordNumbers (lastEnd 0 before) r)) })
+    found-run : findRecord 0 (length (writeIn 5 (length rs))) rs t
+        ≡ found (record {
+          at = length (writtenBefore (length rs ∷ allRecordNumbers 0 before));
+          len = length (writtenBefore (recordNumbers (lastEnd 0 before) r));
+        })
     found-run =
         ap (λ (l : List Stretch). findRecord 0 (length (writeIn 5 (length rs))) l t) split
         ∙ find-run 0 0 (length (writeIn 5 (length rs))) before r rest t up h

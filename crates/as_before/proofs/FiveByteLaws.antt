@@ -53,7 +53,8 @@ rows-most : (got : List ℕ) → nextBefore got .high ≤ 2000000000
 unfolding headerRanges sharedRanges allOf
 rows-most got = highs-most 2000000000 (rowsBefore (getD got 0 0) (getD got 1 0)) (rows (eqb (getD got 0 0) 2) (getD got 1 0)) (length got)
   where
-    rows : (t : Bool) (A : ℕ) → allOf (λ (r : Bounds). leb (r .high) 2000000000) (take 3 (rowsBefore 1 A) ++ drop 3 (sharedRanges A) ++ (if t then 1 to 10000 ∷ 0 to 256 ∷ [] else 0 to 256 ∷ [])) ≡ true
+    rows : (t : Bool) (A : ℕ) → allOf (λ (r : Bounds). leb (r .high) 2000000000)
+        (take 3 (rowsBefore 1 A) ++ drop 3 (sharedRanges A) ++ (if t then 1 to 10000 ∷ 0 to 256 ∷ [] else 0 to 256 ∷ [])) ≡ true
     rows true A = refl
     rows false A = refl
 
@@ -61,14 +62,17 @@ hazards-small : (h : Header) → h .end ≤ 2000000000 → (zs : List Hazard) �
 unfolding hazardsNumbers hazardInRange
 hazards-small h road [] fits = tt
 hazards-small h road (z ∷ zs) fits =
-    small-parts (hazardNumbers z) (hazardsNumbers zs) (ranges-small (nextInHazard h) (hazard-most 2000000000 h (omega arith) road) [] (hazardNumbers z) (fits z (List·Memᴰ·head refl)))
+    small-parts (hazardNumbers z) (hazardsNumbers zs)
+    (ranges-small (nextInHazard h) (hazard-most 2000000000 h (omega arith) road) [] (hazardNumbers z) (fits z (List·Memᴰ·head refl)))
     (hazards-small h road zs (λ y m. fits y (List·Memᴰ·tail m)))
 
-pub job-five : (j : Job) → HeaderBefore (j .header) → j .header .end ≤ 2000000000 → ((z : Hazard) → List·Memᴰ z (j .hazards) → HazardFits (j .header) z) → writeJob j ≡ writtenBefore (numbersOf j)
+pub job-five : (j : Job) → HeaderBefore (j .header) → j .header .end ≤ 2000000000 → ((z : Hazard) → List·Memᴰ z (j .hazards) → HazardFits (j .header) z)
+    → writeJob j ≡ writtenBefore (numbersOf j)
 unfolding writeJob numbersOf
 job-five j header road hazards =
     numbers-five (numbersOf j)
-    (small-parts (headerNumbers (j .header)) (hazardsNumbers (j .hazards)) (ranges-small nextBefore rows-most [] (headerNumbers (j .header)) (header .numbers)) (hazards-small (j .header) road (j .hazards) hazards))
+    (small-parts (headerNumbers (j .header)) (hazardsNumbers (j .hazards)) (ranges-small nextBefore rows-most [] (headerNumbers (j .header)) (header .numbers))
+    (hazards-small (j .header) road (j .hazards) hazards))
 
 -- Schedules
 
@@ -79,13 +83,16 @@ module _ (e : ℕ) (r : Stretch) (end : r .end ≤ 2000000000) (long : r .start 
       ap (λ (l : List ℕ). writeNumber (r .start - e) ++ (writeNumber (r .end - r .start) ++ l)) (sym (append-nil (writeNumber (r .level))))
       ∙ numbers-five (recordNumbers e r) (omega (arith, end, long), (omega (arith, end), (omega (arith, level), tt)))
 
-pub records-five : (e v : ℕ) (rs : List Stretch) → Rising e v rs → ((r : Stretch) → List·Memᴰ r rs → r .end ≤ 2000000000) → writeRecords e rs ≡ writtenBefore (allRecordNumbers e rs)
+pub records-five : (e v : ℕ) (rs : List Stretch) → Rising e v rs → ((r : Stretch) → List·Memᴰ r rs → r .end ≤ 2000000000)
+    → writeRecords e rs ≡ writtenBefore (allRecordNumbers e rs)
 unfolding writeRecords allRecordNumbers writtenBefore
 records-five e v [] up ends = refl
 records-five e v (r ∷ rs) up ends =
-    ap₂ (λ (l m : List ℕ). l ++ m) (record-five e r (ends r (List·Memᴰ·head refl)) (omega (arith, up .0 .long)) (up .0 .top)) (records-five (r .end) (r .level) rs (up .1) (λ q m. ends q (List·Memᴰ·tail m)))
+    ap₂ (λ (l m : List ℕ). l ++ m) (record-five e r (ends r (List·Memᴰ·head refl)) (omega (arith, up .0 .long)) (up .0 .top))
+    (records-five (r .end) (r .level) rs (up .1) (λ q m. ends q (List·Memᴰ·tail m)))
     ∙ sym (five-parts (recordNumbers e r) (allRecordNumbers (r .end) rs))
 
-pub schedule-five : (rs : List Stretch) → length rs ≤ mostRuns → Rising 0 0 rs → ((r : Stretch) → List·Memᴰ r rs → r .end ≤ 2000000000) → writeSchedule rs ≡ scheduleBefore rs
+pub schedule-five : (rs : List Stretch) → length rs ≤ mostRuns → Rising 0 0 rs → ((r : Stretch) → List·Memᴰ r rs → r .end ≤ 2000000000)
+    → writeSchedule rs ≡ scheduleBefore rs
 unfolding writeSchedule writtenBefore
 schedule-five rs few up ends = ap₂ (λ (l m : List ℕ). l ++ m) (write-five (length rs) (omega (arith, few))) (records-five 0 0 rs up ends)

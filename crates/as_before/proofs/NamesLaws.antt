@@ -6,7 +6,8 @@ use native.Mathlib.Decide.{ℕ-discrete}
 use mathlib.Core.Path.{_≡_, refl, subst, ap, _∙_}
 use mathlib.Core.Logic.{_⊎_, inl, inr}
 use mathlib.Core.Bool.{Bool, true, false, not}
-use mathlib.Core.List.{List, [], _∷_, _++_, List·Memᴰ, List·Memᴰ·head, List·Memᴰ·cases-cons, List·Memᴰ·not-nil, List·Memᴰ·append-cases, List·Memᴰ·eq-of-singleton}
+use mathlib.Core.List.{List, [], _∷_, _++_, List·Memᴰ, List·Memᴰ·head, List·Memᴰ·cases-cons, List·Memᴰ·not-nil, List·Memᴰ·append-cases}
+use mathlib.Core.List.{List·Memᴰ·eq-of-singleton}
 use lib.ListN.{length}
 use borrow.Author.Tests.{lt-leb}
 use Rattle.base.specs.Choice.{if_then_else_}
@@ -20,7 +21,8 @@ use Rattle.job.specs.Job.{Job, named}
 use Rattle.open_memory.specs.Memory.{mostStanding, stands, isFull, without, admit}
 use Rattle.open_job.specs.Calls.{testAdd, addIn}
 use Rattle.open_job.specs.declared.OpenStates.{OpenStates}
-use Rattle.open_promises.specs.Lists.{Edit, add, withdraw, Call, edit, Kept, nothing, state, States, opened, standAfter, hazardsAfter, CallsFrom, SchedulesAs, Standing, testNameAndHazard}
+use Rattle.open_promises.specs.Lists.{Edit, add, withdraw, Call, edit, Kept, nothing, state, States, opened, standAfter, hazardsAfter, CallsFrom, SchedulesAs}
+use Rattle.open_promises.specs.Lists.{Standing, testNameAndHazard}
 use Rattle.as_before.specs.Names.{ByteNamed, hazardsBefore, Names-before-12}
 use Rattle.open_promises.proofs.HazardLaws.{Distinct, distinct-more, distinct-less, without-cases, none-taken, one-less}
 use Rattle.open_promises.proofs.StandingLaws.{may-add}
@@ -31,7 +33,8 @@ use Rattle.open_promises.proofs.ListLaws.{standing-promise, schedule-promise}
 few-names : (n : ℕ) (ps : List NamedHazard) → Distinct ps → ((p : NamedHazard) → List·Memᴰ p ps → p .name < n) → length ps ≤ n
 few-names zero [] d lower = omega arith
 few-names zero (p ∷ ps) d lower = absurd (omega (arith, lower p (List·Memᴰ·head refl)))
-few-names (suc n) ps d lower = go (stands n ps) refl (few-names n (without n ps) (distinct-less n ps d) (λ p m. let w = without-cases n p ps m in below p (w .1) (lower p (w .0))))
+few-names (suc n) ps d lower =
+    go (stands n ps) refl (few-names n (without n ps) (distinct-less n ps d) (λ p m. let w = without-cases n p ps m in below p (w .1) (lower p (w .0))))
   where
     below : (p : NamedHazard) → (p .name ≡ n → ⊥) → p .name < suc n → p .name < n
     below p other l = there (ℕ-discrete (p .name) n)
@@ -51,18 +54,21 @@ record Bytes (past : List NamedHazard) : Type 0 where
 
 -- A byte that is the name of none leaves room.
 room : (past : List NamedHazard) → Bytes past → (name : ℕ) (z : Hazard) → name ≤ 255 → stands name past ≡ false → isFull past ≡ false
-room past b name z byte fresh = lt-leb mostStanding (length past) (omega (arith, few-names mostStanding (named name z ∷ past) (fresh, b .apart) (λ p m. lower p (List·Memᴰ·cases-cons m))))
+room past b name z byte fresh =
+    lt-leb mostStanding (length past) (omega (arith, few-names mostStanding (named name z ∷ past) (fresh, b .apart) (λ p m. lower p (List·Memᴰ·cases-cons m))))
   where
     lower : (p : NamedHazard) → (p ≡ named name z) ⊎ List·Memᴰ p past → p .name < 256
     lower p (inl e) = omega (arith, byte, ap (λ (x : NamedHazard). x .name) e)
     lower p (inr m) = omega (arith, b .each p m)
 
 -- So an add under a byte is tested as before.
-tests-before : (h : Header) (past : List NamedHazard) → Bytes past → (name : ℕ) (z : Hazard) → name ≤ 255 → testAdd h past name z ≡ testNameAndHazard h past name z
+tests-before : (h : Header) (past : List NamedHazard) → Bytes past → (name : ℕ) (z : Hazard) → name ≤ 255
+    → testAdd h past name z ≡ testNameAndHazard h past name z
 tests-before h past b name z byte = go (stands name past) refl
   where
     go : (t : Bool) → stands name past ≡ t
-        → (unless-refuse (not t) (Row.Name name) >>= λ _. unless-refuse (not (isFull past)) Row.Full >>= λ _. admit h name z) ≡ (unless-refuse (not t) (Row.Name name) >>= λ _. admit h name z)
+        → (unless-refuse (not t) (Row.Name name) >>= λ _. unless-refuse (not (isFull past)) Row.Full >>= λ _. admit h name z)
+        ≡ (unless-refuse (not t) (Row.Name name) >>= λ _. admit h name z)
     go true e = refl
     go false e = rw (room past b name z byte e)
 
@@ -88,7 +94,10 @@ module _ (h : Header) (past : List NamedHazard) (b : Bytes past) where
       there p (inr m) = omega (arith, byte, ap (λ (x : NamedHazard). x .name) (List·Memᴰ·eq-of-singleton m))
 
       go : (a : Bool) → isAccepted (testAdd h past name z) ≡ a → Bytes (if a then past ++ named name z ∷ [] else past)
-      go true e = record { apart = distinct-more past (named name z) (b .apart) (may-add h past name z e .fresh); each = λ p m. there p (List·Memᴰ·append-cases past m) }
+      go true e = record {
+        apart = distinct-more past (named name z) (b .apart) (may-add h past name z e .fresh);
+        each = λ p m. there p (List·Memᴰ·append-cases past m);
+      }
       go false e = b
 
 -- Calls
@@ -116,8 +125,12 @@ module _ (s : List ℕ) (j : Job) (calls : List Call) (m : OpenStates) (from : C
   alike : AgreeAll AsBefore are were
   alike =
       agree-calls AsBefore (standAfter (testAdd h)) (standAfter (testNameAndHazard h)) ByteEdit
-      (λ past before k e byte. record { same = edit-same h past (k .bytes) e byte ∙ ap (λ (l : List NamedHazard). standAfter (testNameAndHazard h) l e) (k .same); bytes = edit-bytes h past (k .bytes) e byte })
-      (opened []) (opened []) (agree-opened AsBefore (record { same = refl; bytes = record { apart = tt; each = λ p k. absurd (List·Memᴰ·not-nil k) } })) calls may
+      (λ past before k e byte. record {
+        same = edit-same h past (k .bytes) e byte ∙ ap (λ (l : List NamedHazard). standAfter (testNameAndHazard h) l e) (k .same);
+        bytes = edit-bytes h past (k .bytes) e byte;
+      })
+      (opened []) (opened []) (agree-opened AsBefore (record { same = refl; bytes = record { apart = tt; each = λ p k. absurd (List·Memᴰ·not-nil k) } })) calls
+      may
     where
       may : (e : Edit) → List·Memᴰ (edit e) calls → ByteEdit e
       may (add name z) k = byte name z k

@@ -1,4 +1,5 @@
--- Document 02, request 11: "Bytes accepted before give the same replies, sheet corners newly in range apart." Stated as the whole reply of each call that there was, by
+-- Document 02, request 11: "Bytes accepted before give the same replies, sheet corners newly in range apart." Stated as the whole reply of each call that there
+-- was, by
 -- the job or the run list that the bytes were.
 -- Assumes nothing.
 use Prim.Native.Nat.{ℕ, _≤_, _<_}
@@ -60,11 +61,13 @@ pub record RepliesByJob (s : List ℕ) (j : Job) : Type 0 where
 -- Lookup finds this in the schedule of the side asked for, whatever the other holds; 8 for a side above 1. (What it returns is `partOf` of this
 -- answer, what its companion says `outcomeOf`.)
 abbrev pub LookedUp : (w : List ℕ) (t : ℕ) → Found → Type 0
-LookedUp w t f = (right left : List ℕ) (side : ℕ) → asked side right left ≡ w → lookup right left side t ≡ (unless-refuse (leb side 1) Row.Argument >>= λ _. accepted f)
+LookedUp w t f =
+    (right left : List ℕ) (side : ℕ) → asked side right left ≡ w → lookup right left side t ≡ (unless-refuse (leb side 1) Row.Argument >>= λ _. accepted f)
 
 -- And what each replies to the bytes of the schedule whose runs are rs.
 pub record RepliesByRuns (w : List ℕ) (rs : List Stretch) : Type 0 where
-  pub single : (level p q : ℕ) → quantity w level p q ≡ (unless-refuse (leb 1 level && leb level 6 && leb p q) Row.Argument >>= λ _. accepted (millimetres (shownLevel rs) level p q))
+  pub single : (level p q : ℕ) → quantity w level p q
+      ≡ (unless-refuse (leb 1 level && leb level 6 && leb p q) Row.Argument >>= λ _. accepted (millimetres (shownLevel rs) level p q))
   pub lots : (level : ℕ) (numbers : List ℕ)
       → quantities w level numbers
       ≡ (unless-refuse (leb 1 level && leb level 6 && areRanges numbers) Row.Argument >>= λ _.
@@ -72,7 +75,10 @@ pub record RepliesByRuns (w : List ℕ) (rs : List Stretch) : Type 0 where
       accepted (record { records = length rs; quantities = map (λ z. millimetres (shownLevel rs) level (z .p) (z .q)) (rangesOf numbers) }))
   -- the record of the run that has the station: after the run count and the records before it
   pub looks : (before : List Stretch) (r : Stretch) (after : List Stretch) (t : ℕ) → rs ≡ before ++ r ∷ after → Has r t
-      → LookedUp w t (found (record { at = length (writtenBefore (length rs ∷ allRecordNumbers 0 before)); len = length (writtenBefore (recordNumbers (lastEnd 0 before) r)) }))
+      → LookedUp w t (found (record {
+        at = length (writtenBefore (length rs ∷ allRecordNumbers 0 before));
+        len = length (writtenBefore (recordNumbers (lastEnd 0 before) r));
+      }))
   pub looks-none : (t : ℕ) → ((r : Stretch) → List·Memᴰ r rs → Has r t → ⊥) → LookedUp w t nowhere
 
 -- The bytes are the job that they were; and the runs of its sides, whose schedules plan writes, are a run list as it was.

@@ -10,7 +10,8 @@ use Rattle.job.specs.Job.{Job}
 use Rattle.base.specs.Answer.{replied}
 use Rattle.open_job.specs.Calls.{addIn}
 use Rattle.open_job.specs.declared.OpenStates.{OpenStates}
-use Rattle.open_promises.specs.Lists.{add, Call, edit, States, opened, statesAfter, standAfter, hazardsAfter, CallsFrom, SchedulesAs, Standing, testNameAndHazard}
+use Rattle.open_promises.specs.Lists.{add, Call, edit, States, opened, statesAfter, standAfter, hazardsAfter, CallsFrom, SchedulesAs, Standing}
+use Rattle.open_promises.specs.Lists.{testNameAndHazard}
 
 -- "Using only names to 255": a name was a byte. A withdrawal of a greater name is let in: none such stands, so it alters nothing.
 abbrev pub ByteNamed : List Call → Type 0

@@ -31,7 +31,8 @@ lines-split word rs before r after e = ap (runLines word) e ∙ lines-append wor
 
 module _ (s : List ℕ) (j : Job) (a : acceptJob s ≡ accepted j) (v t : ℕ) where
   -- A run that runs show at t is printed, where their lines stand in the text.
-  line-printed : (word : List ℕ) (rs : List Stretch) (w : ShownRun rs t) → v ≤ w .run .level → (p q : List ℕ) → reported s ≡ p ++ (runLines word rs ++ q) → PrintedRun s word v t
+  line-printed : (word : List ℕ) (rs : List Stretch) (w : ShownRun rs t) → v ≤ w .run .level → (p q : List ℕ) → reported s ≡ p ++ (runLines word rs ++ q)
+      → PrintedRun s word v t
   line-printed word rs w h p q text = record {
     run = w .run;
     has = w .has;
@@ -43,13 +44,18 @@ module _ (s : List ℕ) (j : Job) (a : acceptJob s ≡ accepted j) (v t : ℕ) w
 
   printed : (side : ℕ) → side ≤ 1 → (w : ShownRun (jobRuns j side) t) → v ≤ w .run .level → PrintedRun s (sideWord side) v t
   unfolding runsReport reported
-  printed zero l w h = line-printed rightWord (jobRuns j 0) w h [] (runLines leftWord (jobRuns j 1) ++ totalLine (covered (jobRuns j 0)) (covered (jobRuns j 1))) (rw a (append-assoc (runLines rightWord (jobRuns j 0)) _ _))
-  printed (suc zero) l w h = line-printed leftWord (jobRuns j 1) w h (runLines rightWord (jobRuns j 0)) (totalLine (covered (jobRuns j 0)) (covered (jobRuns j 1))) (rw a (append-assoc (runLines rightWord (jobRuns j 0)) _ _))
+  printed zero l w h = line-printed rightWord (jobRuns j 0) w h []
+      (runLines leftWord (jobRuns j 1) ++ totalLine (covered (jobRuns j 0)) (covered (jobRuns j 1)))
+      (rw a (append-assoc (runLines rightWord (jobRuns j 0)) _ _))
+  printed (suc zero) l w h = line-printed leftWord (jobRuns j 1) w h (runLines rightWord (jobRuns j 0))
+      (totalLine (covered (jobRuns j 0)) (covered (jobRuns j 1))) (rw a (append-assoc (runLines rightWord (jobRuns j 0)) _ _))
   printed (suc (suc n)) l w h = absurd (omega arith)
 
--- For every accepted job: upstream of a hazard, a millimetre of the road whose end towards it is nearer than the approach length in whole panels lies in a printed run
+-- For every accepted job: upstream of a hazard, a millimetre of the road whose end towards it is nearer than the approach length in whole panels lies in a
+-- printed run
 -- of the hazard's level or a higher one.
-pub printed-formula : (s : List ℕ) (j : Job) → acceptJob s ≡ accepted j → (z : Hazard) → List·Memᴰ z (j .hazards) → (traffic : Traffic) → reaches (j .header) z traffic ≡ true
+pub printed-formula : (s : List ℕ) (j : Job) → acceptJob s ≡ accepted j → (z : Hazard) → List·Memᴰ z (j .hazards) → (traffic : Traffic)
+    → reaches (j .header) z traffic ≡ true
     → (d t : ℕ) → Upstream traffic z d t → BelowApproach (j .header) z traffic d → OnRoad (j .header) t → PrintedRun s (sideWord (z .side)) (z .level) t
 printed-formula s j a z m traffic r d t u l road =
     let fits = accepted-fits s j a in
@@ -60,7 +66,8 @@ printed-formula s j a z m traffic r d t u l road =
     printed s j a (z .level) t (z .side) (own .side) w (omega (arith, w .level))
 
 -- The same by the length in whole panels that crate approach promises.
-pub printed-length : (s : List ℕ) (j : Job) → acceptJob s ≡ accepted j → (z : Hazard) → List·Memᴰ z (j .hazards) → (traffic : Traffic) → reaches (j .header) z traffic ≡ true
+pub printed-length : (s : List ℕ) (j : Job) → acceptJob s ≡ accepted j → (z : Hazard) → List·Memᴰ z (j .hazards) → (traffic : Traffic)
+    → reaches (j .header) z traffic ≡ true
     → (d t : ℕ) → Upstream traffic z d t
     → let h = j .header in d < raisedLength (h .panel) (h .along) (h .across) (h .straight) (runout h traffic) (reachOf h z traffic) (offsetOf h z traffic)
     → OnRoad h t → PrintedRun s (sideWord (z .side)) (z .level) t

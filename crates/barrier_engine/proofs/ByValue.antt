@@ -1,4 +1,5 @@
--- A call of a function that takes and gives plain data, as one step of a walk. It asks nothing of the memory, and its result is the machine value of what its contract names.
+-- A call of a function that takes and gives plain data, as one step of a walk. It asks nothing of the memory, and its result is the machine value of what its
+-- contract names.
 -- Assumes nothing.
 use prog.Wp.{evalOpds}
 use types.Kit.{push, lands, aim}
@@ -6,8 +7,10 @@ use denote.Laws.{owns-make}
 use denote.Steps.{only}
 use denote.Triple.End.{lastsOf}
 use denote.Triple.Spec.{Spec, exits}
-use Rattle.barrier_engine.proofs.Walks.{_≡_, sym, subst, ap, List, [], _∷_, URA, Name, Place, Operand, Code, seq, call, Val, SProp, ent, sep, emp, via, id⊢, mono∗, monoL, fst∗, snd∗, emp∗, exE, Heap, Env, Calls, Loops, Atoms, sem, fact}
-use Rattle.barrier_engine.proofs.Walks.{fact-use, FmC, Given, Item, raw, later, ⋆, Post, Seq, runs, use1, await, _$_, Opds, Denots, flat, Is, Ises, shows, heard, Signature, plain, tripleOf, Contract, Triple}
+use Rattle.barrier_engine.proofs.Walks.{_≡_, sym, subst, ap, List, [], _∷_, URA, Name, Place, Operand, Code, seq, call, Val, SProp, ent, sep, emp, via}
+use Rattle.barrier_engine.proofs.Walks.{id⊢, mono∗, monoL, fst∗, snd∗, emp∗, exE, Heap, Env, Calls, Loops, Atoms, sem, fact}
+use Rattle.barrier_engine.proofs.Walks.{fact-use, FmC, Given, Item, raw, later, ⋆, Post, Seq, runs, use1, await, _$_, Opds, Denots, flat, Is, Ises}
+use Rattle.barrier_engine.proofs.Walks.{shows, heard, Signature, plain, tripleOf, Contract, Triple}
 use Rattle.barrier_engine.proofs.Data.{Data, Fits, AllFit, rows, machine, slots, kepts, makess}
 
 -- `fn f(a: A, ..) -> R`
@@ -29,7 +32,8 @@ module _ {M : Type 1} (𝓤 : URA M) (H : Heap 𝓤) (A : Atoms 𝓤) (Ds : List
     asks : AllFit 0 tt Ds a → ent 𝓤 (emp 𝓤) (Gives .pre at)
     asks fits =
         via 𝓤 (sep 𝓤 (emp 𝓤) (emp 𝓤)) (emp∗ 𝓤 (emp 𝓤))
-        (monoL 𝓤 (emp 𝓤) (via 𝓤 (sep 𝓤 (emp 𝓤) (emp 𝓤)) (emp∗ 𝓤 (emp 𝓤)) (mono∗ 𝓤 (id⊢ 𝓤 (emp 𝓤)) (owns-make 𝓤 H A (rows 0 tt Ds) (Ises (rows 0 tt Ds)) (makess 0 tt 𝓤 H A W Ds) a (machine 0 tt Ds a) fits))))
+        (monoL 𝓤 (emp 𝓤) (via 𝓤 (sep 𝓤 (emp 𝓤) (emp 𝓤)) (emp∗ 𝓤 (emp 𝓤))
+        (mono∗ 𝓤 (id⊢ 𝓤 (emp 𝓤)) (owns-make 𝓤 H A (rows 0 tt Ds) (Ises (rows 0 tt Ds)) (makess 0 tt 𝓤 H A W Ds) a (machine 0 tt Ds a) fits))))
 
     abbrev Owned : R .row .Denot → Val → SProp 𝓤
     Owned r w = sem 𝓤 H A (R .row .own r (w ∷ []))
@@ -47,14 +51,17 @@ module _ {M : Type 1} (𝓤 : URA M) (H : Heap 𝓤) (A : Atoms 𝓤) (Ds : List
         via 𝓤 (sep 𝓤 (emp 𝓤) (Owned r w)) (fst∗ 𝓤 (sep 𝓤 (emp 𝓤) (Owned r w)) (Said r)) (via 𝓤 (Owned r w) (snd∗ 𝓤 (emp 𝓤) (Owned r w))
         (subst (λ (y : R .row .Denot). ent 𝓤 (Owned r w) (fact 𝓤 (Is (R .row) y (w ∷ [])))) e (shows 𝓤 H A (R .row) r (w ∷ [])))))))
 
-module _ {M : Type 1} {𝓤 : URA M} {H : Heap 𝓤} {A : Atoms 𝓤} {K : Type 0} {W : Given 𝓤 H A} {Γ : List (Item 𝓤)} {E : Env 𝓤 H} {C : Calls 𝓤 H} {Λ : Loops 𝓤 H} {q : Post 𝓤 H} {d : Place} {rest : Code} where
+module _ {M : Type 1} {𝓤 : URA M} {H : Heap 𝓤} {A : Atoms 𝓤} {K : Type 0} {W : Given 𝓤 H A} {Γ : List (Item 𝓤)} {E : Env 𝓤 H} {C : Calls 𝓤 H} {Λ : Loops 𝓤 H}
+    {q : Post 𝓤 H} {d : Place} {rest : Code} where
   -- what lands is the one machine value of the result
-  pub lands-as : K → (R : Data) (r : R .row .Denot) (w : Val) → Is (R .row) r (w ∷ []) → (Fits R r → Seq K W Γ (lands C Λ E d (R .val r) rest q)) → Seq K W Γ (lands C Λ E d w rest q)
+  pub lands-as : K → (R : Data) (r : R .row .Denot) (w : Val) → Is (R .row) r (w ∷ []) → (Fits R r → Seq K W Γ (lands C Λ E d (R .val r) rest q))
+      → Seq K W Γ (lands C Λ E d w rest q)
   lands-as t R r w i k =
       let e : (w ∷ []) ≡ (R .val r ∷ []) = R .tells r (w ∷ []) i in
       subst (λ (u : Val). Seq K W Γ (lands C Λ E d u rest q)) (sym (ap only e)) (k (subst (λ (us : List Val). Is (R .row) r us) e i))
 
-  pub gives : K → FmC 𝓤 H (W .laws) C → {f : Name} {xs : List Operand} (Ds : List Data) (R : Data) (s : Denots (rows 0 tt Ds) → R .row .Denot) → Triple 𝓤 (C f) (Gives 𝓤 H A Ds R s)
+  pub gives : K → FmC 𝓤 H (W .laws) C → {f : Name} {xs : List Operand} (Ds : List Data) (R : Data) (s : Denots (rows 0 tt Ds) → R .row .Denot)
+      → Triple 𝓤 (C f) (Gives 𝓤 H A Ds R s)
       → (a : Denots (rows 0 tt Ds)) → AllFit 0 tt Ds a → Opds K W Γ E xs (flat (rows 0 tt Ds) (machine 0 tt Ds a))
       → (Fits R (s a) → Seq K W Γ (lands C Λ E d (R .val (s a)) rest q)) → Seq K W Γ (runs C Λ E (seq (call f xs d) rest) q)
   gives t fm {f} {xs} Ds R s met a fits os k = record {
@@ -62,7 +69,8 @@ module _ {M : Type 1} {𝓤 : URA M} {H : Heap 𝓤} {A : Atoms 𝓤} {K : Type 
         via 𝓤 (evalOpds 𝓤 H E xs (λ us. C f us (λ w. aim 𝓤 H (lands C Λ E d w rest q))))
         (os .go (λ us. C f us (λ w. aim 𝓤 H (lands C Λ E d w rest q)))
         (via 𝓤 (sep 𝓤 (emp 𝓤) (⋆ 𝓤 H A Γ)) (emp∗ 𝓤 (⋆ 𝓤 H A Γ))
-        (via 𝓤 (sep 𝓤 (C f vs Q) (⋆ 𝓤 H A Γ)) (monoL 𝓤 (⋆ 𝓤 H A Γ) (via 𝓤 (Gives 𝓤 H A Ds R s .pre (at 𝓤 H A Ds R s W a)) (asks 𝓤 H A Ds R s W a fits) (met (at 𝓤 H A Ds R s W a))))
+        (via 𝓤 (sep 𝓤 (C f vs Q) (⋆ 𝓤 H A Γ)) (monoL 𝓤 (⋆ 𝓤 H A Γ)
+        (via 𝓤 (Gives 𝓤 H A Ds R s .pre (at 𝓤 H A Ds R s W a)) (asks 𝓤 H A Ds R s W a fits) (met (at 𝓤 H A Ds R s W a))))
         (fm f vs Q (λ w. aim 𝓤 H (lands C Λ E d w rest q)) (⋆ 𝓤 H A Γ) (λ w. via 𝓤 (⋆ 𝓤 H A (raw (Q w) ∷ Γ)) (push 𝓤 H A (raw (Q w)) Γ) (goes-on w .prf))))))
         (W .laws .⇛-intro _);
   }
@@ -74,4 +82,5 @@ module _ {M : Type 1} {𝓤 : URA M} {H : Heap 𝓤} {A : Atoms 𝓤} {K : Type 
       Q w = Gives 𝓤 H A Ds R s .post (at 𝓤 H A Ds R s W a) w
 
       goes-on : (w : Val) → Seq K W (raw (Q w) ∷ Γ) (lands C Λ E d w rest q)
-      goes-on w = use1 W (later (raw (fact 𝓤 (Is (R .row) (s a) (w ∷ []))))) (says 𝓤 H A Ds R s W a w) $ await t tt $ heard t (Is (R .row) (s a) (w ∷ [])) (λ i. lands-as t R (s a) w i k)
+      goes-on w = use1 W (later (raw (fact 𝓤 (Is (R .row) (s a) (w ∷ []))))) (says 𝓤 H A Ds R s W a w) $ await t tt $
+          heard t (Is (R .row) (s a) (w ∷ [])) (λ i. lands-as t R (s a) w i k)

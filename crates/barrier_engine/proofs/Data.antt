@@ -1,6 +1,8 @@
--- Plain data, as a walk of code reads it: a type whose values each have one machine value, own nothing but facts, and are at a function's exit as they were passed.
+-- Plain data, as a walk of code reads it: a type whose values each have one machine value, own nothing but facts, and are at a function's exit as they were
+-- passed.
 -- Assumes nothing.
-use Rattle.barrier_engine.proofs.Walks.{_≡_, refl, ℕ, zero, List, [], _∷_, URA, fullShare, Holds, Ty, Val, WT, hasTy, vint, vbool, fat, Heap, Atoms, Given, Item, ‵, Denots, Is, Ises, lone, yes, Lfts, plain}
+use Rattle.barrier_engine.proofs.Walks.{_≡_, refl, ℕ, zero, List, [], _∷_, URA, fullShare, Holds, Ty, Val, WT, hasTy, vint, vbool, fat, Heap, Atoms}
+use Rattle.barrier_engine.proofs.Walks.{Given, Item, ‵, Denots, Is, Ises, lone, yes, Lfts, plain}
 use mir.Syntax.{Width, tyInt, tyBool}
 use base.Fml.{froom}
 use denote.RattleType.{RattleType, Valss}
@@ -19,7 +21,8 @@ pub record Data : Type 2 where
   pub ty : Ty
   pub val : row .Denot → Val
   pub tells : Tells row (Is row) (λ x. val x ∷ [])
-  pub typed : {M : Type 1} (𝓤 : URA M) (H : Heap 𝓤) (A : Atoms 𝓤) → Given 𝓤 H A → (x : row .Denot) → Is row x (val x ∷ []) → Holds (hasTy ty (val x)) × WT (val x)
+  pub typed : {M : Type 1} (𝓤 : URA M) (H : Heap 𝓤) (A : Atoms 𝓤) → Given 𝓤 H A → (x : row .Denot) → Is row x (val x ∷ [])
+      → Holds (hasTy ty (val x)) × WT (val x)
   pub makes : {M : Type 1} (𝓤 : URA M) (H : Heap 𝓤) (A : Atoms 𝓤) → Given 𝓤 H A → Makes 𝓤 H A row (Is row)
   pub still : (k : Kept) → row .exit k ≡ unchanged
 

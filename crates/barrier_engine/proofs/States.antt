@@ -85,4 +85,14 @@ whole m p = LL.owes OpenStates·t.the-type OpenStates·t′.the-laws m
 
 -- another present state
 pub with-now : (m : OpenStates) (x : StoredJob) → Parts m → Fits stored x → Parts (statesFrom x (keptStates m))
-with-now m x p f = record { present-fits = f; fits0 = p .fits0; fits1 = p .fits1; fits2 = p .fits2; fits3 = p .fits3; fits4 = p .fits4; fits5 = p .fits5; fits6 = p .fits6; fits7 = p .fits7 }
+with-now m x p f = record {
+  present-fits = f;
+  fits0 = p .fits0;
+  fits1 = p .fits1;
+  fits2 = p .fits2;
+  fits3 = p .fits3;
+  fits4 = p .fits4;
+  fits5 = p .fits5;
+  fits6 = p .fits6;
+  fits7 = p .fits7;
+}

@@ -41,7 +41,9 @@ pub use prog.Model.{Model}
 pub use prog.Routine.{Env as Routines, Routine}
 pub use prog.Wp.{Calls, Env, Heap, Loops, Tables, WpFn, spotOf}
 pub use sound.WpLaws.{FmC, WpFn-mono, fmOf}
-pub use types.Kit.{ !, Given, Goal, Item, Post, Seq, Step, _$_, _∵_, _⊛_, await, by, done, drop, feqI, fjoin, fjoin3, frame, fsplit, fsplit3, join, keep, later, move, pick, qed, raw, runs, some, split, step, suffices, use1, use2, ‵, ⋆}
+pub use types.Kit.{ !, Given, Goal, Item, Post, Seq, Step, _$_, _∵_, _⊛_, await, by, done, drop, feqI, fjoin, fjoin3, frame, fsplit, fsplit3, join, keep, later}
+pub use types.Kit.{move, pick, qed, raw, runs, some, split, step, suffices, use1, use2, ‵, ⋆}
 pub use types.Part.{look-in, store-in, sub, whole as all}
-pub use types.Run.{Opd, Opds, Writes, alloc0, alloc1, and-then, assigns, enter, fld, free0, from, hop, init, land, load, look, no-more, of-opd, params1, pass0, pass1, returns, stop, store, true-lit}
+pub use types.Run.{Opd, Opds, Writes, alloc0, alloc1, and-then, assigns, enter, fld, free0, from, hop, init, land, load, look, no-more, of-opd, params1, pass0}
+pub use types.Run.{pass1, returns, stop, store, true-lit}
 pub use types.SemTy.{Body}

@@ -21,7 +21,8 @@ bind-assoc (accepted a) f g = refl
 bind-assoc (refused k v) f g = refl
 
 -- What holds of a value beside a refusal, and of what is made where an answer was accepted.
-pub beside-or-made : {A B : Type 0} (P : B → Type 0) (b : B) (m : Answer A) (f : A → Answer B) → P b → ((a : A) → m ≡ accepted a → P (acceptedOr b (f a))) → P (acceptedOr b (m >>= f))
+pub beside-or-made : {A B : Type 0} (P : B → Type 0) (b : B) (m : Answer A) (f : A → Answer B) → P b → ((a : A) → m ≡ accepted a → P (acceptedOr b (f a)))
+    → P (acceptedOr b (m >>= f))
 beside-or-made P b (accepted a) f old new = new a refl
 beside-or-made P b (refused k v) f old new = old
 

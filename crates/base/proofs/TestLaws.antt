@@ -82,11 +82,13 @@ module _ {A : Type 0} where
   filter-elim p [] m = absurd (List·Memᴰ·not-nil m)
   filter-elim p {x} (y ∷ ys) m = go (p y) refl m (filter-elim p ys)
     where
-      here : p y ≡ true → (x ≡ y) ⊎ List·Memᴰ x (filter p ys) → (List·Memᴰ x (filter p ys) → List·Memᴰ x ys × (p x ≡ true)) → List·Memᴰ x (y ∷ ys) × (p x ≡ true)
+      here : p y ≡ true → (x ≡ y) ⊎ List·Memᴰ x (filter p ys) → (List·Memᴰ x (filter p ys) → List·Memᴰ x ys × (p x ≡ true))
+          → List·Memᴰ x (y ∷ ys) × (p x ≡ true)
       here e (inl q) r = (List·Memᴰ·head q, rw q e)
       here e (inr k) r = let w = r k in (List·Memᴰ·tail (w .0), w .1)
 
-      go : (b : Bool) → p y ≡ b → List·Memᴰ x (if b then y ∷ filter p ys else filter p ys) → (List·Memᴰ x (filter p ys) → List·Memᴰ x ys × (p x ≡ true)) → List·Memᴰ x (y ∷ ys) × (p x ≡ true)
+      go : (b : Bool) → p y ≡ b → List·Memᴰ x (if b then y ∷ filter p ys else filter p ys) → (List·Memᴰ x (filter p ys) → List·Memᴰ x ys × (p x ≡ true))
+          → List·Memᴰ x (y ∷ ys) × (p x ≡ true)
       go true e k r = here e (List·Memᴰ·cases-cons k) r
       go false e k r = let w = r k in (List·Memᴰ·tail (w .0), w .1)
 

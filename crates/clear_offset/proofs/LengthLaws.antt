@@ -47,7 +47,8 @@ module _ (h : Header) (z : Hazard) (c : Clear h z) where
           offset-below = omega (arith, bounds .deflection-low, c .reach, hazard-bounds h z (c .hazard) .offsets);
         }
 
-    pub length-is : lengthAt h z M ≡ raisedLength (h .panel) (h .along) (h .across) (h .straight) (runout h (adjacentTraffic h (z .side))) (min (z .far) (h .zone)) M
+    pub length-is : lengthAt h z M ≡ raisedLength (h .panel) (h .along) (h .across) (h .straight) (runout h (adjacentTraffic h (z .side)))
+        (min (z .far) (h .zone)) M
     unfolding lengthAt lengthening adjacentTraffic
     length-is =
         let t = adjacentTraffic h (z .side) in

@@ -32,7 +32,8 @@ module _ (x y : ℕ) where
     off-sheet (inl l) = rw (lt-leb x sheetTop l)
     off-sheet (inr l) = rw (lt-leb y sheetTop l, and-false (leb x sheetTop))
 
-    pub on-sheet : x ≤ sheetTop → y ≤ sheetTop → cornersOf s i x y ≡ (acceptJob s >>= λ j. approachedHazard j i >>= λ z. accepted (hazardCorners x y (j .header) z))
+    pub on-sheet : x ≤ sheetTop → y ≤ sheetTop
+        → cornersOf s i x y ≡ (acceptJob s >>= λ j. approachedHazard j i >>= λ z. accepted (hazardCorners x y (j .header) z))
     unfolding cornersOf
     on-sheet k l = rw (le-leb x sheetTop k, le-leb y sheetTop l)
 

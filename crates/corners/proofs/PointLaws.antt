@@ -29,7 +29,8 @@ use Rattle.corners.specs.Reply.{cornerOf, cornersReplied, cornersReply}
 use Rattle.corners.specs.Steps.{LengthsOf}
 
 -- Adjacent traffic that reaches a hazard, which stands clear of the barrier, asks for its lengths with the hazard's own offsets.
-module _ (h : Header) (z : Hazard) (t : Traffic) (hf : HeaderFits h) (zf : HazardFits h z) (clear : h .offset + h .deflection ≤ z .near) (beside : adjacent h (z .side) t ≡ true) (reach : reaches h z t ≡ true)
+module _ (h : Header) (z : Hazard) (t : Traffic) (hf : HeaderFits h) (zf : HazardFits h z) (clear : h .offset + h .deflection ≤ z .near)
+    (beside : adjacent h (z .side) t ≡ true) (reach : reaches h z t ≡ true)
     {L R : ℕ} (p : L ≡ runout h t) (q : R ≡ min (z .far) (h .zone)) where
   pub asked-domain : Domain (h .along) (h .across) (h .straight) L R (h .offset)
   asked-domain = let e = reaches-adjacent h z t beside in rw (e .1, e .2, ← p, ← q) at (reaching-domain h z hf zf clear t reach)
@@ -45,12 +46,15 @@ module _ (h : Header) (z : Hazard) (t : Traffic) (hf : HeaderFits h) (zf : Hazar
       record { before = same; raised = raise; not-smaller = omega arith; few = omega (arith, lengthening-top h z hf zf clear t) }
 
 -- Where the flare is entered, the raised length passes T; and as code has it.
-pub raised-past-straight : (h : Header) (z : Hazard) (t : Traffic) → HeaderFits h → HazardFits h z → h .offset + h .deflection ≤ z .near → reaches h z t ≡ true → flareEntered h z t ≡ true
+pub raised-past-straight : (h : Header) (z : Hazard) (t : Traffic) → HeaderFits h → HazardFits h z → h .offset + h .deflection ≤ z .near → reaches h z t ≡ true
+    → flareEntered h z t ≡ true
     → h .straight < lengthening h z t
 unfolding flareEntered lengthBefore
-raised-past-straight h z t hf zf clear reach e = omega (arith, ltb-true (h .straight) _ (and-right (ltb 0 (h .across)) _ e), reaching-raised h z hf zf clear t reach .holds .not-smaller)
+raised-past-straight h z t hf zf clear reach e =
+    omega (arith, ltb-true (h .straight) _ (and-right (ltb 0 (h .across)) _ e), reaching-raised h z hf zf clear t reach .holds .not-smaller)
 
-pub lengths-past-straight : {h : Header} {z : Hazard} {t : Traffic} {l : Lengths} → LengthsOf h z t l → (ltb 0 (h .across) && ltb (h .straight) (l .before)) ≡ true → h .straight < l .raised
+pub lengths-past-straight : {h : Header} {z : Hazard} {t : Traffic} {l : Lengths} → LengthsOf h z t l
+    → (ltb 0 (h .across) && ltb (h .straight) (l .before)) ≡ true → h .straight < l .raised
 lengths-past-straight {h} {l = l} is e = omega (arith, ltb-true (h .straight) (l .before) (and-right (ltb 0 (h .across)) _ e), is .not-smaller)
 
 -- The numbers of an approach fit.
@@ -71,7 +75,8 @@ abbrev endPoint : (x y : ℕ) → Header → Hazard → Traffic → (n : ℕ) (e
 endPoint x y h z t n entered = pointAt x y (upstreamBy t z n) (if entered then h .offset + (h .across * (n - h .straight)) / h .along else h .offset)
 
 -- The reply, by whether the flare is entered.
-module _ (x y : ℕ) (h : Header) (z : Hazard) (t : Traffic) (l : Lengths) (is : LengthsOf h z t l) (entered : Bool) (test : (ltb 0 (h .across) && ltb (h .straight) (l .before)) ≡ entered) (r : Corners) where
+module _ (x y : ℕ) (h : Header) (z : Hazard) (t : Traffic) (l : Lengths) (is : LengthsOf h z t l) (entered : Bool)
+    (test : (ltb 0 (h .across) && ltb (h .straight) (l .before)) ≡ entered) (r : Corners) where
   pub approach-reply : r .outcome ≡ Done
       → r .upstream ≡ cornerOf (endPoint x y h z t (l .raised) entered)
       → r .flare ≡ cornerOf (if entered then pointAt x y (upstreamBy t z (h .straight)) (h .offset) else endPoint x y h z t (l .raised) entered)

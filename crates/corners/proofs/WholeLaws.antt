@@ -47,7 +47,16 @@ round-scale f s a c some = round-same f s (a * c) c a 1 some (omega arith) (mul-
 sum-scale : (f : Format) (s : Bool) (a : ℕ) (t : Bool) (b c : ℕ) → 0 < c → sum f s (a * c) t (b * c) c ≡ sum f s a t b 1
 unfolding sum
 sum-scale f s a t b c some =
-    rw (ltb-scale a b c some, ltb-scale b a c some, ← add-mul a b c, sub-scale a b c, sub-scale b a c, round-scale f s (a + b) c some, round-scale f t (b - a) c some, round-scale f (s && ltb b a) (a - b) c some)
+    rw (
+      ltb-scale a b c some,
+      ltb-scale b a c some,
+      ← add-mul a b c,
+      sub-scale a b c,
+      sub-scale b a c,
+      round-scale f s (a + b) c some,
+      round-scale f t (b - a) c some,
+      round-scale f (s && ltb b a) (a - b) c some,
+    )
 
 -- m / e is a and n / d is b: their numerators over e * d.
 over-left : (m d e a : ℕ) → m * 1 ≡ a * e → m * d ≡ a * (e * d)
@@ -76,7 +85,8 @@ sum-integer f (pos a) false n = refl
 sum-integer f (pos a) true zero = rw (le-ltb a 0 (omega arith)) (ap (λ (k : ℕ). round f false k 1) (omega arith))
 sum-integer f (pos a) true (suc n) = go (ltb a (suc n)) (ltb→lt a (suc n))
   where
-    go : (t : Bool) → (T t → a < suc n) → cond t (round f true (suc n - a) 1) (round f false (a - suc n) 1) ≡ ofInt f (cond t (negsuc (suc n - suc a)) (pos (a - suc n)))
+    go : (t : Bool) → (T t → a < suc n) → cond t (round f true (suc n - a) 1) (round f false (a - suc n) 1)
+        ≡ ofInt f (cond t (negsuc (suc n - suc a)) (pos (a - suc n)))
     go true l = let less = l tt in ap (λ (k : ℕ). round f true k 1) (let e : suc n - a ≡ suc (suc n - suc a) = omega arith in e)
     go false l = refl
 sum-integer f (negsuc a) false n = go (ltb (suc a) n) (ltb n (suc a)) (ltb→lt (suc a) n) (nltb→le (suc a) n) (ltb→lt n (suc a)) (nltb→le n (suc a))
@@ -87,7 +97,8 @@ sum-integer f (negsuc a) false n = go (ltb (suc a) n) (ltb n (suc a)) (ltb→lt 
     go true false l k m o = refl
     go false true l k m o = let more = m tt in ap (λ (i : ℕ). round f true i 1) (let e : suc a - n ≡ suc (suc a - suc n) = omega arith in e)
     go false false l k m o = let least = k tt in let most = o tt in ap (λ (i : ℕ). round f false i 1) (let e : suc a - n ≡ n - suc a = omega arith in e)
-sum-integer f (negsuc a) true zero = rw (lt-ltb 0 (suc a) (omega arith)) (ap (λ (k : ℕ). round f true k 1) (let e : suc a + 0 ≡ suc (suc a - 1) = omega arith in e))
+sum-integer f (negsuc a) true zero =
+    rw (lt-ltb 0 (suc a) (omega arith)) (ap (λ (k : ℕ). round f true k 1) (let e : suc a + 0 ≡ suc (suc a - 1) = omega arith in e))
 sum-integer f (negsuc a) true (suc n) = ap (λ (k : ℕ). round f true k 1) (let e : suc a + suc n ≡ suc (suc (a + n)) = omega arith in e)
 
 signed-whole : (z : ℤ) → (signed (belowZero z) (natAbs z) ≡ z) × (signed (not (belowZero z)) (natAbs z) ≡ negℤ z)
@@ -109,7 +120,8 @@ module _ (f : Format) (a b : ℤ) (l : natAbs a ≤ 2 ^ prec f) (m : natAbs b �
   whole-b = cast-exact f b m
 
   pub add-cast : add f (ofInt f a) (ofInt f b) ≡ ofInt f (a +ℤ b)
-  add-cast = add-at f (ofInt f a) (ofInt f b) _ _ _ _ (whole-a .value) (whole-b .value) ∙ sum-integer f a (belowZero b) (natAbs b) ∙ ap (λ (z : ℤ). ofInt f (a +ℤ z)) (signed-whole b .0)
+  add-cast = add-at f (ofInt f a) (ofInt f b) _ _ _ _ (whole-a .value) (whole-b .value) ∙ sum-integer f a (belowZero b) (natAbs b)
+      ∙ ap (λ (z : ℤ). ofInt f (a +ℤ z)) (signed-whole b .0)
 
   pub sub-cast : sub f (ofInt f a) (ofInt f b) ≡ ofInt f (a -ℤ b)
   unfolding sub

@@ -32,13 +32,15 @@ alike-overhang : (h k : Header) → Alike h k → (z : Hazard) → overhang h z 
 unfolding overhang lengthening reaches reachOf offsetOf farther
 alike-overhang h k a z = ap (λ (x : Header). overhang x z) a
 
-plan-accepted : (s : List ℕ) (j : Job) → Accepted s j → (side room : ℕ) → plan s side room ≡ (unless-refuse (leb side 1) Row.Argument >>= λ _. fitted (writeSchedule (jobRuns j side)) (sideOverhangs j side) room)
+plan-accepted : (s : List ℕ) (j : Job) → Accepted s j → (side room : ℕ)
+    → plan s side room ≡ (unless-refuse (leb side 1) Row.Argument >>= λ _. fitted (writeSchedule (jobRuns j side)) (sideOverhangs j side) room)
 unfolding plan
 plan-accepted s j a side room = rw a
 
 -- The second job has the first's hazards that give the side an envelope.
 module _ (j₁ j₂ : Job) (alike : Alike (j₁ .header) (j₂ .header)) (side : ℕ) (more : (z : Hazard) → SideHazard j₁ side z → List·Memᴰ z (j₂ .hazards)) where
-  more-overhangs : (end : Overhangs → ℕ) (z : Hazard) → SideHazard j₁ side z → SideHazard j₂ side z × (end (overhang (j₁ .header) z) ≡ end (overhang (j₂ .header) z))
+  more-overhangs : (end : Overhangs → ℕ) (z : Hazard) → SideHazard j₁ side z
+      → SideHazard j₂ side z × (end (overhang (j₁ .header) z) ≡ end (overhang (j₂ .header) z))
   more-overhangs end z s = (
     record { member = more z s; on-side = s .on-side; reach = sym (alike-reached (j₁ .header) (j₂ .header) alike z) ∙ s .reach },
     ap end (alike-overhang (j₁ .header) (j₂ .header) alike z),
@@ -51,13 +53,18 @@ module _ (j₁ j₂ : Job) (alike₁ : Alike (j₁ .header) (j₂ .header)) (ali
   unfolding jobLevel
   same-levels t =
       ap (λ (G : ℕ). requiredLevel (sideEnvelopes j₁ side) G t) (ap (λ (x : Header). x .continuity) alike₁)
-      ∙ level-same (sideEnvelopes j₁ side) (sideEnvelopes j₂ side) (j₂ .header .continuity) t (more-envelopes j₁ j₂ alike₁ side more₁) (more-envelopes j₂ j₁ alike₂ side more₂)
+      ∙ level-same (sideEnvelopes j₁ side) (sideEnvelopes j₂ side) (j₂ .header .continuity) t (more-envelopes j₁ j₂ alike₁ side more₁)
+      (more-envelopes j₂ j₁ alike₂ side more₂)
 
   same-overhangs : sideOverhangs j₁ side ≡ sideOverhangs j₂ side
-  same-overhangs = λ i. record { before = same (λ o. o .before) (greatest-before j₁ side) (greatest-before j₂ side) i; after = same (λ o. o .after) (greatest-after j₁ side) (greatest-after j₂ side) i }
+  same-overhangs = λ i. record {
+    before = same (λ o. o .before) (greatest-before j₁ side) (greatest-before j₂ side) i;
+    after = same (λ o. o .after) (greatest-after j₁ side) (greatest-after j₂ side) i;
+  }
     where
       same : (end : Overhangs → ℕ) {n m : ℕ} → Greatest j₁ side end n → Greatest j₂ side end m → n ≡ m
-      same end g f = le-antisymm (greatest-only j₁ j₂ side end (more-overhangs j₁ j₂ alike₁ side more₁ end) g f) (greatest-only j₂ j₁ side end (more-overhangs j₂ j₁ alike₂ side more₂ end) f g)
+      same end g f = le-antisymm (greatest-only j₁ j₂ side end (more-overhangs j₁ j₂ alike₁ side more₁ end) g f)
+          (greatest-only j₂ j₁ side end (more-overhangs j₂ j₁ alike₂ side more₂ end) f g)
 
   module _ (s₁ s₂ : List ℕ) (a₁ : Accepted s₁ j₁) (a₂ : Accepted s₂ j₂) where
     same-runs : jobRuns j₁ side ≡ jobRuns j₂ side
@@ -69,5 +76,6 @@ module _ (j₁ j₂ : Job) (alike₁ : Alike (j₁ .header) (j₂ .header)) (ali
     pub same-plan : (room : ℕ) → plan s₁ side room ≡ plan s₂ side room
     same-plan room =
         plan-accepted s₁ j₁ a₁ side room
-        ∙ ap₂ (λ (rs : List Stretch) (o : Overhangs). unless-refuse (leb side 1) Row.Argument >>= λ _. fitted (writeSchedule rs) o room) same-runs same-overhangs
+        ∙ ap₂ (λ (rs : List Stretch) (o : Overhangs). unless-refuse (leb side 1) Row.Argument >>= λ _. fitted (writeSchedule rs) o room) same-runs
+        same-overhangs
         ∙ sym (plan-accepted s₂ j₂ a₂ side room)

@@ -37,14 +37,17 @@ module _ (s : List ℕ) (v : ℕ) (l : List ℕ) (b : Bytes s) where
   by-ten : (quantities s v l ≡ refused 10 0) ↔ (AllRanged v l × (length (rangesOf l) ≤ mostRanges) × (IsSchedule s → ⊥))
   unfolding quantities
   by-ten =
-      let e = query-ten s (λ rs. counted rs v (rangesOf l)) b (leb 1 v && leb v 6 && areRanges l) (leb (length (rangesOf l)) mostRanges) in
-      (λ x. (all-ranged v l .0 (e .0 x .0), leb-true (length (rangesOf l)) mostRanges (e .0 x .1), e .0 x .2), λ h. quantities-none s v l (h .0) (h .1) (schedule-ten s b .1 (h .2)))
+      let e = query-ten s (λ rs. counted rs v (rangesOf l)) b (leb 1 v && leb v 6 && areRanges l) (leb (length (rangesOf l)) mostRanges) in (
+        λ x. (all-ranged v l .0 (e .0 x .0), leb-true (length (rangesOf l)) mostRanges (e .0 x .1), e .0 x .2),
+        λ h. quantities-none s v l (h .0) (h .1) (schedule-ten s b .1 (h .2)),
+      )
 
   by-given : quantitiesReplied (quantities s v l) .answer ≡ accepted tt → Given s v l (quantitiesReplied (quantities s v l))
   unfolding quantitiesReplied quantities
   by-given = go (quantities s v l) refl
     where
-      finish : AllRanged v l → length (rangesOf l) ≤ mostRanges → (w : IsSchedule s) → readSchedule s ≡ accepted (w .runs) → Given s v l (quantitiesReplied (accepted (counted (w .runs) v (rangesOf l))))
+      finish : AllRanged v l → length (rangesOf l) ≤ mostRanges → (w : IsSchedule s) → readSchedule s ≡ accepted (w .runs)
+          → Given s v l (quantitiesReplied (accepted (counted (w .runs) v (rangesOf l))))
       finish a few w read =
           let got = map (priced (w .runs) v) (rangesOf l) in
           let as-many = length-map (rangesOf l) (priced (w .runs) v) in
@@ -54,7 +57,12 @@ module _ (s : List ℕ) (v : ℕ) (l : List ℕ) (b : Bytes s) where
             schedule = w;
             records = λ u. let same : accepted (w .runs) ≡ accepted (u .runs) = sym read ∙ schedule-runs s u in let q : w .runs ≡ u .runs = cc in ap length q;
             each = λ i h. quantity-counts s v (rangeAt l i .p) (rangeAt l i .q) (getD (quantityPlaces got) i 0) .1
-                (record { ranged = (a .0, a .1, a .2 .ordered i h); runs = w .runs; read = read; count = sym (places-in got i (omega (arith, as-many)) ∙ priced-at (priced (w .runs) v) l i h) });
+                (record {
+                  ranged = (a .0, a .1, a .2 .ordered i h);
+                  runs = w .runs;
+                  read = read;
+                  count = sym (places-in got i (omega (arith, as-many)) ∙ priced-at (priced (w .runs) v) l i h);
+                });
             behind = λ i h. places-behind got i (omega (arith, as-many));
             places = places-count got (omega (arith, as-many));
           }
@@ -63,7 +71,8 @@ module _ (s : List ℕ) (v : ℕ) (l : List ℕ) (b : Bytes s) where
       go (accepted c) e h =
           let few = leb (length (rangesOf l)) mostRanges in
           let g = query-given s (λ rs. counted rs v (rangesOf l)) b (leb 1 v && leb v 6 && areRanges l) few c e in
-          subst (λ (x : Counted). Given s v l (quantitiesReplied (accepted x))) (g .4) (finish (all-ranged v l .0 (g .0)) (leb-true (length (rangesOf l)) mostRanges (g .1)) (g .2) (g .3))
+          subst (λ (x : Counted). Given s v l (quantitiesReplied (accepted x))) (g .4)
+          (finish (all-ranged v l .0 (g .0)) (leb-true (length (rangesOf l)) mostRanges (g .1)) (g .2) (g .3))
       go (refused k n) e h = impossible cc
 
   by-done : (quantitiesReplied (quantities s v l) .answer ≡ accepted tt) ↔ (AllRanged v l × (length (rangesOf l) ≤ mostRanges) × IsSchedule s)

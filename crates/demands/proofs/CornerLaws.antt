@@ -28,7 +28,8 @@ use Rattle.job.proofs.RangeLaws.{HeaderBounds, header-bounds, hazard-bounds}
 use Rattle.planning.proofs.EnvelopeLaws.{accepted-fits}
 use Rattle.planning.proofs.ApproachedLaws.{reach-test, approached-fits}
 use Rattle.planning.proofs.ReachLaws.{lengthening-top}
-use Rattle.planning.specs.Envelope.{Traffic, forward, opposite, adjacentTraffic, farther, reachOf, offsetOf, reaches, reached, lengthening, envelope, standsNear, testHazard, testHazards, acceptJob}
+use Rattle.planning.specs.Envelope.{Traffic, forward, opposite, adjacentTraffic, farther, reachOf, offsetOf, reaches, reached, lengthening, envelope}
+use Rattle.planning.specs.Envelope.{standsNear, testHazard, testHazards, acceptJob}
 use Rattle.corners.specs.Corners.{upstreamBy, pointAt, lengthBefore, flareEntered, upstreamOffset, Points, approachPoints, sheetTop, cornersOf}
 use Rattle.planning.specs.Approached.{hazardAt, approachedHazard, ApproachedFits}
 use Rattle.corners.specs.Reply.{cornerOf, noPoints, cornersReplied}
@@ -36,7 +37,8 @@ use Rattle.corners.specs.Steps.{StationFits}
 use Rattle.corners.proofs.PointLaws.{raised-past-straight, upstream-size, away-top}
 use Rattle.corners.proofs.CallLaws.{off-sheet, on-sheet}
 use Rattle.demands.specs.Cases.{header, hazard}
-use Rattle.demands.specs.Corners.{Corners-eight, NoApproach, Corners-fourteen, Corners-refusals, Apart, EnvelopeEnd, hazardEnd, RoundedDown, CornersLie, Corners-lie, LosesNothing, CornersExact, Corners-exact}
+use Rattle.demands.specs.Corners.{Corners-eight, NoApproach, Corners-fourteen, Corners-refusals, Apart, EnvelopeEnd, hazardEnd, RoundedDown, CornersLie}
+use Rattle.demands.specs.Corners.{Corners-lie, LosesNothing, CornersExact, Corners-exact}
 use Rattle.demands.specs.CornerCases.{cornerCases, drawnCorners, expectedCorners}
 use Rattle.demands.specs.Offset.{Approached}
 use Rattle.demands.proofs.HazardLaws.{told, told-given, told-fourteen, told-refusals, told-not-eight}
@@ -94,7 +96,8 @@ swap a b c = +ℤ-assoc a b c ∙ ap (λ (z : ℤ). a +ℤ z) (+ℤ-comm b c) �
 
 -- Two stations of an approach, from the sheet corner: one so far upstream, and the hazard's end.
 apart : (t : Traffic) (z : Hazard) (d x : ℕ) → Apart t d (upstreamBy t z d -ℤ pos x) (upstreamBy t z 0 -ℤ pos x)
-apart forward z d x = swap (pos (z .start) -ℤ pos d) (negℤ (pos x)) (pos d) ∙ ap (λ (a : ℤ). a -ℤ pos x) (-ℤ-+ℤ-cancel (pos (z .start)) (pos d) ∙ sym (+ℤ-idr (pos (z .start))))
+apart forward z d x =
+    swap (pos (z .start) -ℤ pos d) (negℤ (pos x)) (pos d) ∙ ap (λ (a : ℤ). a -ℤ pos x) (-ℤ-+ℤ-cancel (pos (z .start)) (pos d) ∙ sym (+ℤ-idr (pos (z .start))))
 apart opposite z d x = swap (pos (z .end)) (pos d) (negℤ (pos x)) ∙ ap (λ (a : ℤ). a -ℤ pos x +ℤ pos d) (sym (+ℤ-idr (pos (z .end))))
 
 -- A difference of natural numbers that is not below 0.
@@ -116,7 +119,8 @@ at-end opposite z = +ℤ-idr (pos (z .end))
 rounded-down : (n a : ℕ) → 0 < a → RoundedDown n a (n / a)
 rounded-down n a some = record { not-above = div-mul-le-self n a; next-above = let l = lt-div-mul-add {a = n} {b = a} some in omega (arith, l) }
 
-points-lie : (x y : ℕ) (h : Header) (z : Hazard) (t : Traffic) → 0 < h .along → (flareEntered h z t ≡ true → h .straight < lengthening h z t) → CornersLie x y h z t (approachPoints x y h z t)
+points-lie : (x y : ℕ) (h : Header) (z : Hazard) (t : Traffic) → 0 < h .along → (flareEntered h z t ≡ true → h .straight < lengthening h z t)
+    → CornersLie x y h z t (approachPoints x y h z t)
 unfolding approachPoints upstreamOffset
 points-lie x y h z t some past = record {
   hazard = ap (λ (s : ℤ). pointAt x y s (h .offset)) (at-end t z);
@@ -139,7 +143,8 @@ approached-lie : (s : List ℕ) (j : Job) (i x y : ℕ) → Approached s j i
     → CornersLie x y (j .header) (hazardAt j i) (adjacentTraffic (j .header) (hazardAt j i .side)) (drawn x y j (hazardAt j i))
 approached-lie s j i x y a =
     let own = own-fits s j i a in
-    points-lie x y (j .header) (hazardAt j i) (adjacentTraffic (j .header) (hazardAt j i .side)) (omega (arith, header-bounds (j .header) (own .header) .along-low))
+    points-lie x y (j .header) (hazardAt j i) (adjacentTraffic (j .header) (hazardAt j i .side))
+    (omega (arith, header-bounds (j .header) (own .header) .along-low))
     (raised-past-straight (j .header) (hazardAt j i) (adjacentTraffic (j .header) (hazardAt j i .side)) (own .header) (own .hazard) (own .clear) (a .reach))
 
 pub corners-lie : Corners-lie
@@ -149,7 +154,8 @@ corners-lie s j i x y p accept e = go (sheet s i x y)
     Lie = CornersLie x y (j .header) (hazardAt j i) (adjacentTraffic (j .header) (hazardAt j i .side)) p
 
     own : (k : Job) → Approached s k i → drawn x y k (hazardAt k i) ≡ p → k ≡ j → Lie
-    own k a q same = subst (CornersLie x y (j .header) (hazardAt j i) (adjacentTraffic (j .header) (hazardAt j i .side))) (rw same at q) (approached-lie s j i x y (rw same at a))
+    own k a q same = subst (CornersLie x y (j .header) (hazardAt j i) (adjacentTraffic (j .header) (hazardAt j i .side))) (rw same at q)
+        (approached-lie s j i x y (rw same at a))
 
     go : Sheet s i x y → Lie
     go (outside q w) = impossible cc
@@ -165,11 +171,13 @@ corners-lie s j i x y p accept e = go (sheet s i x y)
 point-exact : (x y : ℕ) (t : Traffic) (z : Hazard) (d o : ℕ) → x ≤ sheetTop → y ≤ sheetTop → StationFits z d → o ≤ 2120000
     → LosesNothing (cornerOf (pointAt x y (upstreamBy t z d) o)) (pointAt x y (upstreamBy t z d) o)
 point-exact x y t z d o k l fits top = record {
-  station = cast-exact binary64 (upstreamBy t z d -ℤ pos x) (omega (arith, difference-size (upstreamBy t z d) (pos x), upstream-size t z d, fits .start, fits .end, fits .near));
+  station = cast-exact binary64 (upstreamBy t z d -ℤ pos x)
+      (omega (arith, difference-size (upstreamBy t z d) (pos x), upstream-size t z d, fits .start, fits .end, fits .near));
   offset = cast-exact binary64 (pos o -ℤ pos y) (omega (arith, difference-size (pos o) (pos y)));
 }
 
-points-exact : (x y : ℕ) (h : Header) (z : Hazard) (t : Traffic) → x ≤ sheetTop → y ≤ sheetTop → ApproachedFits h z → CornersExact (cornersReplied (accepted (approachPoints x y h z t))) (approachPoints x y h z t)
+points-exact : (x y : ℕ) (h : Header) (z : Hazard) (t : Traffic) → x ≤ sheetTop → y ≤ sheetTop → ApproachedFits h z
+    → CornersExact (cornersReplied (accepted (approachPoints x y h z t))) (approachPoints x y h z t)
 unfolding cornersReplied approachPoints upstreamOffset
 points-exact x y h z t k l own = go (flareEntered h z t)
   where
@@ -182,7 +190,11 @@ points-exact x y h z t k l own = go (flareEntered h z t)
     at : (d o : ℕ) → d ≤ 210000 → o ≤ 2120000 → LosesNothing (cornerOf (pointAt x y (upstreamBy t z d) o)) (pointAt x y (upstreamBy t z d) o)
     at d o near top =
         let hazard = hazard-bounds h z (own .hazard) in
-        point-exact x y t z d o k l (record { start = omega (arith, hazard .long, hazard .ends, header .road-end); end = omega (arith, hazard .ends, header .road-end); near = near }) top
+        point-exact x y t z d o k l (record {
+          start = omega (arith, hazard .long, hazard .ends, header .road-end);
+          end = omega (arith, hazard .ends, header .road-end);
+          near = near;
+        }) top
 
     away : ℕ
     away = h .across * (lengthening h z t - h .straight) / h .along
@@ -195,7 +207,8 @@ points-exact x y h z t k l own = go (flareEntered h z t)
 
     go : (entered : Bool) → CornersExact (cornersReplied (accepted (points entered))) (points entered)
     go true = record {
-      upstream = at (lengthening h z t) (h .offset + away) (omega (arith, raised)) (omega (arith, header .offset-top, away-top h (own .header) (record { before = 0; raised = lengthening h z t }) raised));
+      upstream = at (lengthening h z t) (h .offset + away) (omega (arith, raised))
+          (omega (arith, header .offset-top, away-top h (own .header) (record { before = 0; raised = lengthening h z t }) raised));
       flare = at (h .straight) (h .offset) (omega (arith, header .straight-top)) (omega (arith, header .offset-top));
       hazard = at 0 (h .offset) (omega arith) (omega (arith, header .offset-top));
     }
@@ -215,9 +228,13 @@ corners-exact s i x y = go (cornersOf s i x y) refl (sheet s i x y)
     go (accepted p) e (outside q w) = impossible cc
     go (accepted p) e (within k l) =
         let (j, a, q) = told-given (drawn x y) s i p (sym (told-on-sheet s i x y k l) ∙ e) in
-        subst (λ (r : Points). CornersExact (cornersReplied (accepted r)) r) q (points-exact x y (j .header) (hazardAt j i) (adjacentTraffic (j .header) (hazardAt j i .side)) k l (own-fits s j i a))
+        subst (λ (r : Points). CornersExact (cornersReplied (accepted r)) r) q
+        (points-exact x y (j .header) (hazardAt j i) (adjacentTraffic (j .header) (hazardAt j i .side)) k l (own-fits s j i a))
 
 -- Worked jobs, one theorem over the list.
 pub corner-cases-hold : map drawnCorners cornerCases ≡ map expectedCorners cornerCases
-unfolding header hazard cornerCases drawnCorners expectedCorners cornersOf approachedHazard approachPoints upstreamOffset flareEntered lengthBefore writeNumbers someOf filter writeIn writeNumber scan readNumber numberAt ceilDiv formulaLength approachLength nextMultiple raisedLength sharedRanges headerRanges hazardRanges readFields readHeader readHazards readRest readJob adjacentTraffic farther reachOf offsetOf reaches reached lengthening standsNear testHazard testHazards acceptJob
+unfolding header hazard cornerCases drawnCorners expectedCorners cornersOf approachedHazard approachPoints upstreamOffset flareEntered lengthBefore writeNumbers
+    someOf filter writeIn writeNumber scan readNumber numberAt ceilDiv formulaLength approachLength nextMultiple raisedLength sharedRanges headerRanges
+    hazardRanges readFields readHeader readHazards readRest readJob adjacentTraffic farther reachOf offsetOf reaches reached lengthening standsNear testHazard
+    testHazards acceptJob
 corner-cases-hold = refl

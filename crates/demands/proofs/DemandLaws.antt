@@ -16,7 +16,8 @@ use Rattle.job.specs.declared.Header.{Header}
 use Rattle.job.specs.declared.Hazard.{Hazard}
 use Rattle.job.specs.Job.{Job, counted}
 use Rattle.runs.specs.declared.Stretch.{Stretch}
-use Rattle.planning.specs.Envelope.{farther, reachOf, offsetOf, reaches, lengthening, acceptJob, reached, envelope, cutToRoad, cutEnvelope, sideEnvelopes, sideOverhangs}
+use Rattle.planning.specs.Envelope.{farther, reachOf, offsetOf, reaches, lengthening, acceptJob, reached, envelope, cutToRoad, cutEnvelope, sideEnvelopes}
+use Rattle.planning.specs.Envelope.{sideOverhangs}
 use Rattle.runs.specs.Level.{Covers, NoShortGap, Has, requiredLevel}
 use Rattle.runs.specs.RunList.{shownLevel}
 use Rattle.runs.specs.Count.{countFrom}
@@ -42,7 +43,9 @@ use Rattle.planning.proofs.JobRunLaws.{job-runs, job-run-list}
 use Rattle.planning.specs.Rows.{AcceptedFits}
 use Rattle.planning.proofs.EnvelopeLaws.{accepted-fits, cut-has, FromCut, from-cut, to-cut, side-lies, side-proper, side-levelled}
 use Rattle.planning.proofs.RoadLaws.{level-off-road}
-use Rattle.demands.specs.Demands.{CoversHazards, NoShortGapOnRoad, LeastCovering, Demand2, Demand1, ShowsLevel, Demand2-lookup, Demand3-writing, Demand3-planned, Demand3-equal, Demand3-off-road, Alike, Demand3-growth, RisingStations, lastOf, lotsTotal, Demand3-quantities, PlannedJob, Plan-accepted}
+use Rattle.demands.specs.Demands.{CoversHazards, NoShortGapOnRoad, LeastCovering, Demand2, Demand1, ShowsLevel, Demand2-lookup, Demand3-writing}
+use Rattle.demands.specs.Demands.{Demand3-planned, Demand3-equal, Demand3-off-road, Alike, Demand3-growth, RisingStations, lastOf, lotsTotal}
+use Rattle.demands.specs.Demands.{Demand3-quantities, PlannedJob, Plan-accepted}
 use Rattle.base.proofs.TestLaws.{impossible}
 
 pub demand3-planned : Demand3-planned
@@ -159,7 +162,9 @@ counted-alike h a b = refl
 
 pub demand3-growth : Demand3-growth
 unfolding jobLevel
-demand3-growth s₁ s₂ j₁ j₂ side w₁ w₂ a₁ a₂ h p₁ p₂ alike more t = rw (shown₁, shown₂) (subst (λ (G : ℕ). requiredLevel (sideEnvelopes j₁ side) G t ≤ requiredLevel (sideEnvelopes j₂ side) (j₂ .header .continuity) t) (sym (ap (λ (x : Header). x .continuity) alike)) grows)
+demand3-growth s₁ s₂ j₁ j₂ side w₁ w₂ a₁ a₂ h p₁ p₂ alike more t = rw (shown₁, shown₂)
+    (subst (λ (G : ℕ). requiredLevel (sideEnvelopes j₁ side) G t ≤ requiredLevel (sideEnvelopes j₂ side) (j₂ .header .continuity) t)
+    (sym (ap (λ (x : Header). x .continuity) alike)) grows)
   where
     shown₁ : scheduleLevel w₁ t ≡ jobLevel j₁ side t
     shown₁ = demand2 s₁ j₁ side w₁ a₁ h p₁ .level t
@@ -168,12 +173,14 @@ demand3-growth s₁ s₂ j₁ j₂ side w₁ w₂ a₁ a₂ h p₁ p₂ alike mo
     shown₂ = demand2 s₂ j₂ side w₂ a₂ h p₂ .level t
 
     grows : requiredLevel (sideEnvelopes j₁ side) (j₂ .header .continuity) t ≤ requiredLevel (sideEnvelopes j₂ side) (j₂ .header .continuity) t
-    grows = required-more (sideEnvelopes j₁ side) (sideEnvelopes j₂ side) (j₂ .header .continuity) t (more-envelopes j₁ j₂ alike side (λ z s. more z (s .member)))
+    grows =
+        required-more (sideEnvelopes j₁ side) (sideEnvelopes j₂ side) (j₂ .header .continuity) t (more-envelopes j₁ j₂ alike side (λ z s. more z (s .member)))
 
 pub millimetres-add : (f : ℕ → ℕ) (v p q r : ℕ) → p ≤ q → q ≤ r → millimetres f v p q + millimetres f v q r ≡ millimetres f v p r
 unfolding millimetres
 millimetres-add f v p q r a b =
-    sym (ap (λ (n : ℕ). countFrom g p n) (let e : r - p ≡ (q - p) + (r - q) = omega arith in e) ∙ count-add g p (q - p) (r - q) ∙ ap (λ (x : ℕ). countFrom g p (q - p) + countFrom g x (r - q)) (let e : p + (q - p) ≡ q = omega arith in e))
+    sym (ap (λ (n : ℕ). countFrom g p n) (let e : r - p ≡ (q - p) + (r - q) = omega arith in e) ∙ count-add g p (q - p) (r - q)
+    ∙ ap (λ (x : ℕ). countFrom g p (q - p) + countFrom g x (r - q)) (let e : p + (q - p) ≡ q = omega arith in e))
   where
     g : ℕ → Bool
     g t = eqb (f t) v
@@ -186,7 +193,8 @@ last-le : (p : ℕ) (qs : List ℕ) → RisingStations p qs → p ≤ lastOf p q
 last-le p [] r = omega arith
 last-le p (q ∷ qs) r = omega (arith, r .0, last-le q qs (r .1))
 
-quantity-of : (w : List ℕ) (rs : List Stretch) (f : ℕ → ℕ) (v p q : ℕ) → readSchedule w ≡ accepted rs → shownLevel rs ≡ f → 1 ≤ v → v ≤ 6 → p ≤ q → quantity w v p q ≡ accepted (millimetres f v p q)
+quantity-of : (w : List ℕ) (rs : List Stretch) (f : ℕ → ℕ) (v p q : ℕ) → readSchedule w ≡ accepted rs → shownLevel rs ≡ f → 1 ≤ v → v ≤ 6 → p ≤ q
+    → quantity w v p q ≡ accepted (millimetres f v p q)
 unfolding quantity
 quantity-of w rs f v p q e g a b c = rw (le-leb 1 v a, le-leb v 6 b, le-leb p q c, e, g)
 
@@ -208,7 +216,8 @@ pub demand1 : Demand1
 unfolding scheduleAlone
 demand1 s side out = record { planned = written (plan s side (length out)); refused = λ k v e. rw e; same-length = output-length s side out }
   where
-    written : (a : Answer PlannedSide) (w : List ℕ) → (a >>= λ p. accepted (p .schedule)) ≡ accepted w → (take (length w) (outputAfter a out) ≡ w) × (drop (length w) (outputAfter a out) ≡ drop (length w) out)
+    written : (a : Answer PlannedSide) (w : List ℕ) → (a >>= λ p. accepted (p .schedule)) ≡ accepted w
+        → (take (length w) (outputAfter a out) ≡ w) × (drop (length w) (outputAfter a out) ≡ drop (length w) out)
     written (accepted p) w e = let same : p .schedule ≡ w = cc in rw same (take-append-seam w (drop (length w) out), drop-append-seam w (drop (length w) out))
     written (refused k v) w e = impossible cc
 
@@ -235,10 +244,12 @@ unfolding plan fitted
 plan-accepted s side room p e =
     let b1 = bound (unless-refuse (leb side 1) Row.Argument) _ p e in
     let b2 = bound (acceptJob s) _ p (b1 .rest) in
-    let b3 = bound (unless-refuse (leb (length (writeSchedule (jobRuns (b2 .first) side))) room) (Row.Room (length (writeSchedule (jobRuns (b2 .first) side))))) _ p (b2 .rest) in
+    let b3 = bound (unless-refuse (leb (length (writeSchedule (jobRuns (b2 .first) side))) room) (Row.Room (length (writeSchedule (jobRuns (b2 .first) side)))))
+    _ p (b2 .rest) in
     finish (b2 .first) (b2 .taken) (leb-true side 1 (tested (leb side 1) Row.Argument (b1 .first) (b1 .taken))) (b3 .rest)
   where
-    finish : (j : Job) → Accepted s j → side ≤ 1 → accepted (record { schedule = writeSchedule (jobRuns j side); overhangs = sideOverhangs j side }) ≡ accepted p → PlannedJob s side (p .schedule)
+    finish : (j : Job) → Accepted s j → side ≤ 1
+        → accepted (record { schedule = writeSchedule (jobRuns j side); overhangs = sideOverhangs j side }) ≡ accepted p → PlannedJob s side (p .schedule)
     finish j a h q =
         let whole : record { schedule = writeSchedule (jobRuns j side); overhangs = sideOverhangs j side } ≡ p = cc in
         let z : writeSchedule (jobRuns j side) ≡ p .schedule = ap (λ (x : PlannedSide). x .schedule) whole in

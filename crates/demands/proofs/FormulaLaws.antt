@@ -11,4 +11,5 @@ pub demand2-formula : Demand2-formula
 demand2-formula s j side w a h p z m on traffic r d t u l road =
     let fits = accepted-fits s j a in
     let some = divisor-some _ _ _ _ _ _ (domain-of j fits z m traffic r) in
-    planned-length s j side w a h p z m on traffic r d t u (raised-length-below _ _ _ _ _ _ _ (header-bounds (j .header) (fits .fits .header) .panel-low) some d .1 l) road
+    planned-length s j side w a h p z m on traffic r d t u
+    (raised-length-below _ _ _ _ _ _ _ (header-bounds (j .header) (fits .fits .header) .panel-low) some d .1 l) road

@@ -27,7 +27,8 @@ use Rattle.demands.specs.Queries.{Finds, Lookup-written}
 part-of-split : (s : List ℕ) (i : ℕ) (w rest : List ℕ) → drop i s ≡ w ++ rest → take (length w) (drop i s) ≡ w
 part-of-split s i w rest e = rw e (take-append-seam w rest)
 
-find-found : (s : List ℕ) (e v i : ℕ) (rs : List Stretch) (rest : List ℕ) (t : ℕ) (p : Part) → Rising e v rs → drop i s ≡ writeRecords e rs ++ rest → findRecord e i rs t ≡ found p → FoundRun s e i rs t p
+find-found : (s : List ℕ) (e v i : ℕ) (rs : List Stretch) (rest : List ℕ) (t : ℕ) (p : Part) → Rising e v rs → drop i s ≡ writeRecords e rs ++ rest
+    → findRecord e i rs t ≡ found p → FoundRun s e i rs t p
 unfolding findRecord writeRecords
 find-found s e v i [] rest t p up q f = impossible cc
 find-found s e v i (r ∷ rs) rest t p up q f =
@@ -56,7 +57,9 @@ find-found s e v i (r ∷ rs) rest t p up q f =
           level = l ∙ w .level;
         }
 
-    go : (a : Bool) → leb (r .start) t ≡ a → (b : Bool) → ltb t (r .end) ≡ b → (if a && b then found (record { at = i; len = length (writeRecord e r) }) else findRecord (r .end) (i + length (writeRecord e r)) rs t) ≡ found p → Rec → FoundRun s e i (r ∷ rs) t p
+    go : (a : Bool) → leb (r .start) t ≡ a → (b : Bool) → ltb t (r .end) ≡ b
+        → (if a && b then found (record { at = i; len = length (writeRecord e r) }) else findRecord (r .end) (i + length (writeRecord e r)) rs t) ≡ found p
+        → Rec → FoundRun s e i (r ∷ rs) t p
     go true x true y c rec =
         let w : record { at = i; len = length (writeRecord e r) } ≡ p = cc in
         subst (FoundRun s e i (r ∷ rs) t) w (record {
@@ -79,7 +82,8 @@ unfolding findRecord
 find-none e i [] t q r m h = List·Memᴰ·not-nil m
 find-none e i (x ∷ rs) t q r m h = go (has x t) refl q (List·Memᴰ·cases-cons m) (λ c k. find-none (x .end) (i + length (writeRecord e x)) rs t c r k h)
   where
-    go : (a : Bool) → has x t ≡ a → (if a then found (record { at = i; len = length (writeRecord e x) }) else findRecord (x .end) (i + length (writeRecord e x)) rs t) ≡ nowhere
+    go : (a : Bool) → has x t ≡ a → (if a then found (record { at = i; len = length (writeRecord e x) }) else findRecord (x .end) (i + length (writeRecord e x))
+        rs t) ≡ nowhere
         → (r ≡ x) ⊎ List·Memᴰ r rs → (findRecord (x .end) (i + length (writeRecord e x)) rs t ≡ nowhere → List·Memᴰ r rs → ⊥) → ⊥
     go true p c w rec = impossible cc
     go false p c (inl s) rec = let k : Has x t = subst (λ (y : Stretch). Has y t) s h in not-both (and-intro (le-leb _ _ (k .0)) (lt-ltb _ _ (k .1))) p
@@ -98,7 +102,8 @@ none-shown (x ∷ rs) t n = go (leb (x .start) t) refl (ltb t (x .end)) refl (no
 
 pub lookup-written : Lookup-written
 unfolding lookup placeIn writeSchedule
-lookup-written right left side t h w = record { answer = answer; replies = rw (le-leb side 1 h, schedule-runs (asked side right left) w); finds = go answer refl }
+lookup-written right left side t h w =
+    record { answer = answer; replies = rw (le-leb side 1 h, schedule-runs (asked side right left) w); finds = go answer refl }
   where
     s : List ℕ
     s = asked side right left

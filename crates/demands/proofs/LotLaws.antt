@@ -66,4 +66,5 @@ module _ (w : List ℕ) (rs : List Stretch) (v : ℕ) (read : readSchedule w ≡
 
 pub demand3-one-call : Demand3-one-call
 demand3-one-call s j side w a h planned v low top p qs r few =
-    one-call w (jobRuns j side) v (demand2 s j side w a h planned .reads) low top p qs r few (millimetres (jobLevel j side) v p (lastOf p qs)) (demand3-quantities s j side w a h planned v low top p qs r)
+    one-call w (jobRuns j side) v (demand2 s j side w a h planned .reads) low top p qs r few (millimetres (jobLevel j side) v p (lastOf p qs))
+    (demand3-quantities s j side w a h planned v low top p qs r)

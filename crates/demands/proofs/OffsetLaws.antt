@@ -38,7 +38,8 @@ unfolding smallestOffset
 offset-zero s j index a =
     let fits = accepted-fits s j (a .job) in
     let near = ltb-true _ _ (sym (reach-test j fits index (a .there)) ∙ a .reach) in
-    told-approached (smallest 0) s index j a ∙ ap accepted (nothing-wanted (j .header) (hazardAt j index) (approached-clear (approached-fits j fits index (a .there) near)))
+    told-approached (smallest 0) s index j a
+    ∙ ap accepted (nothing-wanted (j .header) (hazardAt j index) (approached-clear (approached-fits j fits index (a .there) near)))
 
 pub offset-fourteen : Offset-fourteen
 unfolding smallestOffset

@@ -82,7 +82,8 @@ module _ {A : Type 0} (w : List ℕ) (f : List Stretch → A) (b : Bytes w) wher
   query-ten true true = (λ e. (refl, refl, read-refused 10 e .1), λ h. read-ten (h .2))
 
   -- What is given is what the runs of a schedule come to.
-  pub query-given : (t u : Bool) (a : A) → query w f t u ≡ accepted a → (t ≡ true) × (u ≡ true) × (i : IsSchedule w) × (readSchedule w ≡ accepted (i .runs)) × (f (i .runs) ≡ a)
+  pub query-given : (t u : Bool) (a : A) → query w f t u ≡ accepted a
+      → (t ≡ true) × (u ≡ true) × (i : IsSchedule w) × (readSchedule w ≡ accepted (i .runs)) × (f (i .runs) ≡ a)
   query-given t u a e =
       let first = passed t Row.Argument _ a e in
       let second = passed u Row.Ranges _ a (first .1) in
@@ -119,7 +120,8 @@ pub quantity-add : Quantity-add
 quantity-add s w v p r q low top a b =
     let read = schedule-runs s w in
     let counted : (x y : ℕ) → x ≤ y → quantity s v x y ≡ accepted (millimetres (shownLevel (w .runs)) v x y) =
-    λ x y h. quantity-counts s v x y (millimetres (shownLevel (w .runs)) v x y) .1 (record { ranged = (low, top, h); runs = w .runs; read = read; count = refl }) in
+    λ x y h. quantity-counts s v x y (millimetres (shownLevel (w .runs)) v x y) .1
+    (record { ranged = (low, top, h); runs = w .runs; read = read; count = refl }) in
     (counted p r a, counted r q b, counted p q (omega arith) ∙ ap accepted (sym (millimetres-add (shownLevel (w .runs)) v p r q a b)))
 
 pub quantity-eight : Quantity-eight

@@ -30,7 +30,8 @@ use Rattle.withdrawal.specs.declared.reply.Reach.{Reach}
 use Rattle.withdrawal.specs.Reach.{lengthenedAtBothEnds, withdrawalReach, roadReach, noReach, envelopeReach, hazardReach, reach}
 use Rattle.demands.specs.Withdrawal.{withoutHazard, Unaltered, no-envelope, Beyond, unaltered, SameLevels, ReachesNoFarther}
 use Rattle.demands.specs.Withdrawal as withdrawal
-use Rattle.demands.specs.Reach.{InEnvelope, InStretch, Around, Enveloped, Says, Untouched, outside, other-side, UntouchedSide, Covered, Reach-given, Reach-refusals, NoHazard, Reach-fourteen}
+use Rattle.demands.specs.Reach.{InEnvelope, InStretch, Around, Enveloped, Says, Untouched, outside, other-side, UntouchedSide, Covered, Reach-given}
+use Rattle.demands.specs.Reach.{Reach-refusals, NoHazard, Reach-fourteen}
 use Rattle.demands.proofs.DemandLaws.{demand2}
 use Rattle.demands.proofs.RefusalLaws.{OneToSeven, accept-refusals, plan-refuses}
 use Rattle.demands.proofs.WithdrawalLaws.{same-shown, withdrawal-reach}
@@ -160,7 +161,8 @@ reach-given s j a i l = (
   record {
     withdrawal = far;
     says = says;
-    covered = λ w p. covers-envelope h z (scheduleLevel w) (λ e t on k. demand2 s j (hazardReach h z .side) w a low p .covers z own (sym (own-side h z)) e t on k);
+    covered =
+        λ w p. covers-envelope h z (scheduleLevel w) (λ e t on k. demand2 s j (hazardReach h z .side) w a low p .covers z own (sym (own-side h z)) e t on k);
     levels = same;
     shown = same-shown s (writeJob (withoutHazard j i)) j (withoutHazard j i) a (far .still-accepted) (Untouched (hazardReach h z)) same;
     nothing-alters = λ side u room. far .nothing-alters side (untouched-side h z (hazardReach h z) says side u) room;
@@ -191,7 +193,8 @@ reach-given s j a i l = (
     same : SameLevels (Untouched (hazardReach h z)) (jobLevel j) (jobLevel (withoutHazard j i))
     same =
         untouched-levels h z (jobLevel j) (jobLevel (withoutHazard j i)) (λ side t off. level-off-road j side fits t off)
-        (λ side t off. level-off-road (withoutHazard j i) side (accepted-fits (writeJob (withoutHazard j i)) (withoutHazard j i) (far .still-accepted)) t off) (far .levels)
+        (λ side t off. level-off-road (withoutHazard j i) side (accepted-fits (writeJob (withoutHazard j i)) (withoutHazard j i) (far .still-accepted)) t off)
+        (far .levels)
 
 -- Refusals
 
@@ -222,7 +225,8 @@ reach-fourteen s i v = (λ e. to e (reach-verdict s i), λ w. told-none s i (w .
     to e (given r q) = impossible cc
 
 pub reach-refusals : Reach-refusals
-reach-refusals s i side room k v h = let plans = plan-refuses s side room h k v in (λ w. plans .0 (to (w .0) (w .1) (reach-verdict s i)), λ w. from (plans .1 w))
+reach-refusals s i side room k v h = let plans = plan-refuses s side room h k v in
+    (λ w. plans .0 (to (w .0) (w .1) (reach-verdict s i)), λ w. from (plans .1 w))
   where
     to : reach s i ≡ refused k v → k ≢ 14 → ReachVerdict s i → acceptJob s ≡ refused k v
     to e n (unaccepted m w a l q) = let number : m ≡ k = cc in let value : w ≡ v = cc in a ∙ ap₂ refused number value

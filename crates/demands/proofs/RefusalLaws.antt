@@ -19,7 +19,8 @@ use Rattle.number.specs.Number.{readNumber, readingOf, numberAt}
 use Rattle.job.specs.declared.Header.{Header}
 use Rattle.job.specs.declared.Hazard.{Hazard}
 use Rattle.job.specs.declared.Bounds.{Bounds}
-use Rattle.job.specs.Job.{Job, within, nextInHeader, nextInHazard, readFields, moreNumbers, readHeader, headerOf, hazardOf, readHazards, readJob, readRest, outsideHeader, outsideHazard}
+use Rattle.job.specs.Job.{Job, within, nextInHeader, nextInHazard, readFields, moreNumbers, readHeader, headerOf, hazardOf, readHazards, readJob, readRest}
+use Rattle.job.specs.Job.{outsideHeader, outsideHazard}
 use Rattle.planning.specs.Envelope.{sideOverhangs, standsNear, testHazard, testHazards, acceptJob}
 use Rattle.planning.proofs.OverhangLaws.{greatest-before, greatest-after}
 use Rattle.schedule.specs.Plan.{PlannedSide, fitted, plan}
@@ -29,7 +30,8 @@ use Rattle.demands.specs.Road.{Overhanging, Plan-overhangs, Plan-six}
 use Rattle.refusal.specs.declared.Refusal.{Refusal}
 use Rattle.refusal.proofs.RowLaws.{some-number, no-six, same-row}
 use Rattle.base.proofs.TestLaws.{impossible}
-use Rattle.demands.specs.PlanTable.{sideSchedule, sidePlanned, PlanRow, bad-side, of-job, no-room, Plan-exactly, Fits, Plan-written, PlanAnswer, refused-by, schedule-written, Plan-answers}
+use Rattle.demands.specs.PlanTable.{sideSchedule, sidePlanned, PlanRow, bad-side, of-job, no-room, Plan-exactly, Fits, Plan-written, PlanAnswer}
+use Rattle.demands.specs.PlanTable.{refused-by, schedule-written, Plan-answers}
 use Rattle.number.specs.Form.{Bytes}
 use Rattle.planning.proofs.RowLaws.{refused-exactly}
 
@@ -57,7 +59,8 @@ number-refusals s at = go (readNumber s at)
     go Ended = (omega arith, omega arith, omega arith, (Row.Ended at, refl, refl))
     go Malformed = (omega arith, omega arith, omega arith, (Row.Malformed at, refl, refl))
 
-fields-refusals : (rangeOf : List ℕ → Bounds) (outside : List ℕ → Refusal) (k : ℕ) (got s : List ℕ) (at : ℕ) → ((l : List ℕ) → numberOf (outside l) ≤ 7) → OneToSeven (readFields rangeOf outside k got s at)
+fields-refusals : (rangeOf : List ℕ → Bounds) (outside : List ℕ → Refusal) (k : ℕ) (got s : List ℕ) (at : ℕ) → ((l : List ℕ) → numberOf (outside l) ≤ 7)
+    → OneToSeven (readFields rangeOf outside k got s at)
 unfolding readFields
 fields-refusals rangeOf outside zero got s at h = tt
 fields-refusals rangeOf outside (suc k) got s at h =
@@ -69,7 +72,8 @@ hazards-refusals : (h : Header) (k : ℕ) (got : List Hazard) (s : List ℕ) (at
 unfolding readHazards
 hazards-refusals h zero got s at = tt
 hazards-refusals h (suc k) got s at =
-    both (readFields (nextInHazard h) (outsideHazard (length got)) 6 [] s at) _ (fields-refusals (nextInHazard h) (outsideHazard (length got)) 6 [] s at (λ _. omega arith)) (λ z.
+    both (readFields (nextInHazard h) (outsideHazard (length got)) 6 [] s at)
+    _ (fields-refusals (nextInHazard h) (outsideHazard (length got)) 6 [] s at (λ _. omega arith)) (λ z.
     hazards-refusals h k (got ++ hazardOf (z .numbers) ∷ []) s (z .next))
 
 read-refusals : (s : List ℕ) → OneToSeven (readJob s)
@@ -78,8 +82,10 @@ read-refusals s =
     both (readHeader s) _
     (both (readFields nextInHeader outsideHeader 14 [] s 0) _ (fields-refusals nextInHeader outsideHeader 14 [] s 0 (λ _. omega arith)) (λ f.
     fields-refusals nextInHeader outsideHeader (moreNumbers (f .numbers)) (f .numbers) s (f .next) (λ _. omega arith))) (λ f.
-    both (readHazards (headerOf (f .numbers)) (headerOf (f .numbers) .count) [] s (f .next)) _ (hazards-refusals (headerOf (f .numbers)) (headerOf (f .numbers) .count) [] s (f .next)) (λ r.
-    both (unless-refuse (leb (length s) (r .next)) (Row.LeftOver (r .next))) _ (test (leb (length s) (r .next)) (Row.LeftOver (r .next)) (omega arith)) (λ _. tt)))
+    both (readHazards (headerOf (f .numbers)) (headerOf (f .numbers) .count) [] s (f .next))
+    _ (hazards-refusals (headerOf (f .numbers)) (headerOf (f .numbers) .count) [] s (f .next)) (λ r.
+    both (unless-refuse (leb (length s) (r .next)) (Row.LeftOver (r .next))) _ (test (leb (length s) (r .next)) (Row.LeftOver (r .next)) (omega arith))
+    (λ _. tt)))
 
 test-refusals : (h : Header) (i : ℕ) (zs : List Hazard) → OneToSeven (testHazards h i zs)
 unfolding testHazards testHazard
@@ -88,7 +94,8 @@ test-refusals h i (z ∷ zs) = both (testHazard h i z) _ (test (not (standsNear 
 
 pub accept-refusals : (s : List ℕ) → OneToSeven (acceptJob s)
 unfolding acceptJob
-accept-refusals s = both (readJob s) _ (read-refusals s) (λ j. both (testHazards (j .header) 0 (j .hazards)) _ (test-refusals (j .header) 0 (j .hazards)) (λ _. tt))
+accept-refusals s =
+    both (readJob s) _ (read-refusals s) (λ j. both (testHazards (j .header) 0 (j .hazards)) _ (test-refusals (j .header) 0 (j .hazards)) (λ _. tt))
 
 -- Plan
 
@@ -97,8 +104,10 @@ module _ (s : List ℕ) (side room : ℕ) where
   pub data PlanVerdict : Type 0 where
     wrong-side : 1 < side → plan s side room ≡ refused 8 0 → PlanVerdict
     bad-job : side ≤ 1 → (k v : ℕ) → acceptJob s ≡ refused k v → 1 ≤ k → k ≤ 7 → k ≢ 6 → plan s side room ≡ refused k v → PlanVerdict
-    short-room : side ≤ 1 → (j : Job) → acceptJob s ≡ accepted j → room < length (sideSchedule j side) → plan s side room ≡ refused 9 (length (sideSchedule j side)) → PlanVerdict
-    written : side ≤ 1 → (j : Job) → acceptJob s ≡ accepted j → length (sideSchedule j side) ≤ room → plan s side room ≡ accepted (sidePlanned j side) → PlanVerdict
+    short-room : side ≤ 1 → (j : Job) → acceptJob s ≡ accepted j → room < length (sideSchedule j side)
+        → plan s side room ≡ refused 9 (length (sideSchedule j side)) → PlanVerdict
+    written : side ≤ 1 → (j : Job) → acceptJob s ≡ accepted j → length (sideSchedule j side) ≤ room → plan s side room ≡ accepted (sidePlanned j side)
+        → PlanVerdict
 
   by-job : side ≤ 1 → plan s side room ≡ (acceptJob s >>= λ j. fitted (sideSchedule j side) (sideOverhangs j side) room)
   unfolding plan
@@ -107,11 +116,13 @@ module _ (s : List ℕ) (side room : ℕ) where
   pub plan-verdict : PlanVerdict
   plan-verdict = sided (decLe side 1)
     where
-      fitting : side ≤ 1 → (j : Job) → acceptJob s ≡ accepted j → plan s side room ≡ fitted (sideSchedule j side) (sideOverhangs j side) room → Dec (length (sideSchedule j side) ≤ room) → PlanVerdict
+      fitting : side ≤ 1 → (j : Job) → acceptJob s ≡ accepted j → plan s side room ≡ fitted (sideSchedule j side) (sideOverhangs j side) room
+          → Dec (length (sideSchedule j side) ≤ room) → PlanVerdict
       fitting h j e p (yes l) = written h j e l (p ∙ fitted-fits (sideSchedule j side) (sideOverhangs j side) room l)
       fitting h j e p (no l) = short-room h j e (omega arith) (p ∙ fitted-short (sideSchedule j side) (sideOverhangs j side) room (omega arith))
 
-      job : side ≤ 1 → (a : Answer Job) → acceptJob s ≡ a → OneToSeven a → plan s side room ≡ (a >>= λ j. fitted (sideSchedule j side) (sideOverhangs j side) room) → PlanVerdict
+      job : side ≤ 1 → (a : Answer Job) → acceptJob s ≡ a → OneToSeven a
+          → plan s side room ≡ (a >>= λ j. fitted (sideSchedule j side) (sideOverhangs j side) room) → PlanVerdict
       job h (accepted j) e o p = fitting h j e p (decLe (length (sideSchedule j side)) room)
       job h (refused k v) e o p = bad-job h k v e (o .0) (o .1) (o .2) p
 
@@ -133,13 +144,16 @@ module _ (s : List ℕ) (side room : ℕ) where
       go e n (written b j a l p) = impossible cc
 
   -- So are those of a call that answers for each accepted job.
-  pub answer-refuses : {A : Type 0} (tell : Job → A) → side ≤ 1 → (k v : ℕ) → ((acceptJob s >>= λ j. accepted (tell j)) ≡ refused k v) ↔ ((plan s side room ≡ refused k v) × (k ≢ 9))
+  pub answer-refuses : {A : Type 0} (tell : Job → A) → side ≤ 1 → (k v : ℕ)
+      → ((acceptJob s >>= λ j. accepted (tell j)) ≡ refused k v) ↔ ((plan s side room ≡ refused k v) × (k ≢ 9))
   answer-refuses {A} tell h k v = let plans = plan-refuses h k v in (λ e. plans .0 (alike (acceptJob s) .0 e), λ w. alike (acceptJob s) .1 (plans .1 w))
     where
       alike : (a : Answer Job) → ((a >>= λ j. accepted (tell j)) ≡ refused k v) ↔ (a ≡ refused k v)
       alike (accepted j) = (λ e. impossible cc, λ e. impossible cc)
-      alike (refused i w) =
-          (λ e. let number : i ≡ k = cc in let value : w ≡ v = cc in ap₂ refused number value, λ e. let number : i ≡ k = cc in let value : w ≡ v = cc in ap₂ refused number value)
+      alike (refused i w) = (
+        λ e. let number : i ≡ k = cc in let value : w ≡ v = cc in ap₂ refused number value,
+        λ e. let number : i ≡ k = cc in let value : w ≡ v = cc in ap₂ refused number value,
+      )
 
   -- The table's rows.
   exactly : (r : Refusal) → Bytes s → (plan s side room ≡ refusal r) ↔ PlanRow r s side room
@@ -147,10 +161,12 @@ module _ (s : List ℕ) (side room : ℕ) where
     where
       to : plan s side room ≡ refusal r → PlanVerdict → PlanRow r s side room
       to e (wrong-side h p) = bad-side (same-row r Row.Argument (let z : numberOf r ≡ 8 = cc in z) (let z : valueOf r ≡ 0 = cc in z)) h
-      to e (bad-job h k v a l u n p) = of-job h (refused-exactly s r b .0 (let number : k ≡ numberOf r = cc in let value : v ≡ valueOf r = cc in a ∙ ap₂ refused number value))
+      to e (bad-job h k v a l u n p) =
+          of-job h (refused-exactly s r b .0 (let number : k ≡ numberOf r = cc in let value : v ≡ valueOf r = cc in a ∙ ap₂ refused number value))
       to e (short-room h j a l p) =
           let needed = length (sideSchedule j side) in
-          no-room needed (same-row r (Row.Room needed) (let z : numberOf r ≡ 9 = cc in z) (let z : valueOf r ≡ needed = cc in z)) (record { good-side = h; job = j; taken = a; needed = refl; short = l })
+          no-room needed (same-row r (Row.Room needed) (let z : numberOf r ≡ 9 = cc in z) (let z : valueOf r ≡ needed = cc in z))
+          (record { good-side = h; job = j; taken = a; needed = refl; short = l })
       to e (written h j a l p) = impossible cc
 
       from : PlanRow r s side room → plan s side room ≡ refusal r
@@ -158,13 +174,15 @@ module _ (s : List ℕ) (side room : ℕ) where
       from (of-job h w) = by-job h ∙ rw (refused-exactly s r b .1 w)
       from (no-room n e w) =
           by-job (w .good-side)
-          ∙ rw (w .taken) (fitted-short (sideSchedule (w .job) side) (sideOverhangs (w .job) side) room (omega (arith, w .needed, w .short)) ∙ (ap (λ (m : ℕ). refusal (Row.Room m)) (w .needed) ∙ ap refusal (sym e)))
+          ∙ rw (w .taken) (fitted-short (sideSchedule (w .job) side) (sideOverhangs (w .job) side) room (omega (arith, w .needed, w .short))
+          ∙ (ap (λ (m : ℕ). refusal (Row.Room m)) (w .needed) ∙ ap refusal (sym e)))
 
   by-written : (p : PlannedSide) → (plan s side room ≡ accepted p) ↔ Fits s side room p
   by-written p = (
     λ e. go e plan-verdict,
     λ f. by-job (f .good-side)
-        ∙ rw (f .taken) (fitted-fits (sideSchedule (f .job) side) (sideOverhangs (f .job) side) room (subst (λ (q : PlannedSide). length (q .schedule) ≤ room) (sym (f .is)) (f .room-enough)) ∙ ap accepted (f .is)),
+        ∙ rw (f .taken) (fitted-fits (sideSchedule (f .job) side) (sideOverhangs (f .job) side) room
+        (subst (λ (q : PlannedSide). length (q .schedule) ≤ room) (sym (f .is)) (f .room-enough)) ∙ ap accepted (f .is)),
   )
     where
       go : plan s side room ≡ accepted p → PlanVerdict → Fits s side room p

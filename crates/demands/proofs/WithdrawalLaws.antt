@@ -32,7 +32,8 @@ use Rattle.schedule.specs.Planned.{Accepted, Planned}
 use Rattle.withdrawal.specs.Reach.{lengthenedAtBothEnds, withdrawalReach}
 use Rattle.open_memory.proofs.RuleLaws.{made-fits}
 use Rattle.demands.specs.Demands.{Alike}
-use Rattle.demands.specs.Withdrawal.{withoutAt, withoutHazard, Unaltered, no-envelope, other-side, Beyond, outside, unaltered, SameLevels, SameShown, Withdrawal-reach}
+use Rattle.demands.specs.Withdrawal.{withoutAt, withoutHazard, Unaltered, no-envelope, other-side, Beyond, outside, unaltered, SameLevels, SameShown}
+use Rattle.demands.specs.Withdrawal.{Withdrawal-reach}
 use Rattle.demands.proofs.DemandLaws.{alike-cut, more-envelopes, counted-alike}
 use Rattle.demands.proofs.AlikeLaws.{same-levels, same-plan}
 use Rattle.demands.proofs.LevelLaws.{level-lookup}
@@ -81,7 +82,8 @@ outside-reach h z t n = go (decLt (t + h .continuity) (cutEnvelope h z .start)) 
 
 -- Two jobs alike in their headers, of which the second lacks one hazard of the first and no other.
 module _ (j k : Job) (to : Alike (j .header) (k .header)) (back : Alike (k .header) (j .header)) (z : Hazard)
-    (only : (x : Hazard) → List·Memᴰ x (j .hazards) → (x ≡ z) ⊎ List·Memᴰ x (k .hazards)) (fewer : (x : Hazard) → List·Memᴰ x (k .hazards) → List·Memᴰ x (j .hazards)) where
+    (only : (x : Hazard) → List·Memᴰ x (j .hazards) → (x ≡ z) ⊎ List·Memᴰ x (k .hazards))
+    (fewer : (x : Hazard) → List·Memᴰ x (k .hazards) → List·Memᴰ x (j .hazards)) where
   -- Where that hazard gives the side no envelope, both have the same.
   not-its : (side : ℕ) → Unaltered (j .header) z side → SideHazard j side z → ⊥
   not-its side (no-envelope r) s = not-both (s .reach) r
@@ -97,7 +99,8 @@ module _ (j k : Job) (to : Alike (j .header) (k .header)) (back : Alike (k .head
   side-levels : (side : ℕ) → Unaltered (j .header) z side → (t : ℕ) → jobLevel k side t ≡ jobLevel j side t
   side-levels side u t = same-levels k j back to side (λ x s. fewer x (s .member)) (others side u) t
 
-  pub side-plans : (s₁ s₂ : List ℕ) → Accepted s₁ j → Accepted s₂ k → (side : ℕ) → Unaltered (j .header) z side → (room : ℕ) → plan s₂ side room ≡ plan s₁ side room
+  pub side-plans : (s₁ s₂ : List ℕ) → Accepted s₁ j → Accepted s₂ k → (side : ℕ) → Unaltered (j .header) z side → (room : ℕ)
+      → plan s₂ side room ≡ plan s₁ side room
   side-plans s₁ s₂ a₁ a₂ side u room = same-plan k j back to side (λ x s. fewer x (s .member)) (others side u) s₂ s₁ a₂ a₁ room
 
   -- An envelope of the first is that of the hazard or one of the second's.
@@ -112,12 +115,14 @@ module _ (j k : Job) (to : Alike (j .header) (k .header)) (back : Alike (k .head
       go (inr o) = inr (alike-cut j k to side e w o)
 
   module _ (fits : AcceptedFits j) (own : List·Memᴰ z (j .hazards)) where
-    outside-levels : (side : ℕ) → SideHazard j side z → (t : ℕ) → Outside (cutEnvelope (j .header) z) (j .header .continuity) t → jobLevel k side t ≡ jobLevel j side t
+    outside-levels : (side : ℕ) → SideHazard j side z → (t : ℕ) → Outside (cutEnvelope (j .header) z) (j .header .continuity) t
+        → jobLevel k side t ≡ jobLevel j side t
     unfolding jobLevel
     outside-levels side s t out =
         let long = side-lies j side fits (cutEnvelope (j .header) z) (to-cut j side s) .long in
         ap (λ (G : ℕ). requiredLevel (sideEnvelopes k side) G t) (ap (λ (x : Header). x .continuity) back)
-        ∙ sym (level-without (cutEnvelope (j .header) z) (sideEnvelopes j side) (sideEnvelopes k side) (j .header .continuity) t long out (either side) (more-envelopes k j back side (λ x s. fewer x (s .member))))
+        ∙ sym (level-without (cutEnvelope (j .header) z) (sideEnvelopes j side) (sideEnvelopes k side) (j .header .continuity) t long out (either side)
+        (more-envelopes k j back side (λ x s. fewer x (s .member))))
 
     pub same-beyond : SameLevels (Beyond (j .header) z) (jobLevel j) (jobLevel k)
     same-beyond side t (unaltered u) = side-levels side u t
@@ -172,7 +177,8 @@ withdrawal-reach s j a i l = record {
 
     still : Accepted (writeJob k) k
     still =
-        fitting-accepted k (made-fits (j .header) (k .hazards) (fits .fits .header) (omega (arith, one-less, fits .fits .hazards .count, header-bounds (j .header) (fits .fits .header) .count))
+        fitting-accepted k (made-fits (j .header) (k .hazards) (fits .fits .header)
+        (omega (arith, one-less, fits .fits .hazards .count, header-bounds (j .header) (fits .fits .header) .count))
         (λ x m. record { fits = fits .fits .hazards .each x (fewer x m); passed = fits .passed x (fewer x m) }))
 
     same : SameLevels (Beyond (j .header) z) (jobLevel j) (jobLevel k)

@@ -57,7 +57,8 @@ cases =
     ∷ case (header 101000 0 9000 0 3000 0 0 1 ++ hazard 67334 210000 5000 3) (accepted (run 0 210000 3 ∷ []))
     ∷ hangingOver 1 (case (header 101000 0 9000 0 3000 0 0 1 ++ hazard 67333 210000 5000 3) (accepted (run 0 210000 3 ∷ [])))
     -- K9: level-2 envelopes 49,999 apart at G = 50,000 make one run; 50,000 apart two
-    ∷ case (header 101000 0 9000 0 3000 1 50000 2 ++ (hazard 200000 210000 5000 2 ++ hazard (210000 + 49999 + 44227) 310000 5000 2)) (accepted (run 155773 310000 2 ∷ []))
+    ∷ case (header 101000 0 9000 0 3000 1 50000 2 ++ (hazard 200000 210000 5000 2 ++ hazard (210000 + 49999 + 44227) 310000 5000 2))
+    (accepted (run 155773 310000 2 ∷ []))
     ∷ case (header 101000 0 9000 0 3000 1 50000 2 ++ (hazard 200000 210000 5000 2 ++ hazard (210000 + 50000 + 44227) 310000 5000 2))
     (accepted (run 155773 210000 2 ∷ run 260000 310000 2 ∷ []))
     -- K10: with G 50, envelopes [0, 100) at 3 and [140, 200) at 1 (LF 1 and b = 0 make each approach 1): runs [0, 100) at 3, [100, 200) at 1

@@ -22,11 +22,13 @@ Quantities-eleven = (s : List ℕ) (v : ℕ) (l : List ℕ) → Bytes s → (qua
 
 -- 10: the arguments are in their ranges, the ranges few, and the schedule isn't the writing of a run list.
 abbrev pub Quantities-ten : Type 0
-Quantities-ten = (s : List ℕ) (v : ℕ) (l : List ℕ) → Bytes s → (quantities s v l ≡ refused 10 0) ↔ (AllRanged v l × (length (rangesOf l) ≤ mostRanges) × (IsSchedule s → ⊥))
+Quantities-ten =
+    (s : List ℕ) (v : ℕ) (l : List ℕ) → Bytes s → (quantities s v l ≡ refused 10 0) ↔ (AllRanged v l × (length (rangesOf l) ≤ mostRanges) × (IsSchedule s → ⊥))
 
 -- And no call is refused but those.
 abbrev pub Quantities-done : Type 0
-Quantities-done = (s : List ℕ) (v : ℕ) (l : List ℕ) → Bytes s → (quantitiesReplied (quantities s v l) .answer ≡ accepted tt) ↔ (AllRanged v l × (length (rangesOf l) ≤ mostRanges) × IsSchedule s)
+Quantities-done = (s : List ℕ) (v : ℕ) (l : List ℕ) → Bytes s
+    → (quantitiesReplied (quantities s v l) .answer ≡ accepted tt) ↔ (AllRanged v l × (length (rangesOf l) ≤ mostRanges) × IsSchedule s)
 
 -- What a reply without refusal holds.
 pub record Given (s : List ℕ) (v : ℕ) (l : List ℕ) (r : QuantitiesReplied) : Type 0 where
@@ -41,7 +43,8 @@ pub record Given (s : List ℕ) (v : ℕ) (l : List ℕ) (r : QuantitiesReplied)
   pub places : length (r .places) ≡ mostRanges
 
 abbrev pub Quantities-given : Type 0
-Quantities-given = (s : List ℕ) (v : ℕ) (l : List ℕ) → Bytes s → quantitiesReplied (quantities s v l) .answer ≡ accepted tt → Given s v l (quantitiesReplied (quantities s v l))
+Quantities-given = (s : List ℕ) (v : ℕ) (l : List ℕ) → Bytes s → quantitiesReplied (quantities s v l) .answer ≡ accepted tt
+    → Given s v l (quantitiesReplied (quantities s v l))
 
 -- "A refusal gives no quantities and a count of 0."
 pub record Empty (r : QuantitiesReplied) : Type 0 where
@@ -50,4 +53,5 @@ pub record Empty (r : QuantitiesReplied) : Type 0 where
   pub places : length (r .places) ≡ mostRanges
 
 abbrev pub Quantities-refused : Type 0
-Quantities-refused = (s : List ℕ) (v : ℕ) (l : List ℕ) (number value : ℕ) → quantities s v l ≡ refused number value → Empty (quantitiesReplied (quantities s v l))
+Quantities-refused =
+    (s : List ℕ) (v : ℕ) (l : List ℕ) (number value : ℕ) → quantities s v l ≡ refused number value → Empty (quantitiesReplied (quantities s v l))

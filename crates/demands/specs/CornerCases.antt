@@ -24,18 +24,23 @@ cornerCase j x y u f h = record { job = j; station = x; offset = y; corners = re
 unfoldable pub cornerCases : List CornerCase
 cornerCases =
     -- K1, length 44,227: the flare leads (44,227 − 13,340) / 15 away, 2,059.1 rounded down
-    cornerCase (header 101000 0 9000 0 3000 1 0 1 ++ hazard 200000 210000 5000 3) 0 0 (point (pos 155773) (pos 5059)) (point (pos 186660) (pos 3000)) (point (pos 200000) (pos 3000))
+    cornerCase (header 101000 0 9000 0 3000 1 0 1 ++ hazard 200000 210000 5000 3) 0 0 (point (pos 155773) (pos 5059)) (point (pos 186660) (pos 3000))
+    (point (pos 200000) (pos 3000))
     -- the same on the left, approached by opposite traffic
-    ∷ cornerCase (header 101000 101000 9000 0 3000 1 0 1 ++ (1 ∷ 200000 ∷ 210000 ∷ 5000 ∷ 9000 ∷ 3 ∷ [])) 0 0 (point (pos 254227) (pos 5059)) (point (pos 223340) (pos 3000)) (point (pos 210000) (pos 3000))
+    ∷ cornerCase (header 101000 101000 9000 0 3000 1 0 1 ++ (1 ∷ 200000 ∷ 210000 ∷ 5000 ∷ 9000 ∷ 3 ∷ [])) 0 0 (point (pos 254227) (pos 5059))
+    (point (pos 223340) (pos 3000)) (point (pos 210000) (pos 3000))
     -- K2: no flare, length 67,334, from a sheet corner beyond it
-    ∷ cornerCase (header 101000 0 9000 0 3000 0 0 1 ++ hazard 200000 210000 5000 3) 250000 4000 (point (negsuc 117333) (negsuc 999)) (point (negsuc 117333) (negsuc 999)) (point (negsuc 49999) (negsuc 999))
+    ∷ cornerCase (header 101000 0 9000 0 3000 0 0 1 ++ hazard 200000 210000 5000 3) 250000 4000 (point (negsuc 117333) (negsuc 999))
+    (point (negsuc 117333) (negsuc 999)) (point (negsuc 49999) (negsuc 999))
     -- K8's second job: not cut at A, the upstream end lies before station 0
-    ∷ cornerCase (header 101000 0 9000 0 3000 0 0 1 ++ hazard 67333 210000 5000 3) 0 0 (point (negsuc 0) (pos 3000)) (point (negsuc 0) (pos 3000)) (point (pos 67333) (pos 3000))
+    ∷ cornerCase (header 101000 0 9000 0 3000 0 0 1 ++ hazard 67333 210000 5000 3) 0 0 (point (negsuc 0) (pos 3000)) (point (negsuc 0) (pos 3000))
+    (point (pos 67333) (pos 3000))
     -- K1 in panels of 4,000: 48,000 long, and (48,000 − 13,340) / 15 away, 2,310.6 rounded down
     ∷ cornerCase (2 ∷ 0 ∷ 1000000 ∷ 101000 ∷ 0 ∷ 9000 ∷ 0 ∷ 3000 ∷ 1000 ∷ 15 ∷ 1 ∷ 13340 ∷ 0 ∷ 4000 ∷ 1 ∷ hazard 200000 210000 5000 3) 0 0
     (point (pos 152000) (pos 5310)) (point (pos 186660) (pos 3000)) (point (pos 200000) (pos 3000))
     -- K1 on the left of a one-way road: approached by forward traffic
-    ∷ cornerCase (header 101000 0 9000 0 3000 1 0 1 ++ (1 ∷ 200000 ∷ 210000 ∷ 5000 ∷ 9000 ∷ 3 ∷ [])) 0 0 (point (pos 155773) (pos 5059)) (point (pos 186660) (pos 3000)) (point (pos 200000) (pos 3000))
+    ∷ cornerCase (header 101000 0 9000 0 3000 1 0 1 ++ (1 ∷ 200000 ∷ 210000 ∷ 5000 ∷ 9000 ∷ 3 ∷ [])) 0 0 (point (pos 155773) (pos 5059))
+    (point (pos 186660) (pos 3000)) (point (pos 200000) (pos 3000))
     -- in panels of 4,000, with T 67,500: the length before raising, 67,334, does not pass T; the raised length, 68,000, does
     ∷ cornerCase (2 ∷ 0 ∷ 1000000 ∷ 101000 ∷ 0 ∷ 9000 ∷ 0 ∷ 3000 ∷ 1000 ∷ 15 ∷ 1 ∷ 67500 ∷ 0 ∷ 4000 ∷ 1 ∷ hazard 200000 210000 5000 3) 0 0
     (point (pos 132000) (pos 3000)) (point (pos 132000) (pos 3000)) (point (pos 200000) (pos 3000))

@@ -24,9 +24,12 @@ use Rattle.queries.specs.Lookup.{FoundRun, Found, found, nowhere, asked, lookup
 use Rattle.schedule.specs.Plan.{PlannedSide, outputAfter, plan}
 use Rattle.queries.specs.Quantity.{millimetres, quantity}
 
--- Demand 1, of the definitions: after every call the output holds the complete schedule from its first byte, the bytes behind it untouched, or exactly what it held before; its length never changes.
+-- Demand 1, of the definitions: after every call the output holds the complete schedule from its first byte, the bytes behind it untouched, or exactly what it
+-- held before; its length never changes.
 pub record OutputKept (s : List ℕ) (side : ℕ) (out : List ℕ) : Type 0 where
-  pub planned : (w : List ℕ) → scheduleAlone (plan s side (length out)) ≡ accepted w → (take (length w) (outputAfter (plan s side (length out)) out) ≡ w) × (drop (length w) (outputAfter (plan s side (length out)) out) ≡ drop (length w) out)
+  pub planned : (w : List ℕ) → scheduleAlone (plan s side (length out)) ≡ accepted w
+      → (take (length w) (outputAfter (plan s side (length out)) out) ≡ w)
+      × (drop (length w) (outputAfter (plan s side (length out)) out) ≡ drop (length w) out)
   pub refused : (k v : ℕ) → plan s side (length out) ≡ refused k v → outputAfter (plan s side (length out)) out ≡ out
   pub same-length : length (outputAfter (plan s side (length out)) out) ≡ length out
 
@@ -79,7 +82,8 @@ pub record Looked (j : Job) (side : ℕ) (right left : List ℕ) (t : ℕ) : Typ
 
 -- Demand 2, reading: lookup in the planned schedule of the side asked for, whatever the other schedule is.
 abbrev pub Demand2-lookup : Type 0
-Demand2-lookup = (s : List ℕ) (j : Job) (side : ℕ) (right left : List ℕ) → Accepted s j → side ≤ 1 → Planned s side (asked side right left) → (t : ℕ) → Looked j side right left t
+Demand2-lookup = (s : List ℕ) (j : Job) (side : ℕ) (right left : List ℕ) → Accepted s j → side ≤ 1 → Planned s side (asked side right left) → (t : ℕ)
+    → Looked j side right left t
 
 -- Demand 3, the writing: the planned schedule is the writing of a run list whose members are the side's runs.
 pub record WritesRuns (j : Job) (side : ℕ) (w : List ℕ) : Type 0 where

@@ -38,7 +38,8 @@ pub record LevelAgrees (s : List ℕ) (j : Job) (side : ℕ) (right left : List 
 
 -- "For every accepted job, side and station", in the planned schedule of that side, whatever the other schedule is.
 abbrev pub Level-lookup : Type 0
-Level-lookup = (s : List ℕ) (j : Job) (side : ℕ) (right left : List ℕ) → Accepted s j → side ≤ 1 → Planned s side (asked side right left) → (t : ℕ) → LevelAgrees s j side right left t
+Level-lookup = (s : List ℕ) (j : Job) (side : ℕ) (right left : List ℕ) → Accepted s j → side ≤ 1 → Planned s side (asked side right left) → (t : ℕ)
+    → LevelAgrees s j side right left t
 
 -- "Refusals are those of plan without 9": number and value, whatever the room of plan's output is.
 abbrev pub Level-refusals : Type 0

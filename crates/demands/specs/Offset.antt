@@ -32,7 +32,8 @@ abbrev pub AllTooLong : Job → (index longest : ℕ) → Type 0
 AllTooLong j index longest = (M : ℕ) → M ≤ 20000 → M + j .header .deflection ≤ hazardAt j index .near → longest < lengthAt (j .header) (hazardAt j index) M
 
 abbrev pub Offset-none : Type 0
-Offset-none = (s : List ℕ) (index longest : ℕ) → (smallestOffset s index longest ≡ accepted none) ↔ ((j : Job) × Approached s j index × AllTooLong j index longest)
+Offset-none =
+    (s : List ℕ) (index longest : ℕ) → (smallestOffset s index longest ≡ accepted none) ↔ ((j : Job) × Approached s j index × AllTooLong j index longest)
 
 -- For a wanted length of 0 there is none: every approach has a millimetre.
 abbrev pub Offset-zero : Type 0

@@ -51,7 +51,8 @@ Lookup-eight = (right left : List ℕ) (side t : ℕ) → Bytes (asked side righ
 
 -- 10, "of the asked side's schedule"; the other side's is not looked at.
 abbrev pub Lookup-ten : Type 0
-Lookup-ten = (right left : List ℕ) (side t : ℕ) → Bytes (asked side right left) → (lookup right left side t ≡ refused 10 0) ↔ ((side ≤ 1) × (IsSchedule (asked side right left) → ⊥))
+Lookup-ten = (right left : List ℕ) (side t : ℕ) → Bytes (asked side right left)
+    → (lookup right left side t ≡ refused 10 0) ↔ ((side ≤ 1) × (IsSchedule (asked side right left) → ⊥))
 
 -- What lookup finds at t in the writing of runs: the record of the run that has t, or nothing where no run has it.
 abbrev pub Finds : (s : List ℕ) (rs : List Stretch) (t : ℕ) → Found → Type 0

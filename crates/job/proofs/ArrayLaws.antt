@@ -54,7 +54,8 @@ module _ {rangeOf : List ℕ → Bounds} {outside : List ℕ → Refusal} {size 
               (omega (arith, within (sym same), within-high range (n .value) (field-within range value s at f n read e)))
           go (no other) = rw (getD-set-other numbers k 1 (n .value) 0 other) (left .second)
 
-      pub one-less : (k ≡ 1 → range .high ≤ top) → {n : Reading} → f ≡ Field.Number n → NumbersLeft rangeOf outside size top s first (set numbers k (n .value)) (n .next) (k + 1)
+      pub one-less : (k ≡ 1 → range .high ≤ top) → {n : Reading} → f ≡ Field.Number n
+          → NumbersLeft rangeOf outside size top s first (set numbers k (n .value)) (n .next) (k + 1)
       one-less within {n} e =
           record {
             most = omega arith;

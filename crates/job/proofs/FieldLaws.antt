@@ -75,7 +75,8 @@ field-near range outside s at f n read e =
     go Read.Malformed p q = impossible cc
 
 -- k numbers more behind the next one, which stands there in its range.
-pub fields-next : (rangeOf : List ℕ → Bounds) (outside : List ℕ → Refusal) (k : ℕ) (got s : List ℕ) (at v n : ℕ) → readNumber s at ≡ Read.Number v n → rangeOf got .low ≤ v → v ≤ rangeOf got .high
+pub fields-next : (rangeOf : List ℕ → Bounds) (outside : List ℕ → Refusal) (k : ℕ) (got s : List ℕ) (at v n : ℕ) → readNumber s at ≡ Read.Number v n
+    → rangeOf got .low ≤ v → v ≤ rangeOf got .high
     → readFields rangeOf outside (suc k) got s at ≡ readFields rangeOf outside k (got ++ v ∷ []) s n
 unfolding readFields numberAt
 fields-next rangeOf outside k got s at v n e low high = rw (e, le-leb (rangeOf got .low) v low, le-leb v (rangeOf got .high) high)
@@ -87,9 +88,11 @@ module _ (rangeOf : List ℕ → Bounds) (outsideAt : List ℕ → Refusal) (out
   unfolding readFields fieldAt
   fields-step =
       rw (read, its)
-      (bind-tested (numberAt s at) (λ x. unless-refuse (within (rangeOf got) (x .value)) outside) (λ x. readFields rangeOf outsideAt k (got ++ x .value ∷ []) s (x .next)))
+      (bind-tested (numberAt s at) (λ x. unless-refuse (within (rangeOf got) (x .value)) outside)
+      (λ x. readFields rangeOf outsideAt k (got ++ x .value ∷ []) s (x .next)))
 
-  pub fields-more : (n : Numbered) → f ≡ Field.Number n → readFields rangeOf outsideAt (suc k) got s at ≡ readFields rangeOf outsideAt k (got ++ n .value ∷ []) s (n .next)
+  pub fields-more : (n : Numbered) → f ≡ Field.Number n
+      → readFields rangeOf outsideAt (suc k) got s at ≡ readFields rangeOf outsideAt k (got ++ n .value ∷ []) s (n .next)
   fields-more n e = fields-step ∙ rw e
 
   pub fields-refused : (r : Refusal) → f ≡ Field.Refused r → readFields rangeOf outsideAt (suc k) got s at ≡ refusal r

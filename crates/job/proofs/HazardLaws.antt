@@ -74,7 +74,8 @@ module _ (h : Header) {index : ℕ} {s : List ℕ} {first : ℕ} {numbers : List
     hazard-read = rw (all-read left done)
 
     pub numbers-bounds : HazardBounds h (hazardOf numbers)
-    numbers-bounds = hazard-bounds h (hazardOf numbers) (hazard-fits h numbers (fields-in (nextInHazard h) (outsideHazard index) 6 [] s first (record { numbers = numbers; next = at }) (all-read left done)))
+    numbers-bounds = hazard-bounds h (hazardOf numbers)
+        (hazard-fits h numbers (fields-in (nextInHazard h) (outsideHazard index) 6 [] s first (record { numbers = numbers; next = at }) (all-read left done)))
 
 -- A hazard whose six numbers stand one behind the other, each in its range.
 pub hazard-whole : (h : Header) (index : ℕ) (s : List ℕ) (at : ℕ) (z : Hazard) (a b c d e next : ℕ) → HazardFits h z

@@ -18,7 +18,8 @@ use Rattle.job.specs.declared.field.Reading.{Reading}
 use Rattle.job.specs.declared.field.Field.{Field}
 use Rattle.job.specs.declared.field.Field.the-variants as Field
 use Rattle.job.specs.declared.Bounds.{Bounds}
-use Rattle.job.specs.Job.{_to_, sharedRanges, lastRanges, headerRanges, headerSize, nextInHeader, readFields, readHeader, headerWith, headerOf, outsideHeader}
+use Rattle.job.specs.Job.{_to_, sharedRanges, lastRanges, headerRanges, headerSize, nextInHeader, readFields, readHeader, headerWith, headerOf}
+use Rattle.job.specs.Job.{outsideHeader}
 use Rattle.job.specs.Reply.{fieldAt, fieldAnswer, headerAt, headerFrom}
 use Rattle.job.proofs.FieldLaws.{fields-more, fields-refused}
 use Rattle.job.proofs.ArrayLaws.{NumbersLeft, one-less, next-refused, all-read}
@@ -49,15 +50,18 @@ pub range-plain : (kind A k : ℕ) → k < 13 → (k ≡ 2 → ⊥) → getD (he
 range-plain kind A k l other = range-shared 2 k l ∙ sym (range-shared kind k l) ∙ sym (range-elsewhere kind A k other)
 
 -- The next range goes by the array's first and second number as soon as they count.
-next-in-header : (numbers : List ℕ) (k : ℕ) → k ≤ length numbers → nextInHeader (take k numbers) ≡ getD (headerRanges (getD numbers 0 0) (getD numbers 1 0)) k (0 to 0)
+next-in-header : (numbers : List ℕ) (k : ℕ) → k ≤ length numbers
+    → nextInHeader (take k numbers) ≡ getD (headerRanges (getD numbers 0 0) (getD numbers 1 0)) k (0 to 0)
 unfolding headerRanges sharedRanges
 next-in-header numbers k room = rw (length-take-le k numbers room) (go k)
   where
-    go : (k : ℕ) → getD (headerRanges (getD (take k numbers) 0 0) (getD (take k numbers) 1 0)) k (0 to 0) ≡ getD (headerRanges (getD numbers 0 0) (getD numbers 1 0)) k (0 to 0)
+    go : (k : ℕ) → getD (headerRanges (getD (take k numbers) 0 0) (getD (take k numbers) 1 0)) k (0 to 0)
+        ≡ getD (headerRanges (getD numbers 0 0) (getD numbers 1 0)) k (0 to 0)
     go zero = refl
     go (suc zero) = refl
     go (suc (suc zero)) = ap (λ (A : ℕ). (A + 1) to roadTop A) (getD-take 2 numbers 1 0 (omega arith))
-    go (suc (suc (suc k))) = ap (λ (kind : ℕ). getD (headerRanges kind 0) (suc (suc (suc k))) (0 to 0)) (getD-take (suc (suc (suc k))) numbers 0 0 (omega arith))
+    go (suc (suc (suc k))) =
+        ap (λ (kind : ℕ). getD (headerRanges kind 0) (suc (suc (suc k))) (0 to 0)) (getD-take (suc (suc (suc k))) numbers 0 0 (omega arith))
 
 -- k of the header's first fourteen numbers stand in the array, and the others are left from index `at` on.
 abbrev pub HeaderLeft : (s numbers : List ℕ) (at k : ℕ) → Type 0
@@ -118,7 +122,10 @@ module _ (s numbers : List ℕ) (at : ℕ) (f : Field) (long : length numbers �
       → accepted (record { header = headerWith numbers (getD numbers 13 0) (n .value); next = n .next }) ≡ headerFrom numbers s at
   unfolding headerFrom readFields
   count-read {n} e =
-      rw (fields-more nextInHeader outsideHeader (HeaderRange 15) 0 numbers s at f (ap HeaderRange number-fifteen) read-fifteenth n e, header-more numbers (n .value) long two)
+      rw (
+        fields-more nextInHeader outsideHeader (HeaderRange 15) 0 numbers s at f (ap HeaderRange number-fifteen) read-fifteenth n e,
+        header-more numbers (n .value) long two,
+      )
 
   pub count-refused : {r : Refusal} → f ≡ Field.Refused r → refusal r ≡ headerFrom numbers s at
   unfolding headerFrom

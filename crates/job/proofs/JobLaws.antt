@@ -22,7 +22,8 @@ use Rattle.number.specs.Number.{numberAt}
 use Rattle.job.specs.declared.Header.{Header}
 use Rattle.job.specs.declared.Hazard.{Hazard}
 use Rattle.job.specs.declared.Bounds.{Bounds}
-use Rattle.job.specs.Job.{Job, within, headerSize, nextInHeader, nextInHazard, Fields, readFields, moreNumbers, readHeader, headerOf, hazardOf, Hazards, readHazards, readJob, readRest, outsideHeader, outsideHazard}
+use Rattle.job.specs.Job.{Job, within, headerSize, nextInHeader, nextInHazard, Fields, readFields, moreNumbers, readHeader, headerOf, hazardOf, Hazards}
+use Rattle.job.specs.Job.{readHazards, readJob, readRest, outsideHeader, outsideHazard}
 use Rattle.job.specs.Writing.{headerNumbers, hazardNumbers}
 use Rattle.job.specs.Fits.{inRanges, headerInRange, hazardInRange, HeaderFits, HazardFits, HazardsFit, JobFits}
 use Rattle.job.specs.Reply.{HeaderReading, headerReading, headerAt, HazardReading, hazardReading, readHazardAt}
@@ -35,7 +36,8 @@ pub record FieldsIn (rangeOf : List ℕ → Bounds) (k : ℕ) (got numbers : Lis
   pub size : length own ≡ k
   pub fit : inRanges rangeOf got own ≡ true
 
-pub fields-in : (rangeOf : List ℕ → Bounds) (outside : List ℕ → Refusal) (k : ℕ) (got s : List ℕ) (at : ℕ) (f : Fields) → readFields rangeOf outside k got s at ≡ accepted f → FieldsIn rangeOf k got (f .numbers)
+pub fields-in : (rangeOf : List ℕ → Bounds) (outside : List ℕ → Refusal) (k : ℕ) (got s : List ℕ) (at : ℕ) (f : Fields)
+    → readFields rangeOf outside k got s at ≡ accepted f → FieldsIn rangeOf k got (f .numbers)
 unfolding readFields inRanges
 fields-in rangeOf outside zero got s at f e =
     let w : record { numbers = got; next = at } ≡ f = cc in
@@ -96,7 +98,8 @@ header-own numbers size = go (eqb (getD numbers 0 0) 2) refl size
 
 pub header-fits : (numbers : List ℕ) → HeaderIn numbers → HeaderFits (headerOf numbers)
 unfolding headerInRange
-header-fits numbers h = and-intro {a = inRanges nextInHeader [] (headerNumbers (headerOf numbers))} (rw (header-own numbers (h .size)) (h .fit)) (plain (eqb (getD numbers 0 0) 2) refl)
+header-fits numbers h = and-intro {a = inRanges nextInHeader [] (headerNumbers (headerOf numbers))} (rw (header-own numbers (h .size)) (h .fit))
+    (plain (eqb (getD numbers 0 0) 2) refl)
   where
     plain : (t : Bool) → eqb (getD numbers 0 0) 2 ≡ t → eqb (headerOf numbers .kind) 2 || eqb (headerOf numbers .panel) 1 ≡ true
     plain true e = simp e
@@ -111,7 +114,8 @@ unfolding hazardInRange
 hazard-fits h numbers f = rw (hazard-own numbers (ap length (f .whole) ∙ f .size), f .whole) (f .fit)
 
 -- All hazards read fit, and there are as many as asked for.
-hazards-fit : (h : Header) (k : ℕ) (got : List Hazard) (s : List ℕ) (at : ℕ) (r : Hazards) → ((z : Hazard) → List·Memᴰ z got → HazardFits h z) → readHazards h k got s at ≡ accepted r → HazardsFit h (length got + k) (r .list)
+hazards-fit : (h : Header) (k : ℕ) (got : List Hazard) (s : List ℕ) (at : ℕ) (r : Hazards) → ((z : Hazard) → List·Memᴰ z got → HazardFits h z)
+    → readHazards h k got s at ≡ accepted r → HazardsFit h (length got + k) (r .list)
 unfolding readHazards
 hazards-fit h zero got s at r all e =
     let w : record { list = got; next = at } ≡ r = cc in
@@ -150,9 +154,12 @@ job-fits s j e =
     let b2 = bound (readHazards (headerOf (b1 .first .numbers)) (headerOf (b1 .first .numbers) .count) [] s (b1 .first .next)) _ j (b1 .rest) in
     let b3 = bound (unless-refuse (leb (length s) (b2 .first .next)) (Row.LeftOver (b2 .first .next))) _ j (b2 .rest) in
     finish (b1 .first) (b2 .first) (header-fits (b1 .first .numbers) (header-in s (b1 .first) (b1 .taken)))
-    (subst (λ (n : ℕ). HazardsFit (headerOf (b1 .first .numbers)) n (b2 .first .list)) (zero-add _) (hazards-fit (headerOf (b1 .first .numbers)) (headerOf (b1 .first .numbers) .count) [] s (b1 .first .next) (b2 .first) (λ z m. absurd (List·Memᴰ·not-nil m)) (b2 .taken))) (b3 .rest)
+    (subst (λ (n : ℕ). HazardsFit (headerOf (b1 .first .numbers)) n (b2 .first .list)) (zero-add _)
+    (hazards-fit (headerOf (b1 .first .numbers)) (headerOf (b1 .first .numbers) .count) [] s (b1 .first .next) (b2 .first) (λ z m. absurd (List·Memᴰ·not-nil m))
+    (b2 .taken))) (b3 .rest)
   where
-    finish : (f : Fields) (r : Hazards) → HeaderFits (headerOf (f .numbers)) → HazardsFit (headerOf (f .numbers)) (headerOf (f .numbers) .count) (r .list) → accepted (record { header = headerOf (f .numbers); hazards = r .list }) ≡ accepted j → JobFits j
+    finish : (f : Fields) (r : Hazards) → HeaderFits (headerOf (f .numbers)) → HazardsFit (headerOf (f .numbers)) (headerOf (f .numbers) .count) (r .list)
+        → accepted (record { header = headerOf (f .numbers); hazards = r .list }) ≡ accepted j → JobFits j
     finish f r hf hr c =
         let w : record { header = headerOf (f .numbers); hazards = r .list } ≡ j = cc in
         subst JobFits w (record { header = hf; hazards = hr })

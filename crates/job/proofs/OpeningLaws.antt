@@ -30,7 +30,8 @@ rest-header h k got s at j e =
 module _ (s : List ℕ) where
   pub job-header : {x : HeaderReading} {j : Job} → headerAt s ≡ accepted x → readJob s ≡ accepted j → j .header ≡ x .header
   job-header {x} {j} read e =
-      let rest : readRest (x .header) (x .header .count) [] s (x .next) ≡ accepted j = sym (ap (λ (a : Answer HeaderReading). a >>= λ y. readRest (y .header) (y .header .count) [] s (y .next)) read) ∙ sym (job-step s) ∙ e in
+      let rest : readRest (x .header) (x .header .count) [] s (x .next) ≡ accepted j =
+      sym (ap (λ (a : Answer HeaderReading). a >>= λ y. readRest (y .header) (y .header .count) [] s (y .next)) read) ∙ sym (job-step s) ∙ e in
       rest-header (x .header) (x .header .count) [] s (x .next) j rest
 
   pub opening-unread : (x : Refusal) → headerAt s ≡ refusal x → readOpening s ≡ refusal x

@@ -47,9 +47,11 @@ to-last a b some = go (decLt a b)
 -- Numbers
 
 module _ (rangeOf : List ℕ → Bounds) where
-  pub ranges-cons : (got : List ℕ) (x : ℕ) (xs : List ℕ) → inRanges rangeOf got (x ∷ xs) ≡ true → (within (rangeOf got) x ≡ true) × (inRanges rangeOf (got ++ x ∷ []) xs ≡ true)
+  pub ranges-cons : (got : List ℕ) (x : ℕ) (xs : List ℕ) → inRanges rangeOf got (x ∷ xs) ≡ true
+      → (within (rangeOf got) x ≡ true) × (inRanges rangeOf (got ++ x ∷ []) xs ≡ true)
   unfolding inRanges
-  ranges-cons got x xs e = (and-left (within (rangeOf got) x) (inRanges rangeOf (got ++ x ∷ []) xs) e, and-right (within (rangeOf got) x) (inRanges rangeOf (got ++ x ∷ []) xs) e)
+  ranges-cons got x xs e =
+      (and-left (within (rangeOf got) x) (inRanges rangeOf (got ++ x ∷ []) xs) e, and-right (within (rangeOf got) x) (inRanges rangeOf (got ++ x ∷ []) xs) e)
 
   -- The number at an index, by those before it.
   ranges-at : (got xs : List ℕ) → inRanges rangeOf got xs ≡ true → (i : ℕ) → i < length xs → within (rangeOf (got ++ take i xs)) (getD xs i 0) ≡ true
@@ -146,7 +148,8 @@ header-bounds h fits =
     high : (i : ℕ) → i < 13 → getD (sharedNumbers h) i 0 ≤ nextInHeader (take i (sharedNumbers h)) .high
     high = ranges-high nextInHeader (sharedNumbers h) (parts .0)
 
-    behind : (t : Bool) → eqb (h .kind) 2 ≡ t → inRanges nextInHeader (sharedNumbers h) (if t then h .panel ∷ h .count ∷ [] else h .count ∷ []) ≡ true → t || eqb (h .panel) 1 ≡ true
+    behind : (t : Bool) → eqb (h .kind) 2 ≡ t → inRanges nextInHeader (sharedNumbers h) (if t then h .panel ∷ h .count ∷ [] else h .count ∷ []) ≡ true
+        → t || eqb (h .panel) 1 ≡ true
         → (1 ≤ h .panel) × (h .panel ≤ 10000) × (h .count ≤ 256)
     behind true e f p =
         let t = rw e at f in
@@ -201,7 +204,8 @@ pub header-most : (got : List ℕ) → nextInHeader got .high ≤ greatestNumber
 unfolding headerRanges sharedRanges allOf
 header-most got = go (getD got 0 0) (getD got 1 0) (length got)
   where
-    others : (t : Bool) → allOf (λ (r : Bounds). leb (r .high) greatestNumber) (drop 3 (sharedRanges 0) ++ (if t then 1 to 10000 ∷ 0 to 256 ∷ [] else 0 to 256 ∷ [])) ≡ true
+    others : (t : Bool) → allOf (λ (r : Bounds). leb (r .high) greatestNumber)
+        (drop 3 (sharedRanges 0) ++ (if t then 1 to 10000 ∷ 0 to 256 ∷ [] else 0 to 256 ∷ [])) ≡ true
     others true = refl
     others false = refl
 

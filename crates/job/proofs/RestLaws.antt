@@ -33,7 +33,8 @@ hazards-step : (h : Header) (k : ℕ) (got : List Hazard) (s : List ℕ) (at : �
 unfolding readRest readHazards readHazardAt
 hazards-step h k got s at =
     let m = readFields (nextInHazard h) (outsideHazard (length got)) 6 [] s at in
-    bind-assoc m (λ f. readHazards h k (got ++ hazardOf (f .numbers) ∷ []) s (f .next)) _ ∙ sym (bind-assoc m (λ f. accepted (hazardReading f)) (λ z. readRest h k (got ++ z .hazard ∷ []) s (z .next)))
+    bind-assoc m (λ f. readHazards h k (got ++ hazardOf (f .numbers) ∷ []) s (f .next)) _ ∙ sym
+    (bind-assoc m (λ f. accepted (hazardReading f)) (λ z. readRest h k (got ++ z .hazard ∷ []) s (z .next)))
 
 -- Where none is given, all are read.
 pub none-given : (h : Header) (k : ℕ) (got : List Hazard) (s : List ℕ) (at : ℕ) → hazardsFrom h [] k got s at ≡ readRest h k got s at
@@ -83,7 +84,8 @@ pub next-given : (h : Header) (given : List Hazard) (index : ℕ) (s : List ℕ)
     → nextHazard h given index s at ≡ accepted (record { hazard = getD given index (hazardOf []); next = at })
 next-given h given index s at l = rw (lt-ltb index (length given) l)
 
-pub next-read : (h : Header) (given : List Hazard) (index : ℕ) (s : List ℕ) (at : ℕ) → length given ≤ index → nextHazard h given index s at ≡ readHazardAt h index s at
+pub next-read : (h : Header) (given : List Hazard) (index : ℕ) (s : List ℕ) (at : ℕ) → length given ≤ index
+    → nextHazard h given index s at ≡ readHazardAt h index s at
 next-read h given index s at l = rw (le-ltb index (length given) l)
 
 -- It lies in its ranges, where those given do.

@@ -27,16 +27,19 @@ use Rattle.number.proofs.FormLaws.{read-ended, read-malformed}
 use Rattle.job.specs.declared.Header.{Header}
 use Rattle.job.specs.declared.Hazard.{Hazard}
 use Rattle.job.specs.declared.Bounds.{Bounds}
-use Rattle.job.specs.Job.{Job, within, nextInHeader, nextInHazard, Fields, readFields, moreNumbers, readHeader, headerOf, hazardOf, Hazards, readHazards, readRest, readJob, outsideHeader, outsideHazard}
+use Rattle.job.specs.Job.{Job, within, nextInHeader, nextInHazard, Fields, readFields, moreNumbers, readHeader, headerOf, hazardOf, Hazards, readHazards}
+use Rattle.job.specs.Job.{readRest, readJob, outsideHeader, outsideHazard}
 use Rattle.job.specs.Writing.{headerNumbers, hazardNumbers, hazardsNumbers, numbersOf, writeNumbers, writeJob}
 use Rattle.job.specs.Fits.{inRanges, HazardFits}
-use Rattle.job.specs.Rows.{Group, ofHeader, ofHazard, HasGroup, sizeOf, nextIn, numbersBefore, BeforeFits, BeginsWith, indexAfter, NextNumber, OutOfRange, ReadRow, ended, malformed, header-range, hazard-range, left-over}
+use Rattle.job.specs.Rows.{Group, ofHeader, ofHazard, HasGroup, sizeOf, nextIn, numbersBefore, BeforeFits, BeginsWith, indexAfter, NextNumber, OutOfRange}
+use Rattle.job.specs.Rows.{ReadRow, ended, malformed, header-range, hazard-range, left-over}
 use Rattle.job.proofs.RangeLaws.{ranges-parts}
 use Rattle.job.proofs.JobLaws.{FieldsIn, fields-in, HeaderIn, header-in, header-own, header-fits, hazard-own, hazard-fits}
 use Rattle.job.proofs.StandLaws.{numbers-append, outsideOf, row-refused}
 
 -- A number more behind others that are in their ranges.
-ranges-more : (rangeOf : List ℕ → Bounds) (xs : List ℕ) (x : ℕ) → inRanges rangeOf [] xs ≡ true → within (rangeOf xs) x ≡ true → inRanges rangeOf [] (xs ++ x ∷ []) ≡ true
+ranges-more : (rangeOf : List ℕ → Bounds) (xs : List ℕ) (x : ℕ) → inRanges rangeOf [] xs ≡ true → within (rangeOf xs) x ≡ true
+    → inRanges rangeOf [] (xs ++ x ∷ []) ≡ true
 unfolding inRanges
 ranges-more rangeOf xs x fit w = ranges-parts rangeOf [] xs (x ∷ []) ∙ and-intro fit (and-intro w refl)
 
@@ -94,12 +97,14 @@ more-room first long ys l = go (eqb (getD first 0 0) 2) refl l
     go false e few = absurd (omega arith)
 
 module _ {s : List ℕ} (b : Bytes s) where
-  at-more : {g : Group} {got : List ℕ} {at : ℕ} (x n : ℕ) → At s g got at → readNumber s at ≡ Number x n → within (nextIn g got) x ≡ true → At s g (got ++ x ∷ []) n
+  at-more : {g : Group} {got : List ℕ} {at : ℕ} (x n : ℕ) → At s g got at → readNumber s at ≡ Number x n → within (nextIn g got) x ≡ true
+      → At s g (got ++ x ∷ []) n
   unfolding writeNumbers
   at-more {g} {got} {at} x n here e w =
       let number = read-stands s at x n b e in
       let W = writeNumbers (numbersBefore g ++ got) in
-      let more : writeNumbers (numbersBefore g ++ (got ++ x ∷ [])) ≡ W ++ writeNumber x = rw (← append-assoc) (numbers-append (numbersBefore g ++ got) (x ∷ []) ∙ rw append-nil) in
+      let more : writeNumbers (numbersBefore g ++ (got ++ x ∷ [])) ≡ W ++ writeNumber x =
+      rw (← append-assoc) (numbers-append (numbersBefore g ++ got) (x ∷ []) ∙ rw append-nil) in
       record {
         stands = record {
           before = here .stands .before;
@@ -134,13 +139,25 @@ module _ {s : List ℕ} (b : Bytes s) where
           outside-holds g got (record { number = x; rest = drop n s; next = subst (NextNumber s g got) (number .split) next; fits = number .fits; outside = w })
 
       go : (c : Read) → readNumber s at ≡ c → Later
-          → GroupSaid s g (readingOf at c >>= λ x. unless-refuse (within (nextIn g got) (x .value)) (outsideOf g got) >>= λ _. readFields (nextIn g) (outsideOf g) k (got ++ x .value ∷ []) s (x .next))
+          → GroupSaid s g (readingOf at c >>= λ x. unless-refuse (within (nextIn g got) (x .value)) (outsideOf g got)
+          >>= λ _. readFields (nextIn g) (outsideOf g) k (got ++ x .value ∷ []) s (x .next))
       go (Number x n) e later = tested x n e (within (nextIn g got) x) refl later
-      go Ended e later = record { which = Row.Ended at; number = refl; value = refl; row = ended at refl (record { group = g; got = got; rest = drop at s; next = next; fault = read-ended s at .0 e; begins = here .index }) }
-      go Malformed e later = record { which = Row.Malformed at; number = refl; value = refl; row = malformed at refl (record { group = g; got = got; rest = drop at s; next = next; fault = read-malformed s at b .0 e; begins = here .index }) }
+      go Ended e later = record {
+        which = Row.Ended at;
+        number = refl;
+        value = refl;
+        row = ended at refl (record { group = g; got = got; rest = drop at s; next = next; fault = read-ended s at .0 e; begins = here .index });
+      }
+      go Malformed e later = record {
+        which = Row.Malformed at;
+        number = refl;
+        value = refl;
+        row = malformed at refl (record { group = g; got = got; rest = drop at s; next = next; fault = read-malformed s at b .0 e; begins = here .index });
+      }
 
   -- The same numbers, taken to another group.
-  at-group : {g q : Group} {got own : List ℕ} {at : ℕ} → numbersBefore g ++ got ≡ numbersBefore q ++ own → BeforeFits q → inRanges (nextIn q) [] own ≡ true → At s g got at → At s q own at
+  at-group : {g q : Group} {got own : List ℕ} {at : ℕ} → numbersBefore g ++ got ≡ numbersBefore q ++ own → BeforeFits q → inRanges (nextIn q) [] own ≡ true
+      → At s g got at → At s q own at
   at-group {at = at} same before fit here =
       record {
         stands = record { before = before; own = fit; bytes = here .stands .bytes ∙ ap (λ (l : List ℕ). writeNumbers l ++ drop at s) same };
@@ -149,27 +166,34 @@ module _ {s : List ℕ} (b : Bytes s) where
 
   at-first : {numbers : List ℕ} {at : ℕ} → HeaderIn numbers → At s ofHeader numbers at → At s (ofHazard (headerOf numbers) []) [] at
   unfolding numbersOf hazardsNumbers inRanges
-  at-first {numbers} fit here = at-group (sym (header-own numbers (fit .size)) ∙ simp append-nil) (header-fits numbers fit, λ z m. absurd (List·Memᴰ·not-nil m)) refl here
+  at-first {numbers} fit here =
+      at-group (sym (header-own numbers (fit .size)) ∙ simp append-nil) (header-fits numbers fit, λ z m. absurd (List·Memᴰ·not-nil m)) refl here
 
-  at-next : {h : Header} {zs : List Hazard} {numbers : List ℕ} {at : ℕ} → FieldsIn (nextInHazard h) 6 [] numbers → At s (ofHazard h zs) numbers at → At s (ofHazard h (zs ++ hazardOf numbers ∷ [])) [] at
+  at-next : {h : Header} {zs : List Hazard} {numbers : List ℕ} {at : ℕ} → FieldsIn (nextInHazard h) 6 [] numbers → At s (ofHazard h zs) numbers at
+      → At s (ofHazard h (zs ++ hazardOf numbers ∷ [])) [] at
   unfolding numbersOf hazardsNumbers inRanges
   at-next {h} {zs} {numbers} fit here =
       let own = hazard-own numbers (ap length (fit .whole) ∙ fit .size) in
-      let more : hazardsNumbers (zs ++ hazardOf numbers ∷ []) ≡ hazardsNumbers zs ++ numbers = hazards-append zs (hazardOf numbers ∷ []) ∙ simp (append-nil, own) in
-      at-group (append-assoc (headerNumbers h) (hazardsNumbers zs) numbers ∙ ap (λ (l : List ℕ). headerNumbers h ++ l) (sym more) ∙ sym (append-nil (headerNumbers h ++ hazardsNumbers (zs ++ hazardOf numbers ∷ []))))
+      let more : hazardsNumbers (zs ++ hazardOf numbers ∷ []) ≡ hazardsNumbers zs ++ numbers =
+      hazards-append zs (hazardOf numbers ∷ []) ∙ simp (append-nil, own) in
+      at-group (append-assoc (headerNumbers h) (hazardsNumbers zs) numbers ∙ ap (λ (l : List ℕ). headerNumbers h ++ l) (sym more)
+      ∙ sym (append-nil (headerNumbers h ++ hazardsNumbers (zs ++ hazardOf numbers ∷ []))))
       (here .stands .before .0, snoc-each (HazardFits h) zs (here .stands .before .1) (hazard-fits h numbers fit)) refl here
 
-  hazards-read : (h : Header) (k : ℕ) (zs : List Hazard) (at : ℕ) → length zs + k ≡ h .count → At s (ofHazard h zs) [] at → HazardsSaid s h (readHazards h k zs s at)
+  hazards-read : (h : Header) (k : ℕ) (zs : List Hazard) (at : ℕ) → length zs + k ≡ h .count → At s (ofHazard h zs) [] at
+      → HazardsSaid s h (readHazards h k zs s at)
   unfolding readHazards
   hazards-read h zero zs at size here = (here, omega arith)
   hazards-read h (suc k) zs at size here =
-      go (readFields (nextInHazard h) (outsideHazard (length zs)) 6 [] s at) refl (group-read (ofHazard h zs) (omega arith) 6 [] at (λ ys l. l) here) (hazards-read h k)
+      go (readFields (nextInHazard h) (outsideHazard (length zs)) 6 [] s at) refl (group-read (ofHazard h zs) (omega arith) 6 [] at (λ ys l. l) here)
+      (hazards-read h k)
     where
       go : (a : Answer Fields) → readFields (nextInHazard h) (outsideHazard (length zs)) 6 [] s at ≡ a → GroupSaid s (ofHazard h zs) a
           → ((ys : List Hazard) (i : ℕ) → length ys + k ≡ h .count → At s (ofHazard h ys) [] i → HazardsSaid s h (readHazards h k ys s i))
           → HazardsSaid s h (a >>= λ f. readHazards h k (zs ++ hazardOf (f .numbers) ∷ []) s (f .next))
       go (accepted f) e r later =
-          later (zs ++ hazardOf (f .numbers) ∷ []) (f .next) (rw length-append (omega arith)) (at-next (fields-in (nextInHazard h) (outsideHazard (length zs)) 6 [] s at f e) r)
+          later (zs ++ hazardOf (f .numbers) ∷ []) (f .next) (rw length-append (omega arith))
+          (at-next (fields-in (nextInHazard h) (outsideHazard (length zs)) 6 [] s at f e) r)
       go (refused n v) e r later = r
 
   header-group : GroupSaid s ofHeader (readHeader s)
@@ -197,14 +221,24 @@ module _ {s : List ℕ} (b : Bytes s) where
             which = Row.LeftOver (r .next);
             number = refl;
             value = refl;
-            row = left-over (r .next) refl (record { job = record { header = h; hazards = r .list }; rest = drop (r .next) s; all = size; stands = here .stands; some = rw length-drop (omega (arith, leb-false (length s) (r .next) l)); first = here .index });
+            row = left-over (r .next) refl (record {
+              job = record { header = h; hazards = r .list };
+              rest = drop (r .next) s;
+              all = size;
+              stands = here .stands;
+              some = rw length-drop (omega (arith, leb-false (length s) (r .next) l));
+              first = here .index;
+            });
           }
 
-      hazards : (h : Header) (a : Answer Hazards) → HazardsSaid s h a → JobSaid s (a >>= λ r. unless-refuse (leb (length s) (r .next)) (Row.LeftOver (r .next)) >>= λ _. accepted (record { header = h; hazards = r .list }))
+      hazards : (h : Header) (a : Answer Hazards) → HazardsSaid s h a
+          → JobSaid s (a >>= λ r. unless-refuse (leb (length s) (r .next)) (Row.LeftOver (r .next))
+          >>= λ _. accepted (record { header = h; hazards = r .list }))
       hazards h (accepted r) w = over h r (w .0) (w .1) (leb (length s) (r .next)) refl
       hazards h (refused n v) w = w
 
-      header : (a : Answer Fields) → readHeader s ≡ a → GroupSaid s ofHeader a → JobSaid s (a >>= λ f. let h = headerOf (f .numbers) in readRest h (h .count) [] s (f .next))
+      header : (a : Answer Fields) → readHeader s ≡ a → GroupSaid s ofHeader a
+          → JobSaid s (a >>= λ f. let h = headerOf (f .numbers) in readRest h (h .count) [] s (f .next))
       header (accepted f) e w =
           let h = headerOf (f .numbers) in
           hazards h (readHazards h (h .count) [] s (f .next)) (hazards-read h (h .count) [] (f .next) (zero-add (h .count)) (at-first (header-in s f e) w))

@@ -25,10 +25,12 @@ use Rattle.number.proofs.FormLaws.{read-ended, ill-formed}
 use Rattle.job.specs.declared.Header.{Header}
 use Rattle.job.specs.declared.Hazard.{Hazard}
 use Rattle.job.specs.declared.Bounds.{Bounds}
-use Rattle.job.specs.Job.{headerWith, headerOf, nextInHeader, nextInHazard, readFields, moreNumbers, readHeader, readHazards, readRest, readJob, outsideHeader, outsideHazard, sharedNumbers}
+use Rattle.job.specs.Job.{headerWith, headerOf, nextInHeader, nextInHazard, readFields, moreNumbers, readHeader, readHazards, readRest, readJob}
+use Rattle.job.specs.Job.{outsideHeader, outsideHazard, sharedNumbers}
 use Rattle.job.specs.Writing.{headerNumbers, hazardNumbers, hazardsNumbers, numbersOf, writeNumbers}
 use Rattle.job.specs.Fits.{inRanges, hazardInRange, HeaderFits, HazardFits}
-use Rattle.job.specs.Rows.{Group, ofHeader, ofHazard, nextIn, numbersBefore, BeforeFits, BeginsWith, indexAfter, NextNumber, Unread, OutOfRange, BytesAfter, ReadRow, ended, malformed, header-range, hazard-range, left-over}
+use Rattle.job.specs.Rows.{Group, ofHeader, ofHazard, nextIn, numbersBefore, BeforeFits, BeginsWith, indexAfter, NextNumber, Unread, OutOfRange}
+use Rattle.job.specs.Rows.{BytesAfter, ReadRow, ended, malformed, header-range, hazard-range, left-over}
 use Rattle.job.proofs.RangeLaws.{within-high, ranges-cons, ranges-split, header-split, header-bounds, header-most, hazard-most}
 
 pub numbers-append : (xs ys : List ℕ) → writeNumbers (xs ++ ys) ≡ writeNumbers xs ++ writeNumbers ys
@@ -50,9 +52,14 @@ fields-behind rangeOf most outside zero k (x ∷ xs) got s at rest size fit e = 
 fields-behind rangeOf most outside (suc m) k (x ∷ xs) got s at rest size fit e =
     let fits = ranges-cons rangeOf got x xs fit in
     let here : drop at s ≡ writeNumber x ++ (writeNumbers xs ++ rest) = e ∙ append-assoc (writeNumber x) (writeNumbers xs) rest in
-    let later = fields-behind rangeOf most outside m k xs (got ++ x ∷ []) s (at + length (writeNumber x)) rest (omega arith) (fits .1) (drop-after s at (writeNumber x) (writeNumbers xs ++ rest) here) in
+    let later = fields-behind rangeOf most outside m k xs (got ++ x ∷ []) s (at + length (writeNumber x)) rest (omega arith) (fits .1)
+    (drop-after s at (writeNumber x) (writeNumbers xs ++ rest) here) in
     rw (read-number s at x (writeNumbers xs ++ rest) (omega (arith, within-high (rangeOf got) x (fits .0), most got)) here, fits .0)
-    (later ∙ rw (append-assoc got (x ∷ []) xs, length-append (writeNumber x) (writeNumbers xs), (let z : at + (length (writeNumber x) + length (writeNumbers xs)) ≡ at + length (writeNumber x) + length (writeNumbers xs) = omega arith in z)))
+    (later ∙ rw (
+      append-assoc got (x ∷ []) xs,
+      length-append (writeNumber x) (writeNumbers xs),
+      (let z : at + (length (writeNumber x) + length (writeNumbers xs)) ≡ at + length (writeNumber x) + length (writeNumbers xs) = omega arith in z),
+    ))
 
 fields-written : (rangeOf : List ℕ → Bounds) → Within rangeOf → (outside : List ℕ → Refusal) (xs s : List ℕ) (at : ℕ) (rest : List ℕ)
     → inRanges rangeOf [] xs ≡ true → drop at s ≡ writeNumbers xs ++ rest
@@ -61,7 +68,8 @@ unfolding readFields
 fields-written rangeOf most outside xs s at rest fit e = fields-behind rangeOf most outside (length xs) 0 xs [] s at rest (omega arith) fit e
 
 -- A header: fourteen numbers, and as many more as its kind has.
-header-behind : (first more s rest : List ℕ) → inRanges nextInHeader [] first ≡ true → inRanges nextInHeader first more ≡ true → length first ≡ 14 → moreNumbers first ≡ length more
+header-behind : (first more s rest : List ℕ) → inRanges nextInHeader [] first ≡ true → inRanges nextInHeader first more ≡ true → length first ≡ 14
+    → moreNumbers first ≡ length more
     → s ≡ writeNumbers (first ++ more) ++ rest → readHeader s ≡ accepted (record { numbers = first ++ more; next = length (writeNumbers (first ++ more)) })
 unfolding readHeader readFields
 header-behind first more s rest fit later long count e =
@@ -69,7 +77,8 @@ header-behind first more s rest fit later long count e =
     let two = writeNumbers more in
     let here : s ≡ one ++ (two ++ rest) = e ∙ ap (λ (l : List ℕ). l ++ rest) (numbers-append first more) ∙ append-assoc one two rest in
     let fourteen = fields-behind nextInHeader header-most outsideHeader 14 0 first [] s 0 (two ++ rest) (omega (arith, long)) fit here in
-    let others = fields-behind nextInHeader header-most outsideHeader (moreNumbers first) 0 more first s (0 + length one) rest (omega (arith, count)) later (drop-after s 0 one (two ++ rest) here) in
+    let others = fields-behind nextInHeader header-most outsideHeader (moreNumbers first) 0 more first s (0 + length one) rest (omega (arith, count)) later
+    (drop-after s 0 one (two ++ rest) here) in
     rw (fourteen, others, numbers-append first more, length-append one two, zero-add (length one))
 
 header-written : (h : Header) (s rest : List ℕ) → inRanges nextInHeader [] (headerNumbers h) ≡ true → s ≡ writeNumbers (headerNumbers h) ++ rest
@@ -94,7 +103,8 @@ header-written h s rest fit e = go (eqb (h .kind) 2) refl fit e
 header-again : (h : Header) → HeaderFits h → headerOf (headerNumbers h) ≡ h
 header-again h fits = go (eqb (h .kind) 2) refl (header-split h fits .1)
   where
-    go : (t : Bool) → eqb (h .kind) 2 ≡ t → t || eqb (h .panel) 1 ≡ true → headerOf (sharedNumbers h ++ (if eqb (h .kind) 2 then h .panel ∷ h .count ∷ [] else h .count ∷ [])) ≡ h
+    go : (t : Bool) → eqb (h .kind) 2 ≡ t → t || eqb (h .panel) 1 ≡ true
+        → headerOf (sharedNumbers h ++ (if eqb (h .kind) 2 then h .panel ∷ h .count ∷ [] else h .count ∷ [])) ≡ h
     go true e plain = rw e
     go false e plain = rw e (ap (λ (p : ℕ). headerWith (sharedNumbers h ++ h .count ∷ []) p (h .count)) (sym (eqb-true (h .panel) 1 plain)))
 
@@ -112,9 +122,15 @@ hazards-behind h most (suc m) k (z ∷ zs) got s at rest size fit e =
     let both : writeNumbers (hazardNumbers z ++ hazardsNumbers zs) ≡ one ++ others = numbers-append (hazardNumbers z) (hazardsNumbers zs) in
     let here : drop at s ≡ one ++ (others ++ rest) = e ∙ ap (λ (l : List ℕ). l ++ rest) both ∙ append-assoc one others rest in
     let first = fields-written (nextInHazard h) most (outsideHazard (length got)) (hazardNumbers z) s at (others ++ rest) (fit z (List·Memᴰ·head refl)) here in
-    let later = hazards-behind h most m k zs (got ++ z ∷ []) s (at + length one) rest (omega arith) (λ y i. fit y (List·Memᴰ·tail i)) (drop-after s at one (others ++ rest) here) in
+    let later = hazards-behind h most m k zs (got ++ z ∷ []) s (at + length one) rest (omega arith) (λ y i. fit y (List·Memᴰ·tail i))
+    (drop-after s at one (others ++ rest) here) in
     rw first
-    (later ∙ rw (append-assoc got (z ∷ []) zs, both, length-append one others, (let w : at + (length one + length others) ≡ at + length one + length others = omega arith in w)))
+    (later ∙ rw (
+      append-assoc got (z ∷ []) zs,
+      both,
+      length-append one others,
+      (let w : at + (length one + length others) ≡ at + length one + length others = omega arith in w),
+    ))
 
 -- The header and hazards.
 behind-own : (g : Group) (got : List ℕ) → indexAfter g got ≡ indexAfter g [] + length (writeNumbers got)
@@ -139,7 +155,8 @@ job-behind {s} {h} {zs} {got} {rest} k stands count =
     let split : s ≡ one ++ (others ++ (writeNumbers got ++ rest)) = stands .bytes ∙ simp (numbers-append, append-assoc) in
     let fits : HeaderFits h = stands .before .0 in
     let header = header-written h s (others ++ (writeNumbers got ++ rest)) (header-split h fits .0) split in
-    let hazards = hazards-behind h (group-most (ofHazard h zs) (stands .before)) (h .count) k zs [] s (length one) (writeNumbers got ++ rest) count (stands .before .1) (rw (zero-add (length one)) at (drop-after s 0 one (others ++ (writeNumbers got ++ rest)) split)) in
+    let hazards = hazards-behind h (group-most (ofHazard h zs) (stands .before)) (h .count) k zs [] s (length one) (writeNumbers got ++ rest) count
+    (stands .before .1) (rw (zero-add (length one)) at (drop-after s 0 one (others ++ (writeNumbers got ++ rest)) split)) in
     let index : length one + length others ≡ indexAfter (ofHazard h zs) [] = simp (append-nil, numbers-append, length-append) (omega arith) in
     rw (header, header-again h fits, hazards, index)
 
@@ -157,7 +174,8 @@ module _ {s : List ℕ} where
       → readFields (nextIn g) (outsideOf g) size [] s (indexAfter g []) ≡ refused n v
   own-refused {g} {got} {rest} n v size more stands e =
       let left = size - suc (length got) in
-      fields-behind (nextIn g) (group-most g (stands .before)) (outsideOf g) size (suc left) got [] s (indexAfter g []) rest (omega arith) (stands .own) (bytes-behind stands)
+      fields-behind (nextIn g) (group-most g (stands .before)) (outsideOf g) size (suc left) got [] s (indexAfter g []) rest (omega arith) (stands .own)
+      (bytes-behind stands)
       ∙ rw (sym (behind-own g got)) (e left)
 
   -- Of the header, among its first fourteen numbers or behind them.
@@ -186,16 +204,20 @@ module _ {s : List ℕ} where
   rest-behind : {g : Group} {got rest : List ℕ} → BeginsWith s g got rest → drop (indexAfter g got) s ≡ rest
   rest-behind {g} {got} {rest} stands = rw (stands .bytes) (drop-append-seam (writeNumbers (numbersBefore g ++ got)) rest)
 
-  unread-refused : {Fault : List ℕ → Type 0} {at : ℕ} (n : ℕ) (c : Read) → ((i : ℕ) → readingOf i c ≡ refused n i) → ((i : ℕ) → Fault (drop i s) → readNumber s i ≡ c)
+  unread-refused : {Fault : List ℕ → Type 0} {at : ℕ} (n : ℕ) (c : Read) → ((i : ℕ) → readingOf i c ≡ refused n i)
+      → ((i : ℕ) → Fault (drop i s) → readNumber s i ≡ c)
       → Unread Fault s at → readJob s ≡ refused n at
   unfolding readFields numberAt
   unread-refused n c number fault w =
-      number-refused (w .group) n _ (w .next) (λ k. rw (fault (indexAfter (w .group) (w .got)) (rw (rest-behind (w .next .stands)) (w .fault)), number (indexAfter (w .group) (w .got))) (ap (refused n) (sym (w .begins))))
+      number-refused (w .group) n _ (w .next) (λ k. rw
+      (fault (indexAfter (w .group) (w .got)) (rw (rest-behind (w .next .stands)) (w .fault)), number (indexAfter (w .group) (w .got)))
+      (ap (refused n) (sym (w .begins))))
 
   outside-refused : {g : Group} {got : List ℕ} → OutOfRange s g got → readJob s ≡ refusal (outsideOf g got)
   unfolding readFields
   outside-refused {g} {got} w =
-      number-refused g (numberOf (outsideOf g got)) (valueOf (outsideOf g got)) (w .next) (λ k. rw (read-number s (indexAfter g got) (w .number) (w .rest) (w .fits) (rest-behind (w .next .stands)), w .outside))
+      number-refused g (numberOf (outsideOf g got)) (valueOf (outsideOf g got)) (w .next)
+      (λ k. rw (read-number s (indexAfter g got) (w .number) (w .rest) (w .fits) (rest-behind (w .next .stands)), w .outside))
 
   after-refused : {at : ℕ} → BytesAfter s at → readJob s ≡ refused 7 at
   unfolding readRest readHazards

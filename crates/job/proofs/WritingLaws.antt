@@ -30,7 +30,8 @@ unfolding readRest readHazards writeJob inRanges
 job-written j fits =
     let g = ofHazard (j .header) (j .hazards) in
     let stands : BeginsWith (writeJob j) g [] [] = record { before = (fits .header, fits .hazards .each); own = refl; bytes = simp append-nil } in
-    job-behind 0 stands (omega (arith, fits .hazards .count)) ∙ rw (le-leb (length (writeJob j)) (indexAfter g []) (omega (arith, ap length (stands .bytes), length-append (writeNumbers (numbersOf j ++ [])) [])))
+    job-behind 0 stands (omega (arith, fits .hazards .count))
+    ∙ rw (le-leb (length (writeJob j)) (indexAfter g []) (omega (arith, ap length (stands .bytes), length-append (writeNumbers (numbersOf j ++ [])) [])))
 
 -- The length of a writing
 
@@ -82,7 +83,8 @@ hazard-length h z road f =
     let level = number-within 0 (z .level) (omega (arith, f .level-top)) in
     simp length-append (omega arith)
 
-hazards-length : (h : Header) (zs : List Hazard) → h .end ≤ 1000000000000 → ((z : Hazard) → List·Memᴰ z zs → HazardFits h z) → length (writeNumbers (hazardsNumbers zs)) ≤ 20 * length zs
+hazards-length : (h : Header) (zs : List Hazard) → h .end ≤ 1000000000000 → ((z : Hazard) → List·Memᴰ z zs → HazardFits h z)
+    → length (writeNumbers (hazardsNumbers zs)) ≤ 20 * length zs
 unfolding hazardsNumbers writeNumbers
 hazards-length h [] road fits = omega arith
 hazards-length h (z ∷ zs) road fits =
@@ -95,8 +97,17 @@ pub written-length : (j : Job) → JobFits j → length (writeJob j) ≤ 5162
 unfolding writeJob numbersOf
 written-length j fits =
     let bounds = header-bounds (j .header) (fits .header) in
-    rw (numbers-append (headerNumbers (j .header)) (hazardsNumbers (j .hazards)), length-append (writeNumbers (headerNumbers (j .header))) (writeNumbers (hazardsNumbers (j .hazards))))
-    (omega (arith, header-length (j .header) bounds, hazards-length (j .header) (j .hazards) (bounds .road-end) (fits .hazards .each), fits .hazards .count, bounds .count))
+    rw (
+      numbers-append (headerNumbers (j .header)) (hazardsNumbers (j .hazards)),
+      length-append (writeNumbers (headerNumbers (j .header))) (writeNumbers (hazardsNumbers (j .hazards))),
+    )
+    (omega (
+      arith,
+      header-length (j .header) bounds,
+      hazards-length (j .header) (j .hazards) (bounds .road-end) (fits .hazards .each),
+      fits .hazards .count,
+      bounds .count,
+    ))
 
 pub read-length : (s : List ℕ) (j : Job) → Bytes s → readJob s ≡ accepted j → length s ≤ 5162
 read-length s j b e = omega (arith, ap length (job-is-written s j b e), written-length j (job-fits s j e))

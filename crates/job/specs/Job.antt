@@ -84,7 +84,8 @@ headerRanges kind A = sharedRanges A ++ lastRanges kind
 abbrev pub headerSize : (kind : ℕ) → ℕ
 headerSize kind = if eqb kind 2 then 15 else 14
 
--- "Side (0 right, 1 left); s, from A to B − 1; e, from s + 1 to B; near offset n from the travelled-way edge on its side, 0 to 60,000; far offset f, n to 60,000; level 1 to 6."
+-- "Side (0 right, 1 left); s, from A to B − 1; e, from s + 1 to B; near offset n from the travelled-way edge on its side, 0 to 60,000; far offset f, n to
+-- 60,000; level 1 to 6."
 unfoldable pub hazardRanges : (A B s n : ℕ) → List Bounds
 hazardRanges A B s n = 0 to 1 ∷ A to (B - 1) ∷ (s + 1) to B ∷ 0 to 60000 ∷ n to 60000 ∷ 1 to 6 ∷ []
 
@@ -150,7 +151,8 @@ headerOf l = if eqb (getD l 0 0) 2 then headerWith l (getD l 13 0) (getD l 14 0)
 -- The thirteen numbers that every kind has.
 abbrev pub sharedNumbers : Header → List ℕ
 sharedNumbers h =
-    h .kind ∷ h .begin ∷ h .end ∷ h .forward ∷ h .opposite ∷ h .zone ∷ h .way ∷ h .offset ∷ h .deflection ∷ h .along ∷ h .across ∷ h .straight ∷ h .continuity ∷ []
+    h .kind ∷ h .begin ∷ h .end ∷ h .forward ∷ h .opposite ∷ h .zone ∷ h .way ∷ h .offset ∷ h .deflection ∷ h .along ∷ h .across ∷ h .straight ∷ h .continuity
+    ∷ []
 
 -- A header with another hazard count, and one with another barrier offset.
 abbrev pub counted : Header → (count : ℕ) → Header

@@ -22,7 +22,8 @@ use Rattle.job.specs.declared.hazard_fields.HazardRead.the-variants as H
 use Rattle.job.specs.declared.read.Opening.{Opening}
 use Rattle.job.specs.declared.read.Opening.the-variants as Opening
 use Rattle.job.specs.declared.Bounds.{Bounds}
-use Rattle.job.specs.Job.{Job, named, within, headerSize, Fields, nextInHeader, nextInHazard, readFields, readHeader, headerWith, headerOf, hazardOf, readJob, outsideHeader, outsideHazard}
+use Rattle.job.specs.Job.{Job, named, within, headerSize, Fields, nextInHeader, nextInHazard, readFields, readHeader, headerWith, headerOf, hazardOf}
+use Rattle.job.specs.Job.{readJob, outsideHeader, outsideHazard}
 
 -- One number, for 1, 2 and its range; out of range is the refusal `outside`.
 unfoldable pub fieldAt : Bounds → (outside : Refusal) (s : List ℕ) (at : ℕ) → Answer Reading

@@ -51,7 +51,8 @@ scanned (suc k) (x ∷ xs) = go (decLt x 128) (scan k xs) refl (scanned k xs)
     go : Dec (x < 128) → (c : Scan) → scan k xs ≡ c → Scanned k xs c → Scanned (suc k) (x ∷ xs) (scan (suc k) (x ∷ xs))
     go (yes l) c e r = rw (scan-last k x xs l) tt
     go (no l) cut e r = rw (scan-more k x xs (omega arith), e) (omega (arith, r .0), cons-each (λ y. 128 ≤ y) (omega arith) (r .1))
-    go (no l) overlong e r = rw (scan-more k x xs (omega arith), e) (x ∷ r .0, r .1, ap (λ (l : List ℕ). x ∷ l) (r .2), ap suc (r .3), cons-each (λ y. 128 ≤ y) (omega arith) (r .4))
+    go (no l) overlong e r = rw (scan-more k x xs (omega arith), e)
+        (x ∷ r .0, r .1, ap (λ (l : List ℕ). x ∷ l) (r .2), ap suc (r .3), cons-each (λ y. 128 ≤ y) (omega arith) (r .4))
     go (no l) (whole value groups) e r = rw (scan-more k x xs (omega arith), e) tt
 
 -- Numbers
@@ -61,11 +62,13 @@ unfit : (value groups : ℕ)
     → ((leb value greatestNumber && eqb groups (length (writeNumber value))) ≡ false) ↔ ((greatestNumber < value) ⊎ (groups ≡ groupCount value → ⊥))
 unfit value groups = (to (decLe value greatestNumber), back (decLe value greatestNumber))
   where
-    to : Dec (value ≤ greatestNumber) → (leb value greatestNumber && eqb groups (length (writeNumber value))) ≡ false → (greatestNumber < value) ⊎ (groups ≡ groupCount value → ⊥)
+    to : Dec (value ≤ greatestNumber) → (leb value greatestNumber && eqb groups (length (writeNumber value))) ≡ false
+        → (greatestNumber < value) ⊎ (groups ≡ groupCount value → ⊥)
     to (yes l) e = inr (λ q. eqb-false _ _ (rw (le-leb value greatestNumber l) at e) (q ∙ sym (group-count value l)))
     to (no l) e = inl (omega arith)
 
-    back : Dec (value ≤ greatestNumber) → (greatestNumber < value) ⊎ (groups ≡ groupCount value → ⊥) → (leb value greatestNumber && eqb groups (length (writeNumber value))) ≡ false
+    back : Dec (value ≤ greatestNumber) → (greatestNumber < value) ⊎ (groups ≡ groupCount value → ⊥)
+        → (leb value greatestNumber && eqb groups (length (writeNumber value))) ≡ false
     back (yes l) (inl h) = absurd (omega arith)
     back (yes l) (inr h) = rw (le-leb value greatestNumber l, ne-eqb groups (length (writeNumber value)) (λ q. h (q ∙ group-count value l)))
     back (no l) h = rw (lt-leb value greatestNumber (omega arith))

@@ -20,7 +20,8 @@ behind-first group cut = refl
 behind-first group overlong = refl
 behind-first group (whole value groups) = ap (whole (group + 128 * value)) (let e : suc groups ≡ 1 + groups = omega arith in e)
 
-pub behind-more : (low weight passed group : ℕ) (rest : Scan) → afterGroups low weight passed (prefixed group rest) ≡ afterGroups (low + weight * group) (weight * 128) (passed + 1) rest
+pub behind-more : (low weight passed group : ℕ) (rest : Scan)
+    → afterGroups low weight passed (prefixed group rest) ≡ afterGroups (low + weight * group) (weight * 128) (passed + 1) rest
 behind-more low weight passed group cut = refl
 behind-more low weight passed group overlong = refl
 behind-more low weight passed group (whole value groups) = ap₂ whole (simp (mul-add, mul-assoc, add-assoc)) (omega arith)
@@ -57,7 +58,8 @@ module _ (at low weight passed : ℕ) (some : 0 < passed) (most : passed < 6) (c
       let great = pow-le-pow-right {n = 128} (omega arith) {i = passed} {j = 5} (omega arith) in
       simp (le-leb (low + weight * 0) greatestNumber (omega arith), ne-eqb (passed + 1) (length (writeIn 6 (low + weight * 0))) (λ e. omega arith))
 
-  pub last-whole : (b : ℕ) → 0 < b → b < 128 → low + weight * b ≤ greatestNumber → readOf at (afterGroups low weight passed (whole b 1)) ≡ Number (low + weight * b) (at + (passed + 1))
+  pub last-whole : (b : ℕ) → 0 < b → b < 128 → low + weight * b ≤ greatestNumber
+      → readOf at (afterGroups low weight passed (whole b 1)) ≡ Number (low + weight * b) (at + (passed + 1))
   unfolding writeNumber
   last-whole b pos h fits =
       let least = mul-le-mul-left {m = 1} {n = b} weight pos in
@@ -93,7 +95,8 @@ module _ (low weight passed : ℕ) (s : List ℕ) (at : ℕ) (most : passed < 6)
   read-cut-short h = rw (scan-ended (6 - passed) (at + passed) s (omega arith) h)
 
   module _ (there : at + passed < length s) where
-    pub read-more : 128 ≤ getD s (at + passed) 0 → readAfterGroups low weight passed s at ≡ readAfterGroups (low + weight * (getD s (at + passed) 0 - 128)) (weight * 128) (passed + 1) s at
+    pub read-more : 128 ≤ getD s (at + passed) 0
+        → readAfterGroups low weight passed s at ≡ readAfterGroups (low + weight * (getD s (at + passed) 0 - 128)) (weight * 128) (passed + 1) s at
     unfolding readAfterGroups
     read-more h =
         let left : 6 - passed - 1 ≡ 6 - (passed + 1) = omega arith in
@@ -102,7 +105,8 @@ module _ (low weight passed : ℕ) (s : List ℕ) (at : ℕ) (most : passed < 6)
         ∙ ap (readOf at) (behind-more low weight passed (getD s (at + passed) 0 - 128) (scan (6 - passed - 1) (drop (at + passed + 1) s)))
         ∙ rw (left, next)
 
-    read-last : getD s (at + passed) 0 < 128 → readAfterGroups low weight passed s at ≡ readOf at (afterGroups low weight passed (whole (getD s (at + passed) 0) 1))
+    read-last : getD s (at + passed) 0 < 128
+        → readAfterGroups low weight passed s at ≡ readOf at (afterGroups low weight passed (whole (getD s (at + passed) 0) 1))
     unfolding readAfterGroups
     read-last h = ap (λ (r : Scan). readOf at (afterGroups low weight passed r)) (scan-last-at (6 - passed) (at + passed) s (omega arith) there h)
 
@@ -110,7 +114,8 @@ module _ (low weight passed : ℕ) (s : List ℕ) (at : ℕ) (most : passed < 6)
       pub read-needless : getD s (at + passed) 0 ≡ 0 → readAfterGroups low weight passed s at ≡ Malformed
       read-needless none = read-last (omega arith) ∙ rw none (last-needless at low weight passed some most counts under)
 
-      pub read-whole : 0 < getD s (at + passed) 0 → getD s (at + passed) 0 < 128 → low + weight * getD s (at + passed) 0 ≤ greatestNumber → readAfterGroups low weight passed s at ≡ Number (low + weight * getD s (at + passed) 0) (at + (passed + 1))
+      pub read-whole : 0 < getD s (at + passed) 0 → getD s (at + passed) 0 < 128 → low + weight * getD s (at + passed) 0 ≤ greatestNumber
+          → readAfterGroups low weight passed s at ≡ Number (low + weight * getD s (at + passed) 0) (at + (passed + 1))
       read-whole pos h fits = read-last h ∙ last-whole at low weight passed some most counts under (getD s (at + passed) 0) pos h fits
 
 -- A group less its top bit.

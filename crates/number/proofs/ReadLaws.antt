@@ -14,17 +14,20 @@ use Rattle.base.proofs.ListLaws.{drop-after}
 use Rattle.base.proofs.TestLaws.{and-left, and-right, impossible}
 use Rattle.number.specs.declared.Read.{Read}
 use Rattle.number.specs.declared.Read.the-variants.{Number, Ended, Malformed}
-use Rattle.number.specs.Number.{writeIn, writeNumber, mostGroups, greatestNumber, Scan, cut, overlong, whole, scan, readOf, readNumber, Reading, readingOf, numberAt}
+use Rattle.number.specs.Number.{writeIn, writeNumber, mostGroups, greatestNumber, Scan, cut, overlong, whole, scan, readOf, readNumber, Reading}
+use Rattle.number.specs.Number.{readingOf, numberAt}
 use Rattle.number.specs.Form.{Bytes, WrittenAt}
 use Rattle.number.proofs.ByteLaws.{drop-bytes}
 use Rattle.number.proofs.ScanLaws.{scan-groups, scan-write, scan-read}
 
 -- The writing of n, whatever stands behind it, reads as n.
-pub read-writing : (s : List ℕ) (at n : ℕ) (rest : List ℕ) → n ≤ greatestNumber → drop at s ≡ writeNumber n ++ rest → readNumber s at ≡ Number n (at + length (writeNumber n))
+pub read-writing : (s : List ℕ) (at n : ℕ) (rest : List ℕ) → n ≤ greatestNumber → drop at s ≡ writeNumber n ++ rest
+    → readNumber s at ≡ Number n (at + length (writeNumber n))
 unfolding readNumber writeNumber
 read-writing s at n rest h e = rw (e, scan-write 5 n rest (omega arith), le-leb n greatestNumber h, eq-eqb (length (writeIn 6 n)) (length (writeIn 6 n)) refl)
 
-pub read-number : (s : List ℕ) (at n : ℕ) (rest : List ℕ) → n ≤ greatestNumber → drop at s ≡ writeNumber n ++ rest → numberAt s at ≡ accepted (record { value = n; next = at + length (writeNumber n) })
+pub read-number : (s : List ℕ) (at n : ℕ) (rest : List ℕ) → n ≤ greatestNumber → drop at s ≡ writeNumber n ++ rest
+    → numberAt s at ≡ accepted (record { value = n; next = at + length (writeNumber n) })
 unfolding numberAt
 read-number s at n rest h e = rw (read-writing s at n rest h e)
 

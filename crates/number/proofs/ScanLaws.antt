@@ -96,8 +96,10 @@ pub record Taken (s w : List ℕ) (n : ℕ) : Type 0 where
   pub split : s ≡ w ++ rest
   pub size : length w ≡ n
 
-taken-more : (k x v w m n : ℕ) (xs : List ℕ) → writeIn (suc k) v ≡ x ∷ writeIn k w → n ≡ length (writeIn (suc k) v) → Taken xs (writeIn k w) m → Taken (x ∷ xs) (writeIn (suc k) v) n
-taken-more k x v w m n xs wm l t = record { rest = t .rest; split = ap (λ (z : List ℕ). x ∷ z) (t .split) ∙ ap (λ (z : List ℕ). z ++ t .rest) (sym wm); size = sym l }
+taken-more : (k x v w m n : ℕ) (xs : List ℕ) → writeIn (suc k) v ≡ x ∷ writeIn k w → n ≡ length (writeIn (suc k) v) → Taken xs (writeIn k w) m
+    → Taken (x ∷ xs) (writeIn (suc k) v) n
+taken-more k x v w m n xs wm l t =
+    record { rest = t .rest; split = ap (λ (z : List ℕ). x ∷ z) (t .split) ∙ ap (λ (z : List ℕ). z ++ t .rest) (sym wm); size = sym l }
 
 pub scan-read : (k : ℕ) (s : List ℕ) (v n : ℕ) → Bytes s → scan k s ≡ whole v n → n ≡ length (writeIn k v) → Taken s (writeIn k v) n
 unfolding scan

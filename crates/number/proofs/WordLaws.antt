@@ -55,11 +55,13 @@ module _ (s : List ℕ) (byte : (i : ℕ) → getD s i 0 < 256) where
       let behind : suc at + suc k ≡ at + suc (suc k) = omega arith in
       (drop-cons s at 0 (omega arith) ∙ rw (written, sym behind) (ap (_∷_ (getD s at 0)) (later .0)), ap length written ∙ ap suc (later .1))
 
-  read-bytes : (k j at w v next : ℕ) → k < j → j ≤ 6 → w ≡ bytes j at → v ≡ wordNumber k w → next ≡ at + suc k → next ≤ length s → isNumber k w ≡ true → 128 ^ k ≤ v
+  read-bytes : (k j at w v next : ℕ) → k < j → j ≤ 6 → w ≡ bytes j at → v ≡ wordNumber k w → next ≡ at + suc k → next ≤ length s → isNumber k w ≡ true
+      → 128 ^ k ≤ v
       → readNumber s at ≡ Number v next
   read-bytes k j at w v next few most e made ends there tops least =
       let whole = stands k j at w few most e (omega arith) tops (omega arith) in
-      rw (made, ends) (read-writing s at (wordNumber k w) (drop (at + suc k) s) (number-fits k w (omega arith)) (whole .0) ∙ ap (λ (l : ℕ). Number (wordNumber k w) (at + l)) (whole .1))
+      rw (made, ends) (read-writing s at (wordNumber k w) (drop (at + suc k) s) (number-fits k w (omega arith)) (whole .0)
+      ∙ ap (λ (l : ℕ). Number (wordNumber k w) (at + l)) (whole .1))
 
   word-bytes : (at : ℕ) → wordAt s at ≡ bytes 4 at
   word-bytes at =
@@ -67,11 +69,13 @@ module _ (s : List ℕ) (byte : (i : ℕ) → getD s i 0 < 256) where
       let three : at + 3 ≡ suc (suc (suc at)) = omega arith in
       rw (add-one at, two, three) (omega arith)
 
-  pub read-word : (k at : ℕ) {w v next : ℕ} → k < 4 → w ≡ wordAt s at → v ≡ wordNumber k w → next ≡ at + suc k → next ≤ length s → isNumber k w ≡ true → 128 ^ k ≤ v
+  pub read-word : (k at : ℕ) {w v next : ℕ} → k < 4 → w ≡ wordAt s at → v ≡ wordNumber k w → next ≡ at + suc k → next ≤ length s → isNumber k w ≡ true
+      → 128 ^ k ≤ v
       → readNumber s at ≡ Number v next
   read-word k at {w} {v} {next} few e = read-bytes k 4 at w v next few (omega arith) (e ∙ word-bytes at)
 
-  pub read-behind : (k at : ℕ) {w v from next : ℕ} → k < 2 → w ≡ wordAt s at → from ≡ at + 2 → v ≡ wordNumber k (w / 256 / 256) → next ≡ from + suc k → next ≤ length s → isNumber k (w / 256 / 256) ≡ true → 128 ^ k ≤ v
+  pub read-behind : (k at : ℕ) {w v from next : ℕ} → k < 2 → w ≡ wordAt s at → from ≡ at + 2 → v ≡ wordNumber k (w / 256 / 256) → next ≡ from + suc k
+      → next ≤ length s → isNumber k (w / 256 / 256) ≡ true → 128 ^ k ≤ v
       → readNumber s from ≡ Number v next
   read-behind k at {w} {v} {from} {next} few e behind =
       let two : from ≡ suc (suc at) = omega arith in

@@ -28,7 +28,8 @@ write-wider zero m n le h = write-last 0 n (omega arith) ∙ sym (write-last m n
 write-wider (suc k) zero n le h = absurd (omega arith)
 write-wider (suc k) (suc m) n le h = go (decLt n 128) (write-wider k m (n / 128))
   where
-    go : Dec (n < 128) → (k ≤ m → n / 128 < 128 ^ suc k → writeIn (suc k) (n / 128) ≡ writeIn (suc m) (n / 128)) → writeIn (suc (suc k)) n ≡ writeIn (suc (suc m)) n
+    go : Dec (n < 128) → (k ≤ m → n / 128 < 128 ^ suc k → writeIn (suc k) (n / 128) ≡ writeIn (suc m) (n / 128))
+        → writeIn (suc (suc k)) n ≡ writeIn (suc (suc m)) n
     go (yes l) r = write-last (suc k) n l ∙ sym (write-last (suc m) n l)
     go (no l) r = write-more (suc k) n (omega arith) ∙ rw (r (omega arith) (omega arith)) (sym (write-more (suc m) n (omega arith)))
 
@@ -113,7 +114,13 @@ groups-of-bits n j lo hi few =
     let g = j / 7 in
     let low : 2 ^ (7 * g) ≤ 2 ^ j = pow-mono (omega arith) in
     let high : 2 ^ suc j ≤ 2 ^ (7 * suc g) = pow-mono (omega arith) in
-    omega (arith, seven-bits g, seven-bits (suc g), length-below 6 g n (omega (arith, seven-bits (suc g))), length-above 6 g n (omega arith) (omega (arith, seven-bits g)))
+    omega (
+      arith,
+      seven-bits g,
+      seven-bits (suc g),
+      length-below 6 g n (omega (arith, seven-bits (suc g))),
+      length-above 6 g n (omega arith) (omega (arith, seven-bits g)),
+    )
 
 -- "A number takes as many groups as its bits need, and 0 takes one."
 pub group-count : (n : ℕ) → n ≤ greatestNumber → length (writeNumber n) ≡ groupCount n

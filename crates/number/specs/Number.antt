@@ -1,4 +1,5 @@
--- The number form of document 01, with six bytes since document 02's request 11: groups of seven bits, lowest group first, one group a byte; the top bit is set on all but the last byte (LEB128, unsigned).
+-- The number form of document 01, with six bytes since document 02's request 11: groups of seven bits, lowest group first, one group a byte; the top bit is set
+-- on all but the last byte (LEB128, unsigned).
 -- Assumes nothing.
 use Prim.Native.Nat.{ℕ, zero, suc, _+_, _-_, _*_, _/_, _%_, max}
 use mathlib.Core.Bool.{_&&_}

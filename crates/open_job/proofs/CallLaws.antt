@@ -83,16 +83,19 @@ module _ (s : List ℕ) where
   pub opening-read : openJob s ≡ (readOpening s >>= λ h. accepted (laidOut h []))
   unfolding openJob readOpening headerAt jobHeader acceptJob testHazards
   opening-read =
-      bind-same (readHeader s) _ _ (λ f read. bind-same (count f) _ _ (λ u zero. job (readJob s) (λ j e. none-read f j read (tested _ _ u zero) e)) ∙ sym (bind-assoc (count f) _ _))
+      bind-same (readHeader s) _ _ (λ f read. bind-same (count f) _ _ (λ u zero. job (readJob s) (λ j e. none-read f j read (tested _ _ u zero) e))
+      ∙ sym (bind-assoc (count f) _ _))
       ∙ sym (bind-assoc (headerAt s) _ _ ∙ bind-assoc (readHeader s) _ _)
     where
       count : (f : Fields) → Answer (Unit {0})
       count f = unless-refuse (eqb (headerOf (f .numbers) .count) 0) (Row.HeaderRange (headerSize (headerOf (f .numbers) .kind)))
 
       job : (a : Answer Job) → ((j : Job) → a ≡ accepted j → j .hazards ≡ [])
-          → ((a >>= λ j. testHazards (j .header) 0 (j .hazards) >>= λ _. accepted j) >>= λ j. accepted (laidOut (j .header) [])) ≡ ((a >>= λ j. accepted (j .header)) >>= λ h. accepted (laidOut h []))
+          → ((a >>= λ j. testHazards (j .header) 0 (j .hazards) >>= λ _. accepted j) >>= λ j. accepted (laidOut (j .header) []))
+          ≡ ((a >>= λ j. accepted (j .header)) >>= λ h. accepted (laidOut h []))
       job (refused k v) none = refl
-      job (accepted j) none = ap (λ (zs : List Hazard). (testHazards (j .header) 0 zs >>= λ _. accepted j) >>= λ i. accepted (laidOut (i .header) [])) (none j refl)
+      job (accepted j) none =
+          ap (λ (zs : List Hazard). (testHazards (j .header) 0 zs >>= λ _. accepted j) >>= λ i. accepted (laidOut (i .header) [])) (none j refl)
 
   pub opening-done : {h : Header} → accepted h ≡ readOpening s → openJob s ≡ accepted (laidOut h [])
   opening-done e = opening-read ∙ rw (sym e)
@@ -117,18 +120,22 @@ module _ (m : StoredJob) (good : isOpenJob m ≡ true) where
   full-count size = ap (leb 256) (standing-length m size (open-count m good))
 
   -- A name that does not stand is put in at its place, and one that stands is taken out from there.
-  pub add-done : (name : ℕ) (z : Hazard) → stands name (standing m) ≡ false → isFull (standing m) ≡ false → accepted tt ≡ admit (m .header) name z → (at : ℕ) → at ≡ rank name (standing m)
+  pub add-done : (name : ℕ) (z : Hazard) → stands name (standing m) ≡ false → isFull (standing m) ≡ false → accepted tt ≡ admit (m .header) name z → (at : ℕ)
+      → at ≡ rank name (standing m)
       → addTo m name z ≡ accepted (laidOut (m .header) (putAt at (named name z) (standing m)))
   unfolding addTo
   add-done name z fresh room may at place =
       rw (fresh, room, sym may)
-      (ap (λ (ps : List NamedHazard). accepted (laidOut (m .header) ps)) (inserted-at (named name z) (standing m) fresh ∙ ap (λ (k : ℕ). putAt k (named name z) (standing m)) (sym place)))
+      (ap (λ (ps : List NamedHazard). accepted (laidOut (m .header) ps))
+      (inserted-at (named name z) (standing m) fresh ∙ ap (λ (k : ℕ). putAt k (named name z) (standing m)) (sym place)))
 
-  pub withdraw-done : (name : ℕ) → stands name (standing m) ≡ true → (at : ℕ) → at ≡ rank name (standing m) → withdrawFrom m name ≡ accepted (laidOut (m .header) (takenAt at (standing m)))
+  pub withdraw-done : (name : ℕ) → stands name (standing m) ≡ true → (at : ℕ) → at ≡ rank name (standing m)
+      → withdrawFrom m name ≡ accepted (laidOut (m .header) (takenAt at (standing m)))
   unfolding withdrawFrom
   withdraw-done name e at place =
       rw e
-      (ap (λ (ps : List NamedHazard). accepted (laidOut (m .header) ps)) (without-at (m .header) name 0 (standing m) (open-standing m good) e ∙ ap (λ (k : ℕ). takenAt k (standing m)) (sym place)))
+      (ap (λ (ps : List NamedHazard). accepted (laidOut (m .header) ps))
+      (without-at (m .header) name 0 (standing m) (open-standing m good) e ∙ ap (λ (k : ℕ). takenAt k (standing m)) (sym place)))
 
   -- The hazard at the place of a name that stands is the one under it, and it could be added.
   module _ (size : length (m .hazards) ≡ 256) (name : ℕ) (e : stands name (standing m) ≡ true) (at : ℕ) (place : at ≡ rank name (standing m)) where
@@ -155,7 +162,8 @@ module _ (m : StoredJob) (good : isOpenJob m ≡ true) where
 -- Schedule
 
 -- Plan, of the writing of a job that is accepted.
-pub plan-written : (j : Job) → AcceptedFits j → (side room : ℕ) → plan (writeJob j) side room ≡ (unless-refuse (leb side 1) Row.Argument >>= λ _. fitted (writeSchedule (jobRuns j side)) (sideOverhangs j side) room)
+pub plan-written : (j : Job) → AcceptedFits j → (side room : ℕ)
+    → plan (writeJob j) side room ≡ (unless-refuse (leb side 1) Row.Argument >>= λ _. fitted (writeSchedule (jobRuns j side)) (sideOverhangs j side) room)
 unfolding plan
 plan-written j f side room = rw (fitting-accepted j f)
 
@@ -172,18 +180,21 @@ module _ (m : StoredJob) (fits : AcceptedFits (jobOf m)) (ns : List ℕ) (are : 
   }
 
   -- They are the job's own, and pass the test again.
-  walk-passes : (side : ℕ) → (hazardsFrom (m .header) (givenHazards ns) (m .header .count) [] [] 0 >>= λ j. testedEnvelopes j side) ≡ accepted (cutsOf (m .header) side (jobOf m .hazards))
+  walk-passes : (side : ℕ) → (hazardsFrom (m .header) (givenHazards ns) (m .header .count) [] [] 0 >>= λ j. testedEnvelopes j side)
+      ≡ accepted (cutsOf (m .header) side (jobOf m .hazards))
   unfolding testedEnvelopes testHazards
   walk-passes side =
       rw (ap (λ (n : ℕ). hazardsFrom (m .header) (givenHazards ns) n [] [] 0) count-same ∙ given-all (m .header) (givenHazards ns), are)
       (rw (← append-nil (jobOf m .hazards), hazards-pass (m .header) 0 (jobOf m .hazards) [] (fits .passed)))
 
   -- By what `walk` answers.
-  module _ (side : ℕ) (keys ends : List ℕ) (r : Walked) (reply : walkedAnswer keys ends r ≡ (hazardsFrom (m .header) (givenHazards ns) (m .header .count) [] [] 0 >>= λ j. testedEnvelopes j side)) where
+  module _ (side : ℕ) (keys ends : List ℕ) (r : Walked)
+      (reply : walkedAnswer keys ends r ≡ (hazardsFrom (m .header) (givenHazards ns) (m .header .count) [] [] 0 >>= λ j. testedEnvelopes j side)) where
     own : cutsOf (m .header) side (jobOf m .hazards) ≡ cutsTaken keys ends (r .taken)
     own = go (r .outcome) (reply ∙ walk-passes side)
       where
-        go : (o : Outcome) → outcome o (cutsTaken keys ends (r .taken)) ≡ accepted (cutsOf (m .header) side (jobOf m .hazards)) → cutsOf (m .header) side (jobOf m .hazards) ≡ cutsTaken keys ends (r .taken)
+        go : (o : Outcome) → outcome o (cutsTaken keys ends (r .taken)) ≡ accepted (cutsOf (m .header) side (jobOf m .hazards))
+            → cutsOf (m .header) side (jobOf m .hazards) ≡ cutsTaken keys ends (r .taken)
         go Done p = cc
         go (Refused x) p = impossible cc
 
@@ -192,10 +203,12 @@ module _ (m : StoredJob) (fits : AcceptedFits (jobOf m)) (ns : List ℕ) (are : 
 
     pub schedule-most : length (writeSchedule (requiredRuns (keyedEnvelopes keys ends (r .taken .count)) (m .header .continuity))) ≤ 5624
     unfolding jobRuns
-    schedule-most = subst (λ (c : Cuts). length (writeSchedule (requiredRuns (c .envelopes) (m .header .continuity))) ≤ 5624) own (planned-bytes (jobOf m) side fits)
+    schedule-most =
+        subst (λ (c : Cuts). length (writeSchedule (requiredRuns (c .envelopes) (m .header .continuity))) ≤ 5624) own (planned-bytes (jobOf m) side fits)
 
     pub schedule-done : (room : ℕ) → side ≤ 1
-        → plan (writeJob (jobOf m)) side room ≡ fitted (writeSchedule (requiredRuns (keyedEnvelopes keys ends (r .taken .count)) (m .header .continuity))) (r .taken .overhangs) room
+        → plan (writeJob (jobOf m)) side room ≡ fitted (writeSchedule (requiredRuns (keyedEnvelopes keys ends (r .taken .count)) (m .header .continuity)))
+        (r .taken .overhangs) room
     unfolding jobRuns
     schedule-done room l =
         plan-written (jobOf m) fits side room

@@ -72,15 +72,21 @@ pub record KeepsRules (m : StoredJob) : Type 0 where
   pub layout : m ≡ laidOut (m .header) (standing m)
 
 pub open-exactly : (m : StoredJob) → length (m .hazards) ≡ 256 → (isOpenJob m ≡ true) ↔ KeepsRules m
-open-exactly m size = (means, λ k. ap isOpenJob (k .layout) ∙ laid-open (m .header) (standing m) (k .header) (k .hazards) (omega (arith, header-bounds (m .header) (k .header) .count, length-take (m .header .count) (m .hazards))))
+open-exactly m size = (
+  means,
+  λ k. ap isOpenJob (k .layout) ∙ laid-open (m .header) (standing m) (k .header) (k .hazards)
+      (omega (arith, header-bounds (m .header) (k .header) .count, length-take (m .header .count) (m .hazards))),
+)
   where
     means : isOpenJob m ≡ true → KeepsRules m
     means e =
         let count = m .header .count in
         let number : length (standing m) ≡ count = length-take-le count (m .hazards) (omega (arith, open-count m e)) in
-        let all : m .hazards ≡ standing m ++ replicate (mostStanding - count) unused = sym (take-append-drop count (m .hazards)) ∙ ap (λ (l : List NamedHazard). standing m ++ l) (open-clear m e size .behind) in
+        let all : m .hazards ≡ standing m ++ replicate (mostStanding - count) unused =
+        sym (take-append-drop count (m .hazards)) ∙ ap (λ (l : List NamedHazard). standing m ++ l) (open-clear m e size .behind) in
         record {
           header = open-header m e;
           hazards = open-standing m e;
-          layout = ap₂ (λ (n : ℕ) (ps : List NamedHazard). record { header = counted (m .header) n; hazards = ps }) (sym number) (all ∙ ap (λ (n : ℕ). standing m ++ replicate (mostStanding - n) unused) (sym number));
+          layout = ap₂ (λ (n : ℕ) (ps : List NamedHazard). record { header = counted (m .header) n; hazards = ps }) (sym number)
+              (all ∙ ap (λ (n : ℕ). standing m ++ replicate (mostStanding - n) unused) (sym number));
         }

@@ -73,12 +73,14 @@ module _ (job : StoredJob) (fits : JobFits (jobOf job)) (i : ℕ) (l : i < job .
       List·getD-map unnamed (take (job .header .count) (job .hazards)) i d ∙ ap unnamed (getD-take (job .header .count) (job .hazards) i d l) in
       rw same at (fits .hazards .each (getD zs i (unnamed d)) (getD-member zs i (unnamed d) (omega (arith, fits .hazards .count))))
 
-  pub numbers-more : (ns : List ℕ) {n : ℕ} → job .header .count ≤ length (job .hazards) → i * 3 + 2 < length ns → NumbersTo job ns i → n ≡ packed (getD (job .hazards) i d)
+  pub numbers-more : (ns : List ℕ) {n : ℕ} → job .header .count ≤ length (job .hazards) → i * 3 + 2 < length ns → NumbersTo job ns i
+      → n ≡ packed (getD (job .hazards) i d)
       → let z = getD (job .hazards) i d in NumbersTo job (set (set (set ns (i * 3) (z .start)) (i * 3 + 1) (z .end)) (i * 3 + 2) n) (i + 1)
   numbers-more ns whole room so is =
       let z = getD (job .hazards) i d in
       let count : (i + 1) * 3 ≡ i * 3 + 3 = omega arith in
       let long : length (take (i * 3) ns) ≡ i * 3 = length-take-le (i * 3) ns (omega arith) in
-      let own : take (i + 1) (job .hazards) ≡ take i (job .hazards) ++ z ∷ [] = ap (λ (k : ℕ). take k (job .hazards)) (add-one i) ∙ take-suc (job .hazards) i d (omega arith) in
+      let own : take (i + 1) (job .hazards) ≡ take i (job .hazards) ++ z ∷ [] =
+      ap (λ (k : ℕ). take k (job .hazards)) (add-one i) ∙ take-suc (job .hazards) i d (omega arith) in
       rw (is, count, stored-three ns (i * 3) (z .start) (z .end) (packed z) room, given-behind (take (i * 3) ns) i (z .start) (z .end) (packed z) long)
       (cc (so, packed-back (job .header) z stored-fits) ∙ sym (ap (map unnamed) own ∙ map-append unnamed (take i (job .hazards)) (z ∷ [])))

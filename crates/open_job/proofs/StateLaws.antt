@@ -24,7 +24,8 @@ use Rattle.open_memory.proofs.RuleLaws.{unused-are}
 use Rattle.open_job.proofs.LayoutLaws.{unused-all}
 use Rattle.open_job.specs.declared.KeptState.{KeptState}
 use Rattle.open_job.specs.declared.OpenStates.{OpenStates}
-use Rattle.open_job.specs.States.{mostKept, greatestStateNumber, nothingKept, keptFrom, stateOf, isUsed, isNothingKept, keptSound, keptStates, keptUnder, statesFrom, areOpenStates}
+use Rattle.open_job.specs.States.{mostKept, greatestStateNumber, nothingKept, keptFrom, stateOf, isUsed, isNothingKept, keptSound, keptStates, keptUnder}
+use Rattle.open_job.specs.States.{statesFrom, areOpenStates}
 use Rattle.open_job.specs.Calls.{underRules, testState}
 
 -- Put together and taken apart
@@ -45,20 +46,33 @@ pub kept-under : (a : StoredJob) (ks : List KeptState) → length ks ≡ mostKep
 kept-under a ks e number = ap (λ (l : List KeptState). getD l number nothingKept) (kept-states a ks e)
 
 -- One of them replaced.
-pub replaced : (ks : List KeptState) (n k : ℕ) (new : KeptState) → (n ≡ k → k < length ks) → getD (set ks n new) k nothingKept ≡ (if eqb n k then new else getD ks k nothingKept)
+pub replaced : (ks : List KeptState) (n k : ℕ) (new : KeptState) → (n ≡ k → k < length ks)
+    → getD (set ks n new) k nothingKept ≡ (if eqb n k then new else getD ks k nothingKept)
 replaced ks n k new within = go (ℕ-discrete n k)
   where
     go : Dec (n ≡ k) → getD (set ks n new) k nothingKept ≡ (if eqb n k then new else getD ks k nothingKept)
     go (yes q) = rw (eq-eqb n k q) (ap (λ (x : ℕ). getD (set ks x new) k nothingKept) q ∙ getD-set-same ks k new nothingKept (within q))
     go (no q) = rw (ne-eqb n k q) (getD-set-other ks n k new nothingKept (λ r. q (sym r)))
 
-pub kept-set : (m : OpenStates) (n number : ℕ) (new : KeptState) → n ≤ 7 → keptUnder (statesFrom (m .present) (set (keptStates m) n new)) number ≡ (if eqb n number then new else keptUnder m number)
-kept-set m n number new most = kept-under (m .present) (set (keptStates m) n new) (length-set (keptStates m) n new) number ∙ replaced (keptStates m) n number new (λ q. omega arith)
+pub kept-set : (m : OpenStates) (n number : ℕ) (new : KeptState) → n ≤ 7
+    → keptUnder (statesFrom (m .present) (set (keptStates m) n new)) number ≡ (if eqb n number then new else keptUnder m number)
+kept-set m n number new most =
+    kept-under (m .present) (set (keptStates m) n new) (length-set (keptStates m) n new) number ∙ replaced (keptStates m) n number new (λ q. omega arith)
 
 -- Memory is what it has now, and under each number.
 pub states-same : (m n : OpenStates) → m .present ≡ n .present → ((number : ℕ) → keptUnder m number ≡ keptUnder n number) → m ≡ n
 states-same m n now kept =
-    λ i. record { present = now i; kept0 = kept 0 i; kept1 = kept 1 i; kept2 = kept 2 i; kept3 = kept 3 i; kept4 = kept 4 i; kept5 = kept 5 i; kept6 = kept 6 i; kept7 = kept 7 i }
+    λ i. record {
+      present = now i;
+      kept0 = kept 0 i;
+      kept1 = kept 1 i;
+      kept2 = kept 2 i;
+      kept3 = kept 3 i;
+      kept4 = kept 4 i;
+      kept5 = kept 5 i;
+      kept6 = kept 6 i;
+      kept7 = kept 7 i;
+    }
 
 pub none-under : (number : ℕ) → getD (replicate mostKept nothingKept) number nothingKept ≡ nothingKept
 none-under number = go mostKept number
@@ -93,7 +107,8 @@ module _ (k : KeptState) where
       let numbers = and-left (eqb (k .used) 0 && eqb (k .count) 0) (allOf isUnused (k .hazards)) e in
       let used : k .used ≡ 0 = eqb-true _ _ (and-left (eqb (k .used) 0) (eqb (k .count) 0) numbers) in
       let count : k .count ≡ 0 = eqb-true _ _ (and-right (eqb (k .used) 0) (eqb (k .count) 0) numbers) in
-      let hazards : k .hazards ≡ replicate mostStanding unused = unused-are (k .hazards) (and-right (eqb (k .used) 0 && eqb (k .count) 0) (allOf isUnused (k .hazards)) e) ∙ ap (λ (n : ℕ). replicate n unused) size in
+      let hazards : k .hazards ≡ replicate mostStanding unused = unused-are (k .hazards)
+      (and-right (eqb (k .used) 0 && eqb (k .count) 0) (allOf isUnused (k .hazards)) e) ∙ ap (λ (n : ℕ). replicate n unused) size in
       λ i. record { used = used i; count = count i; hazards = hazards i }
 
   -- A state that is kept is not nothing; so the test is one of the two, by whether it is used.
@@ -116,7 +131,8 @@ module _ (k : KeptState) where
   unfolding keptSound
   sound-cases h e = go (or-cases (isNothingKept k) (isUsed k && isOpenJob (stateOf h k)) e)
     where
-      go : (isNothingKept k ≡ true) ⊎ (isUsed k && isOpenJob (stateOf h k) ≡ true) → (isNothingKept k ≡ true) ⊎ ((isUsed k ≡ true) × (isOpenJob (stateOf h k) ≡ true))
+      go : (isNothingKept k ≡ true) ⊎ (isUsed k && isOpenJob (stateOf h k) ≡ true)
+          → (isNothingKept k ≡ true) ⊎ ((isUsed k ≡ true) × (isOpenJob (stateOf h k) ≡ true))
       go (inl x) = inl x
       go (inr x) = inr (and-left (isUsed k) (isOpenJob (stateOf h k)) x, and-right (isUsed k) (isOpenJob (stateOf h k)) x)
 
@@ -145,7 +161,8 @@ module _ (m : OpenStates) where
 
   pub each-sound : areOpenStates m ≡ true → (number : ℕ) → keptSound (m .present .header) (keptUnder m number) ≡ true
   unfolding areOpenStates
-  each-sound e = all-each (keptSound (m .present .header)) (nothing-sound (m .present .header)) (keptStates m) (and-right (isOpenJob (m .present)) (allOf (keptSound (m .present .header)) (keptStates m)) e)
+  each-sound e = all-each (keptSound (m .present .header)) (nothing-sound (m .present .header)) (keptStates m)
+      (and-right (isOpenJob (m .present)) (allOf (keptSound (m .present .header)) (keptStates m)) e)
 
   -- A state number that passes the tests of a keep.
   pub number-most : (number : ℕ) (u : Unit {0}) → underRules (areOpenStates m) (testState number) ≡ accepted u → leb number greatestStateNumber ≡ true

@@ -48,7 +48,8 @@ place-unused p = same-test (zeros p) (isUnused p) to from
 -- Several
 
 pub eight-unused : (a b c d e f g h : NamedHazard)
-    → (isUnused a && isUnused b && isUnused c && isUnused d && isUnused e && isUnused f && isUnused g && isUnused h) ≡ allOf isUnused (a ∷ b ∷ c ∷ d ∷ e ∷ f ∷ g ∷ h ∷ [])
+    → (isUnused a && isUnused b && isUnused c && isUnused d && isUnused e && isUnused f && isUnused g && isUnused h)
+    ≡ allOf isUnused (a ∷ b ∷ c ∷ d ∷ e ∷ f ∷ g ∷ h ∷ [])
 unfolding allOf
 eight-unused a b c d e f g h = simp (and-assoc, and-true)
 
@@ -97,9 +98,11 @@ module _ (l : List NamedHazard) (size : length l ≡ 256) where
       let here : drop i l ≡ eightFrom i ++ rest = eight-ahead i (omega arith) ∙ ap (λ (n : ℕ). eightFrom i ++ drop n l) on in
       record {
         most = omega arith;
-        same = and-assoc b (allOf isUnused (eightFrom i)) (allOf isUnused rest) ∙ ap (λ (t : Bool). b && t) (sym (ap (allOf isUnused) here ∙ all-append (eightFrom i) rest)) ∙ left .same;
+        same = and-assoc b (allOf isUnused (eightFrom i)) (allOf isUnused rest)
+            ∙ ap (λ (t : Bool). b && t) (sym (ap (allOf isUnused) here ∙ all-append (eightFrom i) rest)) ∙ left .same;
       }
 
   pub places-end : {b : Bool} {k : ℕ} → PlacesLeft l b k → 32 ≤ k → b ≡ allOf isUnused l
   unfolding allOf
-  places-end {b} {k} left e = sym (and-true b) ∙ sym (ap (λ (t : List NamedHazard). b && allOf isUnused t) (drop-of-length-le l {i = k * 8} (omega arith))) ∙ left .same
+  places-end {b} {k} left e =
+      sym (and-true b) ∙ sym (ap (λ (t : List NamedHazard). b && allOf isUnused t) (drop-of-length-le l {i = k * 8} (omega arith))) ∙ left .same

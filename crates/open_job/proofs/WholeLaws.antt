@@ -17,7 +17,8 @@ use Rattle.base.proofs.AnswerLaws.{bind-same}
 use Rattle.job.specs.declared.StoredJob.{StoredJob}
 use Rattle.open_job.specs.declared.KeptState.{KeptState}
 use Rattle.open_job.specs.declared.OpenStates.{OpenStates}
-use Rattle.open_job.specs.States.{mostKept, greatestStateNumber, nothingKept, keptFrom, stateOf, isUsed, keptStates, keptUnder, statesFrom, allSound, areOpenStates}
+use Rattle.open_job.specs.States.{mostKept, greatestStateNumber, nothingKept, keptFrom, stateOf, isUsed, keptStates, keptUnder, statesFrom, allSound}
+use Rattle.open_job.specs.States.{areOpenStates}
 use Rattle.open_job.specs.Calls.{memoryAfter, openJob, openStates, underRules, changedIn, testState, keepIn, keptJob, returnIn}
 use Rattle.open_job.specs.Parts.{chosen, emptied, eachSound, Carries, eachChosen, Keeps, lookedFor, eachEmptied}
 use Rattle.open_job.proofs.StateLaws.{replaced}
@@ -62,7 +63,8 @@ module _ (m : OpenStates) where
   unfolding keepIn
   keep-whole number = go (underRules (areOpenStates m) (testState number))
     where
-      go : (part : Answer (Unit {0})) → Keeps m number part (part >>= λ _. accepted (statesFrom (m .present) (set (keptStates m) number (keptFrom (m .present)))))
+      go : (part : Answer (Unit {0})) → Keeps m number part
+          (part >>= λ _. accepted (statesFrom (m .present) (set (keptStates m) number (keptFrom (m .present)))))
       go (accepted u) = (one-chosen number (keptFrom (m .present)), refl)
       go (refused k v) = (none-chosen number (keptFrom (m .present)), refl)
 
@@ -78,7 +80,8 @@ module _ (m : OpenStates) where
   found (suc (suc (suc (suc (suc zero))))) e = refl
   found (suc (suc (suc (suc (suc (suc zero)))))) e = refl
   found (suc (suc (suc (suc (suc (suc (suc zero))))))) e = refl
-  found (suc (suc (suc (suc (suc (suc (suc (suc n)))))))) e = absurd (let l : suc (suc (suc (suc (suc (suc (suc (suc n))))))) ≤ 7 = leb-true _ _ e in omega arith)
+  found (suc (suc (suc (suc (suc (suc (suc (suc n)))))))) e =
+      absurd (let l : suc (suc (suc (suc (suc (suc (suc (suc n))))))) ≤ 7 = leb-true _ _ e in omega arith)
 
   pub return-whole : (number : ℕ) → Carries m (underRules (areOpenStates m) (keptJob (m .present .header) number (lookedFor m number))) (returnIn m number)
   unfolding returnIn keptJob
@@ -95,12 +98,14 @@ module _ (m : OpenStates) where
   -- Opening
 
   pub open-whole : (s : List ℕ)
-      → (eachEmptied m (isAccepted (replied (openJob s))) (memoryAfter (openJob s) (m .present)) ≡ memoryAfter (openStates s) m) × (replied (openJob s) ≡ replied (openStates s))
+      → (eachEmptied m (isAccepted (replied (openJob s))) (memoryAfter (openJob s) (m .present)) ≡ memoryAfter (openStates s) m)
+      × (replied (openJob s) ≡ replied (openStates s))
   unfolding openStates emptied
   open-whole s = go (openJob s)
     where
       go : (a : Answer StoredJob)
-          → (eachEmptied m (isAccepted (replied a)) (memoryAfter a (m .present)) ≡ memoryAfter (a >>= λ x. accepted (statesFrom x (replicate mostKept nothingKept))) m)
+          → (eachEmptied m (isAccepted (replied a)) (memoryAfter a (m .present))
+          ≡ memoryAfter (a >>= λ x. accepted (statesFrom x (replicate mostKept nothingKept))) m)
           × (replied a ≡ replied (a >>= λ x. accepted (statesFrom x (replicate mostKept nothingKept))))
       go (accepted x) = (refl, refl)
       go (refused k v) = (refl, refl)

@@ -92,7 +92,8 @@ scheduleIn m side room = underRules (areOpenStates m) (plan (writeJob (jobOf (m 
 
 -- How far the withdrawal of the hazard that stands under a name would reach, as the job stands now. Where it does not stand: 12, and it returns the name.
 unfoldable pub reachUnder : StoredJob → (name : ℕ) → Answer Reach
-reachUnder a name = unless-refuse (stands name (standing a)) (Row.Name name) >>= λ _. accepted (hazardReach (a .header) (unnamed (hazardUnder name (standing a))))
+reachUnder a name =
+    unless-refuse (stands name (standing a)) (Row.Name name) >>= λ _. accepted (hazardReach (a .header) (unnamed (hazardUnder name (standing a))))
 
 unfoldable pub reachIn : OpenStates → (name : ℕ) → Answer Reach
 reachIn m name = underRules (areOpenStates m) (reachUnder (m .present) name)

@@ -34,7 +34,8 @@ stands-here : (name : ℕ) (p : NamedHazard) (ps : List NamedHazard) → stands 
 unfolding stands someOf
 stands-here name p ps e = go (eqb (p .name) name) refl e
   where
-    go : (b : Bool) → eqb (p .name) name ≡ b → (b || someOf (λ (q : NamedHazard). eqb (q .name) name) ps) ≡ false → (p .name ≡ name → ⊥) × (someOf (λ (q : NamedHazard). eqb (q .name) name) ps ≡ false)
+    go : (b : Bool) → eqb (p .name) name ≡ b → (b || someOf (λ (q : NamedHazard). eqb (q .name) name) ps) ≡ false
+        → (p .name ≡ name → ⊥) × (someOf (λ (q : NamedHazard). eqb (q .name) name) ps ≡ false)
     go true q f = absurd (false≢true (sym f))
     go false q f = ((λ same. not-both (eq-eqb (p .name) name same) q), f)
 
@@ -53,7 +54,8 @@ none-below h low name (p ∷ ps) t l = rw (ne-eqb (p .name) name (λ e. omega (a
 all-kept : (h : Header) (low name : ℕ) (ps : List NamedHazard) → Stand h low ps → name < low → without name ps ≡ ps
 unfolding without filter
 all-kept h low name [] t l = refl
-all-kept h low name (p ∷ ps) t l = rw (ne-eqb (p .name) name (λ e. omega (arith, t .0))) (ap (_∷_ p) (all-kept h (p .name + 1) name ps (t .3) (omega (arith, t .0))))
+all-kept h low name (p ∷ ps) t l =
+    rw (ne-eqb (p .name) name (λ e. omega (arith, t .0))) (ap (_∷_ p) (all-kept h (p .name + 1) name ps (t .3) (omega (arith, t .0))))
 
 -- The place of a name
 
@@ -76,7 +78,8 @@ inserted-at p (q ∷ qs) e = go (decLt (q .name) (p .name)) (inserted-at p qs)
     differ = stands-here (p .name) q qs e
 
     go : Dec (q .name < p .name) → (stands (p .name) qs ≡ false → inserted p qs ≡ putAt (rank (p .name) qs) p qs)
-        → (if ltb (p .name) (q .name) then p ∷ q ∷ qs else q ∷ inserted p qs) ≡ putAt (if ltb (q .name) (p .name) then suc (rank (p .name) qs) else 0) p (q ∷ qs)
+        → (if ltb (p .name) (q .name) then p ∷ q ∷ qs else q ∷ inserted p qs)
+        ≡ putAt (if ltb (q .name) (p .name) then suc (rank (p .name) qs) else 0) p (q ∷ qs)
     go (yes l) r = rw (le-ltb (p .name) (q .name) (omega arith), lt-ltb (q .name) (p .name) l) (ap (_∷_ q) (r (differ .1)))
     go (no l) r = rw (lt-ltb (p .name) (q .name) (let apart = differ .0 in omega arith), le-ltb (q .name) (p .name) (omega arith))
 
@@ -90,7 +93,8 @@ module _ (h : Header) (name : ℕ) (d : NamedHazard) where
   stands-place low [] t w = absurd (omega (arith, w .0))
   stands-place low (p ∷ ps) t w = go (decLt (p .name) name) w (stands-place (p .name + 1) ps (t .3))
     where
-      go : Dec (p .name < name) → (((if ltb (p .name) name then suc (rank name ps) else 0) < suc (length ps)) × (getD (p ∷ ps) (if ltb (p .name) name then suc (rank name ps) else 0) d .name ≡ name))
+      go : Dec (p .name < name) → (((if ltb (p .name) name then suc (rank name ps) else 0) < suc (length ps))
+          × (getD (p ∷ ps) (if ltb (p .name) name then suc (rank name ps) else 0) d .name ≡ name))
           → (atPlace ps → someOf (λ (q : NamedHazard). eqb (q .name) name) ps ≡ true)
           → (eqb (p .name) name || someOf (λ (q : NamedHazard). eqb (q .name) name) ps) ≡ true
       go (yes l) v r = let u = rw (lt-ltb (p .name) name l) at v in rw (ne-eqb (p .name) name (λ e. omega arith)) (r (omega (arith, u .0), u .1))
@@ -101,7 +105,8 @@ module _ (h : Header) (name : ℕ) (d : NamedHazard) where
   not-at-place low [] t w = refl
   not-at-place low (p ∷ ps) t w = go (decLt (p .name) name) w (not-at-place (p .name + 1) ps (t .3))
     where
-      go : Dec (p .name < name) → ((((if ltb (p .name) name then suc (rank name ps) else 0) < suc (length ps)) × (getD (p ∷ ps) (if ltb (p .name) name then suc (rank name ps) else 0) d .name ≡ name)) → ⊥)
+      go : Dec (p .name < name) → ((((if ltb (p .name) name then suc (rank name ps) else 0) < suc (length ps))
+          × (getD (p ∷ ps) (if ltb (p .name) name then suc (rank name ps) else 0) d .name ≡ name)) → ⊥)
           → ((atPlace ps → ⊥) → someOf (λ (q : NamedHazard). eqb (q .name) name) ps ≡ false)
           → (eqb (p .name) name || someOf (λ (q : NamedHazard). eqb (q .name) name) ps) ≡ false
       go (yes l) v r = let u = rw (lt-ltb (p .name) name l) at v in rw (ne-eqb (p .name) name (λ e. omega arith)) (r (λ k. u (omega (arith, k .0), k .1)))
@@ -117,9 +122,11 @@ module _ (h : Header) (name : ℕ) where
   without-at low [] t e = absurd (false≢true e)
   without-at low (p ∷ ps) t e = go (decLt (p .name) name) (ℕ-discrete (p .name) name) (without-at (p .name + 1) ps (t .3)) e
     where
-      go : Dec (p .name < name) → Dec (p .name ≡ name) → (someOf (λ (q : NamedHazard). eqb (q .name) name) ps ≡ true → without name ps ≡ takenAt (rank name ps) ps)
+      go : Dec (p .name < name) → Dec (p .name ≡ name)
+          → (someOf (λ (q : NamedHazard). eqb (q .name) name) ps ≡ true → without name ps ≡ takenAt (rank name ps) ps)
           → (eqb (p .name) name || someOf (λ (q : NamedHazard). eqb (q .name) name) ps) ≡ true
-          → (if not (eqb (p .name) name) then p ∷ without name ps else without name ps) ≡ takenAt (if ltb (p .name) name then suc (rank name ps) else 0) (p ∷ ps)
+          → (if not (eqb (p .name) name) then p ∷ without name ps else without name ps)
+          ≡ takenAt (if ltb (p .name) name then suc (rank name ps) else 0) (p ∷ ps)
       go (yes l) s r f =
           let apart : eqb (p .name) name ≡ false = ne-eqb (p .name) name (λ q. omega arith) in
           rw (apart, lt-ltb (p .name) name l) (ap (_∷_ p) (r (rw apart at f)))
@@ -133,7 +140,9 @@ module _ (h : Header) (name : ℕ) where
   rank-within low [] t e = absurd (false≢true e)
   rank-within low (p ∷ ps) t e = go (decLt (p .name) name) (rank-within (p .name + 1) ps (t .3)) e
     where
-      go : Dec (p .name < name) → (someOf (λ (q : NamedHazard). eqb (q .name) name) ps ≡ true → rank name ps < length ps) → (eqb (p .name) name || someOf (λ (q : NamedHazard). eqb (q .name) name) ps) ≡ true → (if ltb (p .name) name then suc (rank name ps) else 0) < suc (length ps)
+      go : Dec (p .name < name) → (someOf (λ (q : NamedHazard). eqb (q .name) name) ps ≡ true → rank name ps < length ps)
+          → (eqb (p .name) name || someOf (λ (q : NamedHazard). eqb (q .name) name) ps) ≡ true
+          → (if ltb (p .name) name then suc (rank name ps) else 0) < suc (length ps)
       go (yes l) r f =
           let within = r (rw (ne-eqb (p .name) name (λ q. omega arith)) at f) in
           rw (lt-ltb (p .name) name l) (omega arith)
@@ -148,8 +157,10 @@ module _ (h : Header) (name : ℕ) where
       own : NamedHazard → Bool
       own q = eqb (q .name) name
 
-      go : Dec (p .name < name) → Dec (p .name ≡ name) → (someOf own ps ≡ true → getD (filter own ps) 0 unused ≡ getD ps (rank name ps) unused) → (eqb (p .name) name || someOf own ps) ≡ true
-          → getD (if eqb (p .name) name then p ∷ filter own ps else filter own ps) 0 unused ≡ getD (p ∷ ps) (if ltb (p .name) name then suc (rank name ps) else 0) unused
+      go : Dec (p .name < name) → Dec (p .name ≡ name) → (someOf own ps ≡ true → getD (filter own ps) 0 unused ≡ getD ps (rank name ps) unused)
+          → (eqb (p .name) name || someOf own ps) ≡ true
+          → getD (if eqb (p .name) name then p ∷ filter own ps else filter own ps) 0 unused
+          ≡ getD (p ∷ ps) (if ltb (p .name) name then suc (rank name ps) else 0) unused
       go (yes l) s r f =
           let apart : eqb (p .name) name ≡ false = ne-eqb (p .name) name (λ q. omega arith) in
           rw (apart, lt-ltb (p .name) name l) (r (rw apart at f))
@@ -160,10 +171,12 @@ module _ (h : Header) (name : ℕ) where
 
 -- Putting in keeps the rules
 
-pub inserted-stand : (h : Header) (low : ℕ) (p : NamedHazard) (ps : List NamedHazard) → low ≤ p .name → p .name ≤ greatestName → Admitted h (unnamed p) → stands (p .name) ps ≡ false → Stand h low ps → Stand h low (inserted p ps)
+pub inserted-stand : (h : Header) (low : ℕ) (p : NamedHazard) (ps : List NamedHazard) → low ≤ p .name → p .name ≤ greatestName → Admitted h (unnamed p)
+    → stands (p .name) ps ≡ false → Stand h low ps → Stand h low (inserted p ps)
 unfolding inserted
 inserted-stand h low p [] l top may none t = (l, top, may, tt)
-inserted-stand h low p (q ∷ qs) l top may none t = go (decLt (p .name) (q .name)) (λ after fresh. inserted-stand h (q .name + 1) p qs after top may fresh (t .3))
+inserted-stand h low p (q ∷ qs) l top may none t =
+    go (decLt (p .name) (q .name)) (λ after fresh. inserted-stand h (q .name + 1) p qs after top may fresh (t .3))
   where
     differ : (q .name ≡ p .name → ⊥) × (stands (p .name) qs ≡ false)
     differ = stands-here (p .name) q qs none
@@ -171,7 +184,8 @@ inserted-stand h low p (q ∷ qs) l top may none t = go (decLt (p .name) (q .nam
     above : (a b : ℕ) → (b < a → ⊥) → (a ≡ b → ⊥) → a + 1 ≤ b
     above a b n m = omega arith
 
-    go : Dec (p .name < q .name) → (q .name + 1 ≤ p .name → stands (p .name) qs ≡ false → Stand h (q .name + 1) (inserted p qs)) → Stand h low (if ltb (p .name) (q .name) then p ∷ q ∷ qs else q ∷ inserted p qs)
+    go : Dec (p .name < q .name) → (q .name + 1 ≤ p .name → stands (p .name) qs ≡ false → Stand h (q .name + 1) (inserted p qs))
+        → Stand h low (if ltb (p .name) (q .name) then p ∷ q ∷ qs else q ∷ inserted p qs)
     go (yes d) later = rw (lt-ltb (p .name) (q .name) d) (l, top, may, (omega arith, t .1, t .2, t .3))
     go (no d) later =
         let after : q .name + 1 ≤ p .name = above (q .name) (p .name) d (differ .0) in

@@ -55,7 +55,8 @@ pub header-parts : (h : Header) → headerInRange h ≡ (inRanges nextInHeader [
 unfolding headerInRange lastInRange
 header-parts h =
     let plain = eqb (h .kind) 2 || eqb (h .panel) 1 in
-    ap (λ (b : Bool). b && plain) (ranges-parts nextInHeader [] (sharedNumbers h) (lastNumbers h)) ∙ and-assoc (inRanges nextInHeader [] (sharedNumbers h)) (inRanges nextInHeader (sharedNumbers h) (lastNumbers h)) plain
+    ap (λ (b : Bool). b && plain) (ranges-parts nextInHeader [] (sharedNumbers h) (lastNumbers h))
+    ∙ and-assoc (inRanges nextInHeader [] (sharedNumbers h)) (inRanges nextInHeader (sharedNumbers h) (lastNumbers h)) plain
 
 -- A road that begins behind the last station but one is out of range.
 pub begin-out : (h : Header) → 999999999999 < h .begin → inRanges nextInHeader [] (sharedNumbers h) ≡ false
@@ -80,8 +81,10 @@ last-counted : (h : Header) (n : ℕ) → lastInRange h ≡ true → n ≤ 256 �
 last-counted h n last few = go (ℕ-discrete (h .kind) 2)
   where
     go : Dec (h .kind ≡ 2) → lastInRange (counted h n) ≡ true
-    go (yes two) = sym (last-of-two (counted h n) two) ∙ and-intro (and-left (leb 1 (h .panel) && leb (h .panel) 10000) (leb (h .count) 256) (last-of-two h two ∙ last)) (le-leb n 256 few)
-    go (no other) = sym (last-of-one (counted h n) other) ∙ and-intro (le-leb n 256 few) (and-right (leb (h .count) 256) (eqb (h .panel) 1) (last-of-one h other ∙ last))
+    go (yes two) = sym (last-of-two (counted h n) two)
+        ∙ and-intro (and-left (leb 1 (h .panel) && leb (h .panel) 10000) (leb (h .count) 256) (last-of-two h two ∙ last)) (le-leb n 256 few)
+    go (no other) =
+        sym (last-of-one (counted h n) other) ∙ and-intro (le-leb n 256 few) (and-right (leb (h .count) 256) (eqb (h .panel) 1) (last-of-one h other ∙ last))
 
 pub counted-fits : (h : Header) (n : ℕ) → HeaderFits h → n ≤ 256 → HeaderFits (counted h n)
 counted-fits h n fits few =
@@ -118,7 +121,8 @@ pub wide-out : (h : Header) (z : Hazard) → isNarrow z ≡ false → false ≡ 
 wide-out h z e = go (hazardInRange h z) refl
   where
     fit : HazardBounds h z → isNarrow z ≡ true
-    fit b = rw (lt-ltb (z .side) 256 (omega arith), lt-ltb (z .near) 65536 (omega arith), lt-ltb (z .far) 65536 (omega arith), lt-ltb (z .level) 256 (omega arith))
+    fit b =
+        rw (lt-ltb (z .side) 256 (omega arith), lt-ltb (z .near) 65536 (omega arith), lt-ltb (z .far) 65536 (omega arith), lt-ltb (z .level) 256 (omega arith))
 
     go : (b : Bool) → hazardInRange h z ≡ b → false ≡ b
     go true r = absurd (not-both (fit (hazard-bounds h z r)) e)

@@ -148,7 +148,8 @@ unused-are (p ∷ ps) e = ap₂ _∷_ (unused-is p (and-left (isUnused p) (allOf
 module _ (m : StoredJob) (good : isOpenJob m ≡ true) where
   names : headerInRange (m .header) && namesRise 0 (standing m) && allOf (admissible (m .header)) (standing m) ≡ true
   unfolding isOpenJob
-  names = and-left (headerInRange (m .header) && namesRise 0 (standing m) && allOf (admissible (m .header)) (standing m)) (allOf isUnused (drop (m .header .count) (m .hazards))) good
+  names = and-left (headerInRange (m .header) && namesRise 0 (standing m) && allOf (admissible (m .header)) (standing m))
+      (allOf isUnused (drop (m .header .count) (m .hazards))) good
 
   header : headerInRange (m .header) && namesRise 0 (standing m) ≡ true
   header = and-left (headerInRange (m .header) && namesRise 0 (standing m)) (allOf (admissible (m .header)) (standing m)) names
@@ -166,16 +167,23 @@ module _ (m : StoredJob) (good : isOpenJob m ≡ true) where
 
   pub open-unused : allOf isUnused (drop (m .header .count) (m .hazards)) ≡ true
   unfolding isOpenJob
-  open-unused = and-right (headerInRange (m .header) && namesRise 0 (standing m) && allOf (admissible (m .header)) (standing m)) (allOf isUnused (drop (m .header .count) (m .hazards))) good
+  open-unused = and-right (headerInRange (m .header) && namesRise 0 (standing m) && allOf (admissible (m .header)) (standing m))
+      (allOf isUnused (drop (m .header .count) (m .hazards))) good
 
   module _ (size : length (m .hazards) ≡ 256) where
     pub open-clear : ZerosAfter m
-    open-clear = record { behind = unused-are _ open-unused ∙ ap (λ (n : ℕ). replicate n unused) (length-drop (m .header .count) (m .hazards) ∙ ap (λ (n : ℕ). n - m .header .count) size) }
+    open-clear = record {
+      behind = unused-are _ open-unused ∙ ap (λ (n : ℕ). replicate n unused)
+          (length-drop (m .header .count) (m .hazards) ∙ ap (λ (n : ℕ). n - m .header .count) size);
+    }
 
     pub open-accepted : AcceptedFits (jobOf m)
     open-accepted =
         let number : length (standing m) ≡ m .header .count = length-take-le (m .header .count) (m .hazards) (omega (arith, open-count)) in
-        record { fits = record { header = open-header; hazards = record { count = length-map (standing m) unnamed ∙ number; each = λ z k. one z k .fits } }; passed = λ z k. one z k .passed }
+        record {
+          fits = record { header = open-header; hazards = record { count = length-map (standing m) unnamed ∙ number; each = λ z k. one z k .fits } };
+          passed = λ z k. one z k .passed;
+        }
       where
         one : (z : Hazard) → List·Memᴰ z (map unnamed (standing m)) → Admitted (m .header) z
         one z k = let w = Memᴰ·of-map unnamed (standing m) k in subst (Admitted (m .header)) (w .2) (stand-each (m .header) 0 (standing m) open-standing (w .1))

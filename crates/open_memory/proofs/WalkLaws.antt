@@ -61,7 +61,8 @@ module _ (job : StoredJob) (size : length (job .hazards) ≡ 256) (few : job .he
 
   -- The hazard with an index among those that stand.
   ahead : (i : ℕ) → i < job .header .count → drop i (standing job) ≡ getD (job .hazards) i unused ∷ drop (i + 1) (standing job)
-  ahead i l = behind (standing job) i (omega (arith, standing-length)) ∙ ap (λ (p : NamedHazard). p ∷ drop (i + 1) (standing job)) (getD-take (job .header .count) (job .hazards) i unused l)
+  ahead i l = behind (standing job) i (omega (arith, standing-length))
+      ∙ ap (λ (p : NamedHazard). p ∷ drop (i + 1) (standing job)) (getD-take (job .header .count) (job .hazards) i unused l)
 
   none-ahead : (i : ℕ) → job .header .count ≤ i → drop i (standing job) ≡ []
   none-ahead i e = drop-of-length-le (standing job) {i = i} (omega (arith, standing-length))
@@ -75,15 +76,21 @@ module _ (job : StoredJob) (size : length (job .hazards) ≡ 256) (few : job .he
     abbrev one : Bool
     one = inOrderFrom (job .header) low (getD (job .hazards) i unused)
 
-    turned : (one && allInOrder (job .header) (getD (job .hazards) i unused .name + 1) (drop (i + 1) (standing job))) ≡ allInOrder (job .header) 0 (standing job)
+    turned : (one && allInOrder (job .header) (getD (job .hazards) i unused .name + 1) (drop (i + 1) (standing job)))
+        ≡ allInOrder (job .header) 0 (standing job)
     unfolding allInOrder
     turned = sym (ap (allInOrder (job .header) low) (ahead i l)) ∙ left .same
 
     pub order-next : one ≡ true → OrderLeft job (getD (job .hazards) i unused .name + 1) (i + 1)
-    order-next e = record { most = omega arith; same = subst (λ (b : Bool). (b && allInOrder (job .header) (getD (job .hazards) i unused .name + 1) (drop (i + 1) (standing job))) ≡ allInOrder (job .header) 0 (standing job)) e turned }
+    order-next e = record {
+      most = omega arith;
+      same = subst (λ (b : Bool). (b && allInOrder (job .header) (getD (job .hazards) i unused .name + 1) (drop (i + 1) (standing job)))
+          ≡ allInOrder (job .header) 0 (standing job)) e turned;
+    }
 
     pub order-not : one ≡ false → false ≡ allInOrder (job .header) 0 (standing job)
-    order-not e = subst (λ (b : Bool). (b && allInOrder (job .header) (getD (job .hazards) i unused .name + 1) (drop (i + 1) (standing job))) ≡ allInOrder (job .header) 0 (standing job)) e turned
+    order-not e = subst (λ (b : Bool). (b && allInOrder (job .header) (getD (job .hazards) i unused .name + 1) (drop (i + 1) (standing job)))
+        ≡ allInOrder (job .header) 0 (standing job)) e turned
 
   pub order-all : {low i : ℕ} → OrderLeft job low i → job .header .count ≤ i → true ≡ allInOrder (job .header) 0 (standing job)
   unfolding allInOrder
@@ -95,15 +102,21 @@ module _ (job : StoredJob) (size : length (job .hazards) ≡ 256) (few : job .he
   unused-start = record { most = few; same = refl }
 
   module _ {i : ℕ} (left : UnusedLeft job i) (l : i < 256) where
-    unused-turn : (isUnused (getD (job .hazards) i unused) && allOf isUnused (drop (i + 1) (job .hazards))) ≡ allOf isUnused (drop (job .header .count) (job .hazards))
+    unused-turn : (isUnused (getD (job .hazards) i unused) && allOf isUnused (drop (i + 1) (job .hazards)))
+        ≡ allOf isUnused (drop (job .header .count) (job .hazards))
     unfolding allOf
     unused-turn = sym (ap (allOf isUnused) (behind (job .hazards) i (omega arith))) ∙ left .same
 
     pub unused-next : isUnused (getD (job .hazards) i unused) ≡ true → UnusedLeft job (i + 1)
-    unused-next e = record { most = omega arith; same = subst (λ (b : Bool). (b && allOf isUnused (drop (i + 1) (job .hazards))) ≡ allOf isUnused (drop (job .header .count) (job .hazards))) e unused-turn }
+    unused-next e = record {
+      most = omega arith;
+      same =
+          subst (λ (b : Bool). (b && allOf isUnused (drop (i + 1) (job .hazards))) ≡ allOf isUnused (drop (job .header .count) (job .hazards))) e unused-turn;
+    }
 
     pub unused-not : isUnused (getD (job .hazards) i unused) ≡ false → false ≡ allOf isUnused (drop (job .header .count) (job .hazards))
-    unused-not e = subst (λ (b : Bool). (b && allOf isUnused (drop (i + 1) (job .hazards))) ≡ allOf isUnused (drop (job .header .count) (job .hazards))) e unused-turn
+    unused-not e =
+        subst (λ (b : Bool). (b && allOf isUnused (drop (i + 1) (job .hazards))) ≡ allOf isUnused (drop (job .header .count) (job .hazards))) e unused-turn
 
   pub unused-all : {i : ℕ} → UnusedLeft job i → 256 ≤ i → true ≡ allOf isUnused (drop (job .header .count) (job .hazards))
   unfolding allOf
@@ -138,8 +151,10 @@ pub rest-element : (old hazards : List NamedHazard) (i k : ℕ) → drop i hazar
 rest-element old hazards i k e = sym (getD-drop i hazards k unused) ∙ ap (λ (l : List NamedHazard). getD l k unused) e ∙ getD-drop i old k unused
 
 -- A hazard stored behind others.
-stored-behind : (hazards : List NamedHazard) (p : NamedHazard) (i : ℕ) → i < length hazards → (rest : List NamedHazard) → take (i + 1) (set hazards i p) ++ rest ≡ take i hazards ++ p ∷ rest
-stored-behind hazards p i l rest = ap (λ (front : List NamedHazard). front ++ rest) (ap (λ (k : ℕ). take k (set hazards i p)) (add-one i) ∙ take-suc-set hazards i p l) ∙ append-assoc (take i hazards) (p ∷ []) rest
+stored-behind : (hazards : List NamedHazard) (p : NamedHazard) (i : ℕ) → i < length hazards → (rest : List NamedHazard)
+    → take (i + 1) (set hazards i p) ++ rest ≡ take i hazards ++ p ∷ rest
+stored-behind hazards p i l rest = ap (λ (front : List NamedHazard). front ++ rest)
+    (ap (λ (k : ℕ). take k (set hazards i p)) (add-one i) ∙ take-suc-set hazards i p l) ∙ append-assoc (take i hazards) (p ∷ []) rest
 
 -- One unused place less.
 unused-tail : (i : ℕ) (l : List NamedHazard) → i < 256 → drop i l ≡ replicate (256 - i) unused → drop (suc i) l ≡ replicate (256 - (i + 1)) unused
@@ -149,15 +164,24 @@ unused-tail i l h e =
 
 module _ (job : StoredJob) (size : length (job .hazards) ≡ 256) (clear : ZerosAfter job) where
   -- Hazards laid out behind the header.
-  laid : (n : ℕ) (ps hazards : List NamedHazard) → length ps ≡ n → hazards ≡ ps ++ replicate (256 - n) unused → record { header = counted (job .header) n; hazards = hazards } ≡ laidOut (job .header) ps
-  laid n ps hazards e b = subst (λ (k : ℕ). record { header = counted (job .header) k; hazards = hazards } ≡ laidOut (job .header) ps) e (ap (λ (l : List NamedHazard). record { header = counted (job .header) (length ps); hazards = l }) (b ∙ ap (λ (k : ℕ). ps ++ replicate (256 - k) unused) (sym e)))
+  laid : (n : ℕ) (ps hazards : List NamedHazard) → length ps ≡ n → hazards ≡ ps ++ replicate (256 - n) unused
+      → record { header = counted (job .header) n; hazards = hazards } ≡ laidOut (job .header) ps
+  laid n ps hazards e b = subst (λ (k : ℕ). record { header = counted (job .header) k; hazards = hazards } ≡ laidOut (job .header) ps) e
+      (ap (λ (l : List NamedHazard). record { header = counted (job .header) (length ps); hazards = l })
+      (b ∙ ap (λ (k : ℕ). ps ++ replicate (256 - k) unused) (sym e)))
 
   -- Putting in
   module _ (few : job .header .count < 256) (at : ℕ) (within : at ≤ job .header .count) (new : NamedHazard) where
     pub up-start : MovingUp job at new (job .hazards) new at
-    up-start = record { most = within; room = size; rest = refl; same = ap (λ (l : List NamedHazard). l ++ new ∷ drop at (standing job)) (sym (take-take at (job .header .count) (job .hazards) within)) }
+    up-start = record {
+      most = within;
+      room = size;
+      rest = refl;
+      same = ap (λ (l : List NamedHazard). l ++ new ∷ drop at (standing job)) (sym (take-take at (job .header .count) (job .hazards) within));
+    }
 
-    pub up-next : {hazards : List NamedHazard} {moved : NamedHazard} {i : ℕ} → MovingUp job at new hazards moved i → i < job .header .count → MovingUp job at new (set hazards i moved) (getD hazards i unused) (i + 1)
+    pub up-next : {hazards : List NamedHazard} {moved : NamedHazard} {i : ℕ} → MovingUp job at new hazards moved i → i < job .header .count
+        → MovingUp job at new (set hazards i moved) (getD hazards i unused) (i + 1)
     up-next {hazards} {moved} {i} so l =
         let next : getD hazards i unused ≡ getD (job .hazards) i unused = rw (add-zero i) at (rest-element (job .hazards) hazards i 0 (so .rest)) in
         record {
@@ -166,28 +190,41 @@ module _ (job : StoredJob) (size : length (job .hazards) ≡ 256) (clear : Zeros
           rest = rest-next (job .hazards) hazards i moved (so .rest);
           same =
               stored-behind hazards moved i (omega (arith, so .room)) (getD hazards i unused ∷ drop (i + 1) (standing job))
-              ∙ ap (λ (l : List NamedHazard). take i hazards ++ moved ∷ l) (ap (λ (p : NamedHazard). p ∷ drop (i + 1) (standing job)) next ∙ sym (ahead job size (omega arith) i l))
+              ∙ ap (λ (l : List NamedHazard). take i hazards ++ moved ∷ l)
+              (ap (λ (p : NamedHazard). p ∷ drop (i + 1) (standing job)) next ∙ sym (ahead job size (omega arith) i l))
               ∙ so .same;
         }
 
     pub up-end : {hazards : List NamedHazard} {moved : NamedHazard} {i : ℕ} → MovingUp job at new hazards moved i → job .header .count ≤ i
-        → record { header = counted (job .header) (job .header .count + 1); hazards = set hazards (job .header .count) moved } ≡ laidOut (job .header) (putAt at new (standing job))
+        → record { header = counted (job .header) (job .header .count + 1); hazards = set hazards (job .header .count) moved }
+        ≡ laidOut (job .header) (putAt at new (standing job))
     up-end {hazards} {moved} {i} so e =
         let n = job .header .count in
-        let here = subst (λ (k : ℕ). (drop k hazards ≡ drop k (job .hazards)) × (take k hazards ++ moved ∷ drop k (standing job) ≡ putAt at new (standing job))) (let last : i ≡ n = omega (arith, so .most) in last) (so .rest, so .same) in
-        let whole : take n hazards ++ moved ∷ [] ≡ putAt at new (standing job) = ap (λ (l : List NamedHazard). take n hazards ++ moved ∷ l) (sym (none-ahead job size (omega arith) n (omega arith))) ∙ here .1 in
+        let here = subst (λ (k : ℕ). (drop k hazards ≡ drop k (job .hazards)) × (take k hazards ++ moved ∷ drop k (standing job) ≡ putAt at new (standing job)))
+        (let last : i ≡ n = omega (arith, so .most) in last) (so .rest, so .same) in
+        let whole : take n hazards ++ moved ∷ [] ≡ putAt at new (standing job) =
+        ap (λ (l : List NamedHazard). take n hazards ++ moved ∷ l) (sym (none-ahead job size (omega arith) n (omega arith))) ∙ here .1 in
         let rest = unused-tail n hazards few (here .0 ∙ clear .behind) in
-        let number : length (putAt at new (standing job)) ≡ n + 1 = sym (ap length whole) ∙ length-append (take n hazards) (moved ∷ []) ∙ ap (λ (k : ℕ). k + 1) (length-take-le n hazards (omega (arith, so .room))) in
+        let number : length (putAt at new (standing job)) ≡ n + 1 =
+        sym (ap length whole) ∙ length-append (take n hazards) (moved ∷ []) ∙ ap (λ (k : ℕ). k + 1) (length-take-le n hazards (omega (arith, so .room))) in
         laid (n + 1) (putAt at new (standing job)) (set hazards n moved) number
         (set-split hazards n moved (omega (arith, so .room)) ∙ ap (λ (l : List NamedHazard). take n hazards ++ moved ∷ l) rest
-        ∙ sym (append-assoc (take n hazards) (moved ∷ []) (replicate (256 - (n + 1)) unused)) ∙ ap (λ (l : List NamedHazard). l ++ replicate (256 - (n + 1)) unused) whole)
+        ∙ sym (append-assoc (take n hazards) (moved ∷ []) (replicate (256 - (n + 1)) unused))
+        ∙ ap (λ (l : List NamedHazard). l ++ replicate (256 - (n + 1)) unused) whole)
 
   -- Taking out
   module _ (few : job .header .count ≤ 256) (at : ℕ) (within : at < job .header .count) where
     pub down-start : MovingDown job at (job .hazards) at
-    down-start = record { most = within; room = size; rest = refl; same = ap₂ (λ (l : List NamedHazard) (k : ℕ). l ++ drop k (standing job)) (sym (take-take at (job .header .count) (job .hazards) (omega arith))) (add-one at) }
+    down-start = record {
+      most = within;
+      room = size;
+      rest = refl;
+      same = ap₂ (λ (l : List NamedHazard) (k : ℕ). l ++ drop k (standing job)) (sym (take-take at (job .header .count) (job .hazards) (omega arith)))
+          (add-one at);
+    }
 
-    pub down-next : {hazards : List NamedHazard} {i : ℕ} → MovingDown job at hazards i → i + 1 < job .header .count → MovingDown job at (set hazards i (getD hazards (i + 1) unused)) (i + 1)
+    pub down-next : {hazards : List NamedHazard} {i : ℕ} → MovingDown job at hazards i → i + 1 < job .header .count
+        → MovingDown job at (set hazards i (getD hazards (i + 1) unused)) (i + 1)
     down-next {hazards} {i} so l =
         let p = getD hazards (i + 1) unused in
         let next : p ≡ getD (job .hazards) (i + 1) unused = rest-element (job .hazards) hazards i 1 (so .rest) in
@@ -197,36 +234,46 @@ module _ (job : StoredJob) (size : length (job .hazards) ≡ 256) (clear : Zeros
           rest = rest-next (job .hazards) hazards i p (so .rest);
           same =
               stored-behind hazards p i (omega (arith, so .room)) (drop (i + 1 + 1) (standing job))
-              ∙ ap (λ (l : List NamedHazard). take i hazards ++ l) (ap (λ (q : NamedHazard). q ∷ drop (i + 1 + 1) (standing job)) next ∙ sym (ahead job size few (i + 1) l))
+              ∙ ap (λ (l : List NamedHazard). take i hazards ++ l)
+              (ap (λ (q : NamedHazard). q ∷ drop (i + 1 + 1) (standing job)) next ∙ sym (ahead job size few (i + 1) l))
               ∙ so .same;
         }
 
     pub down-end : {hazards : List NamedHazard} {i : ℕ} → MovingDown job at hazards i → job .header .count ≤ i + 1
-        → record { header = counted (job .header) (job .header .count - 1); hazards = set hazards (job .header .count - 1) unused } ≡ laidOut (job .header) (takenAt at (standing job))
+        → record { header = counted (job .header) (job .header .count - 1); hazards = set hazards (job .header .count - 1) unused }
+        ≡ laidOut (job .header) (takenAt at (standing job))
     down-end {hazards} {i} so e =
         let n = job .header .count in
         let k = n - 1 in
-        let here = subst (λ (x : ℕ). (drop x hazards ≡ drop x (job .hazards)) × (take x hazards ++ drop (x + 1) (standing job) ≡ takenAt at (standing job))) (let last : i ≡ k = omega (arith, so .most) in last) (so .rest, so .same) in
-        let whole : take k hazards ≡ takenAt at (standing job) = sym (append-nil (take k hazards)) ∙ ap (λ (l : List NamedHazard). take k hazards ++ l) (sym (none-ahead job size few (k + 1) (omega arith))) ∙ here .1 in
+        let here = subst (λ (x : ℕ). (drop x hazards ≡ drop x (job .hazards)) × (take x hazards ++ drop (x + 1) (standing job) ≡ takenAt at (standing job)))
+        (let last : i ≡ k = omega (arith, so .most) in last) (so .rest, so .same) in
+        let whole : take k hazards ≡ takenAt at (standing job) = sym (append-nil (take k hazards))
+        ∙ ap (λ (l : List NamedHazard). take k hazards ++ l) (sym (none-ahead job size few (k + 1) (omega arith))) ∙ here .1 in
         let up : k + 1 ≡ n = omega arith in
         let rest : drop (suc k) hazards ≡ replicate (256 - n) unused =
-        ap (λ (x : ℕ). drop x hazards) (sym (add-one k)) ∙ sym (drop-drop 1 k hazards) ∙ ap (drop 1) (here .0) ∙ drop-drop 1 k (job .hazards) ∙ ap (λ (x : ℕ). drop x (job .hazards)) up ∙ clear .behind in
+        ap (λ (x : ℕ). drop x hazards) (sym (add-one k)) ∙ sym (drop-drop 1 k hazards) ∙ ap (drop 1) (here .0) ∙ drop-drop 1 k (job .hazards)
+        ∙ ap (λ (x : ℕ). drop x (job .hazards)) up ∙ clear .behind in
         let number : length (takenAt at (standing job)) ≡ k = sym (ap length whole) ∙ length-take-le k hazards (omega (arith, so .room)) in
         let more : suc (256 - n) ≡ 256 - k = omega arith in
         laid k (takenAt at (standing job)) (set hazards k unused) number
-        (set-split hazards k unused (omega (arith, so .room)) ∙ ap₂ (λ (a b : List NamedHazard). a ++ unused ∷ b) whole rest ∙ ap (λ (x : ℕ). takenAt at (standing job) ++ replicate x unused) more)
+        (set-split hazards k unused (omega (arith, so .room)) ∙ ap₂ (λ (a b : List NamedHazard). a ++ unused ∷ b) whole rest
+        ∙ ap (λ (x : ℕ). takenAt at (standing job) ++ replicate x unused) more)
 
 -- Whether a name stands, by the hazard at its place
 module _ (m : StoredJob) (good : isOpenJob m ≡ true) (size : length (m .hazards) ≡ 256) (name at : ℕ) (place : at ≡ rank name (standing m)) where
   there : Dec (getD (m .hazards) at unused .name ≡ name) → at < m .header .count → eqb (getD (m .hazards) at unused .name) name ≡ stands name (standing m)
   there d l =
       let number = standing-length m size (open-count m good) in
-      let own : getD (standing m) (rank name (standing m)) unused ≡ getD (m .hazards) at unused = ap (λ (k : ℕ). getD (standing m) k unused) (sym place) ∙ getD-take (m .header .count) (m .hazards) at unused l in
+      let own : getD (standing m) (rank name (standing m)) unused ≡ getD (m .hazards) at unused =
+      ap (λ (k : ℕ). getD (standing m) k unused) (sym place) ∙ getD-take (m .header .count) (m .hazards) at unused l in
       go d own (omega arith)
     where
-      go : Dec (getD (m .hazards) at unused .name ≡ name) → getD (standing m) (rank name (standing m)) unused ≡ getD (m .hazards) at unused → rank name (standing m) < length (standing m) → eqb (getD (m .hazards) at unused .name) name ≡ stands name (standing m)
-      go (yes e) own within = eq-eqb _ name e ∙ sym (stands-place (m .header) name unused 0 (standing m) (open-standing m good) (within, ap (λ (p : NamedHazard). p .name) own ∙ e))
-      go (no e) own within = ne-eqb _ name e ∙ sym (not-at-place (m .header) name unused 0 (standing m) (open-standing m good) (λ w. e (sym (ap (λ (p : NamedHazard). p .name) own) ∙ w .1)))
+      go : Dec (getD (m .hazards) at unused .name ≡ name) → getD (standing m) (rank name (standing m)) unused ≡ getD (m .hazards) at unused
+          → rank name (standing m) < length (standing m) → eqb (getD (m .hazards) at unused .name) name ≡ stands name (standing m)
+      go (yes e) own within = eq-eqb _ name e ∙ sym
+          (stands-place (m .header) name unused 0 (standing m) (open-standing m good) (within, ap (λ (p : NamedHazard). p .name) own ∙ e))
+      go (no e) own within = ne-eqb _ name e ∙ sym
+          (not-at-place (m .header) name unused 0 (standing m) (open-standing m good) (λ w. e (sym (ap (λ (p : NamedHazard). p .name) own) ∙ w .1)))
 
   pub stands-tested : at < m .header .count → eqb (getD (m .hazards) at unused .name) name ≡ stands name (standing m)
   stands-tested l = there (ℕ-discrete (getD (m .hazards) at unused .name) name) l

@@ -4,7 +4,8 @@ use Prim.Native.Nat.{ℕ}
 use mathlib.Core.Path.{_≡_, refl, sym, ap, ap₂, subst, _∙_}
 use mathlib.Core.Logic.{_⊎_, inl, inr, ⊎-elim}
 use mathlib.Core.Bool.{Bool, true, false}
-use mathlib.Core.List.{List, [], _∷_, _++_, foldl, foldl-append, List·Memᴰ, List·Memᴰ·head, List·Memᴰ·tail, List·Memᴰ·cases-cons, List·Memᴰ·not-nil, List·Memᴰ·append-cases, List·Memᴰ·eq-of-singleton, Memᴰ·append-left, Memᴰ·append-right}
+use mathlib.Core.List.{List, [], _∷_, _++_, foldl, foldl-append, List·Memᴰ, List·Memᴰ·head, List·Memᴰ·tail, List·Memᴰ·cases-cons, List·Memᴰ·not-nil}
+use mathlib.Core.List.{List·Memᴰ·append-cases, List·Memᴰ·eq-of-singleton, Memᴰ·append-left, Memᴰ·append-right}
 use Rattle.base.specs.Choice.{if_then_else_}
 use Rattle.base.specs.Answer.{isAccepted}
 use Rattle.base.proofs.TestLaws.{impossible}
@@ -37,9 +38,11 @@ module _ (h : Header) (past : List NamedHazard) (p : NamedHazard) where
       stays : List·Memᴰ p past → StaysOrComes h past (add name z) p
       stays k = inl (k, λ e. impossible cc)
 
-      go : (b : Bool) → isAccepted (testAdd h past name z) ≡ b → List·Memᴰ p (if b then past ++ named name z ∷ [] else past) → StaysOrComes h past (add name z) p
+      go : (b : Bool) → isAccepted (testAdd h past name z) ≡ b → List·Memᴰ p (if b then past ++ named name z ∷ [] else past)
+          → StaysOrComes h past (add name z) p
       go false e k = stays k
-      go true e k = ⊎-elim stays (λ (l : List·Memᴰ p (named name z ∷ [])). inr (subst (Adds h past (add name z)) (sym (List·Memᴰ·eq-of-singleton l)) (record { is = refl; not-refused = e }))) (List·Memᴰ·append-cases past k)
+      go true e k = ⊎-elim stays (λ (l : List·Memᴰ p (named name z ∷ [])). inr
+          (subst (Adds h past (add name z)) (sym (List·Memᴰ·eq-of-singleton l)) (record { is = refl; not-refused = e }))) (List·Memᴰ·append-cases past k)
 
   one-from : (c : Edit) → StaysOrComes h past c p → List·Memᴰ p (standAfter (testAdd h) past c)
   unfolding standAfter
@@ -54,7 +57,8 @@ module _ (h : Header) (past : List NamedHazard) (p : NamedHazard) where
       let e = a .is in
       let same : name ≡ p .name = cc in
       let hazard : z ≡ unnamed p = cc in
-      rw (ap₂ (λ (n : ℕ) (y : Hazard). isAccepted (testAdd h past n y)) same hazard ∙ a .not-refused) (Memᴰ·append-right past (List·Memᴰ·head (sym (ap₂ named same hazard))))
+      rw (ap₂ (λ (n : ℕ) (y : Hazard). isAccepted (testAdd h past n y)) same hazard ∙ a .not-refused)
+      (Memᴰ·append-right past (List·Memᴰ·head (sym (ap₂ named same hazard))))
 
 -- A list of edits
 
@@ -64,7 +68,8 @@ StoodOrAdded h past cs p = (List·Memᴰ p past × (List·Memᴰ (withdraw (p .n
 -- One edit before others.
 module _ (h : Header) (past : List NamedHazard) (c : Edit) (cs : List Edit) (p : NamedHazard) where
   went : StoodOrAdded h (standAfter (testAdd h) past c) cs p → StoodOrAdded h past (c ∷ cs) p
-  went (inr a) = inr (record { before = c ∷ a .before; since = a .since; split = ap (_∷_ c) (a .split); not-refused = a .not-refused; not-withdrawn = a .not-withdrawn })
+  went (inr a) =
+      inr (record { before = c ∷ a .before; since = a .since; split = ap (_∷_ c) (a .split); not-refused = a .not-refused; not-withdrawn = a .not-withdrawn })
   went (inl w) = go (one-to h past p c (w .0))
     where
       go : StaysOrComes h past c p → StoodOrAdded h past (c ∷ cs) p
@@ -75,7 +80,9 @@ module _ (h : Header) (past : List NamedHazard) (c : Edit) (cs : List Edit) (p :
   came (inl w) = inl (one-from h past p c (inl (w .0, λ e. w .1 (List·Memᴰ·head e))), λ k. w .1 (List·Memᴰ·tail k))
   came (inr a) = go (a .before) (a .split) (a .not-refused)
     where
-      go : (before : List Edit) → c ∷ cs ≡ before ++ add (p .name) (unnamed p) ∷ a .since → isAccepted (testAdd h (foldl (standAfter (testAdd h)) past before) (p .name) (unnamed p)) ≡ true → StoodOrAdded h (standAfter (testAdd h) past c) cs p
+      go : (before : List Edit) → c ∷ cs ≡ before ++ add (p .name) (unnamed p) ∷ a .since
+          → isAccepted (testAdd h (foldl (standAfter (testAdd h)) past before) (p .name) (unnamed p)) ≡ true
+          → StoodOrAdded h (standAfter (testAdd h) past c) cs p
       go [] e f =
           let first : c ≡ add (p .name) (unnamed p) = cc in
           let rest : a .since ≡ cs = cc in
@@ -85,11 +92,13 @@ module _ (h : Header) (past : List NamedHazard) (c : Edit) (cs : List Edit) (p :
           let rest : cs ≡ bs ++ add (p .name) (unnamed p) ∷ a .since = cc in
           inr (record { before = bs; since = a .since; split = rest; not-refused = rw first at f; not-withdrawn = a .not-withdrawn })
 
-list-to : (h : Header) (past : List NamedHazard) (cs : List Edit) (p : NamedHazard) → List·Memᴰ p (foldl (standAfter (testAdd h)) past cs) → StoodOrAdded h past cs p
+list-to : (h : Header) (past : List NamedHazard) (cs : List Edit) (p : NamedHazard) → List·Memᴰ p (foldl (standAfter (testAdd h)) past cs)
+    → StoodOrAdded h past cs p
 list-to h past [] p m = inl (m, List·Memᴰ·not-nil)
 list-to h past (c ∷ cs) p m = went h past c cs p (list-to h (standAfter (testAdd h) past c) cs p m)
 
-list-from : (h : Header) (past : List NamedHazard) (cs : List Edit) (p : NamedHazard) → StoodOrAdded h past cs p → List·Memᴰ p (foldl (standAfter (testAdd h)) past cs)
+list-from : (h : Header) (past : List NamedHazard) (cs : List Edit) (p : NamedHazard) → StoodOrAdded h past cs p
+    → List·Memᴰ p (foldl (standAfter (testAdd h)) past cs)
 list-from h past [] p (inl w) = w .0
 list-from h past [] p (inr a) = none (a .before) (a .split)
   where

@@ -72,7 +72,10 @@ module _ (h : Header) (z : Hazard) where
     from-words : MayBeAdded h past name z → testAdd h past name z ≡ accepted tt
     from-words w =
         rw (stands-none name past (w .fresh), lt-leb mostStanding (length past) (w .room))
-        (admits h name z (record { fits = table-fits (w .ranges); passed = record { clear = λ r. w .clear (ltb-true (z .near) (h .zone) (sym (reached-near h z (w .ranges .side-top)) ∙ r)) } }))
+        (admits h name z (record {
+          fits = table-fits (w .ranges);
+          passed = record { clear = λ r. w .clear (ltb-true (z .near) (h .zone) (sym (reached-near h z (w .ranges .side-top)) ∙ r)) };
+        }))
 
 pub add-promise : AddPromise
 unfolding addTo

@@ -6,7 +6,8 @@ use native.Mathlib.Decide.{ℕ-discrete}
 use mathlib.Core.Path.{_≡_, refl, sym, ap, subst, _∙_}
 use mathlib.Core.Logic.{⊎-elim}
 use mathlib.Core.Bool.{false}
-use mathlib.Core.List.{List, [], _∷_, _++_, map, foldl, foldl-append, append-assoc, append-nil, List·Memᴰ, List·Memᴰ·head, List·Memᴰ·cases-cons, List·Memᴰ·not-nil, List·Memᴰ·append-cases, Memᴰ·append-right, Memᴰ·of-map}
+use mathlib.Core.List.{List, [], _∷_, _++_, map, foldl, foldl-append, append-assoc, append-nil, List·Memᴰ, List·Memᴰ·head, List·Memᴰ·cases-cons}
+use mathlib.Core.List.{List·Memᴰ·not-nil, List·Memᴰ·append-cases, Memᴰ·append-right, Memᴰ·of-map}
 use lib.ListN.{length, length-append}
 use lib.Dec.{eqb}
 use borrow.Author.Tests.{lt-leb, le-ltb, eq-eqb, ne-eqb}
@@ -57,33 +58,42 @@ module _ (h : Header) (p : NamedHazard) (ps : List NamedHazard) where
   last-inserted : (low : ℕ) (qs : List NamedHazard) → Stand h low (qs ++ p ∷ ps) → inserted p qs ≡ qs ++ p ∷ []
   unfolding inserted
   last-inserted low [] t = refl
-  last-inserted low (q ∷ qs) t = rw (le-ltb (p .name) (q .name) (omega (arith, above (q .name + 1) qs (t .3)))) (ap (_∷_ q) (last-inserted (q .name + 1) qs (t .3)))
+  last-inserted low (q ∷ qs) t =
+      rw (le-ltb (p .name) (q .name) (omega (arith, above (q .name + 1) qs (t .3)))) (ap (_∷_ q) (last-inserted (q .name + 1) qs (t .3)))
 
 module _ (h : Header) where
   abbrev pub placedAfterAll : States (List NamedHazard) → List Call → States (List NamedHazard)
   placedAfterAll t calls = foldl (statesAfter (placedAfter h)) t calls
 
-  add-last : (qs : List NamedHazard) (p : NamedHazard) (ps : List NamedHazard) → Stand h 0 (qs ++ p ∷ ps) → length qs < mostStanding → placedAfter h qs (add (p .name) (unnamed p)) ≡ qs ++ p ∷ []
+  add-last : (qs : List NamedHazard) (p : NamedHazard) (ps : List NamedHazard) → Stand h 0 (qs ++ p ∷ ps) → length qs < mostStanding
+      → placedAfter h qs (add (p .name) (unnamed p)) ≡ qs ++ p ∷ []
   unfolding placedAfter
   add-last qs p ps t room =
-      rw (last-fresh h p ps 0 qs t, lt-leb mostStanding (length qs) room, admits h (p .name) (unnamed p) (stand-each h 0 (qs ++ p ∷ ps) t (Memᴰ·append-right qs (List·Memᴰ·head refl)))) (last-inserted h p ps 0 qs t)
+      rw (
+        last-fresh h p ps 0 qs t,
+        lt-leb mostStanding (length qs) room,
+        admits h (p .name) (unnamed p) (stand-each h 0 (qs ++ p ∷ ps) t (Memᴰ·append-right qs (List·Memᴰ·head refl))),
+      ) (last-inserted h p ps 0 qs t)
 
   withdraw-first : (low : ℕ) (p : NamedHazard) (ps : List NamedHazard) → Stand h low (p ∷ ps) → placedAfter h (p ∷ ps) (withdraw (p .name)) ≡ ps
   unfolding placedAfter without filter
   withdraw-first low p ps t = rw (eq-eqb (p .name) (p .name) refl) (none-taken (p .name) ps (none-below h (p .name + 1) (p .name) ps (t .3) (omega arith)))
 
   module _ (kept : ℕ → Kept (List NamedHazard)) where
-    pub adds-leave : (qs ps : List NamedHazard) → Stand h 0 (qs ++ ps) → length qs + length ps ≤ mostStanding → placedAfterAll (holding qs kept) (adds ps) ≡ holding (qs ++ ps) kept
+    pub adds-leave : (qs ps : List NamedHazard) → Stand h 0 (qs ++ ps) → length qs + length ps ≤ mostStanding
+        → placedAfterAll (holding qs kept) (adds ps) ≡ holding (qs ++ ps) kept
     unfolding statesAfter
     adds-leave qs [] t few = ap (λ (l : List NamedHazard). holding l kept) (sym (append-nil qs))
     adds-leave qs (p ∷ ps) t few =
         ap (λ (l : List NamedHazard). placedAfterAll (holding l kept) (adds ps)) (add-last qs p ps t (omega arith))
-        ∙ adds-leave (qs ++ p ∷ []) ps (rw (append-assoc qs (p ∷ []) ps) t) (omega (arith, length-append qs (p ∷ []))) ∙ ap (λ (l : List NamedHazard). holding l kept) (append-assoc qs (p ∷ []) ps)
+        ∙ adds-leave (qs ++ p ∷ []) ps (rw (append-assoc qs (p ∷ []) ps) t) (omega (arith, length-append qs (p ∷ [])))
+        ∙ ap (λ (l : List NamedHazard). holding l kept) (append-assoc qs (p ∷ []) ps)
 
     withdrawals-leave : (low : ℕ) (ps : List NamedHazard) → Stand h low ps → placedAfterAll (holding ps kept) (withdrawals ps) ≡ holding [] kept
     unfolding statesAfter
     withdrawals-leave low [] t = refl
-    withdrawals-leave low (p ∷ ps) t = ap (λ (l : List NamedHazard). placedAfterAll (holding l kept) (withdrawals ps)) (withdraw-first low p ps t) ∙ withdrawals-leave (p .name + 1) ps (t .3)
+    withdrawals-leave low (p ∷ ps) t =
+        ap (λ (l : List NamedHazard). placedAfterAll (holding l kept) (withdrawals ps)) (withdraw-first low p ps t) ∙ withdrawals-leave (p .name + 1) ps (t .3)
 
 -- Each state that is kept, by the rules.
 abbrev pub StandKept : Header → Kept (List NamedHazard) → Type 0
@@ -109,7 +119,8 @@ module _ (h : Header) (what : ℕ → Kept (List NamedHazard)) (rules : (number 
       go (yes q) r = rw (eq-eqb n k q) (ap what q)
       go (no q) r = rw (ne-eqb n k q) (r (omega arith))
 
-  one-kept : (n : ℕ) (x : Kept (List NamedHazard)) → StandKept h x → n ≤ 7 → (kept : ℕ → Kept (List NamedHazard)) → kept n ≡ nothing → placedAfterAll h (holding [] kept) (keepOne x n) ≡ holding [] (λ k. if eqb n k then x else kept k)
+  one-kept : (n : ℕ) (x : Kept (List NamedHazard)) → StandKept h x → n ≤ 7 → (kept : ℕ → Kept (List NamedHazard)) → kept n ≡ nothing
+      → placedAfterAll h (holding [] kept) (keepOne x n) ≡ holding [] (λ k. if eqb n k then x else kept k)
   unfolding keepOne
   one-kept n nothing r most kept none = λ i. holding [] (λ k. same k (ℕ-discrete n k) i)
     where
@@ -127,7 +138,8 @@ module _ (h : Header) (what : ℕ → Kept (List NamedHazard)) (rules : (number 
   below-kept zero most = refl
   below-kept (suc n) most =
       foldl-append (statesAfter (placedAfter h)) (opened []) (keepBelow what n) (keepOne (what n) n)
-      ∙ ap (λ (t : States (List NamedHazard)). placedAfterAll h t (keepOne (what n) n)) (below-kept n (omega arith)) ∙ one-kept n (what n) (rules n) (omega arith) (keptBelow what n) (kept-others n n (omega arith))
+      ∙ ap (λ (t : States (List NamedHazard)). placedAfterAll h t (keepOne (what n) n)) (below-kept n (omega arith))
+      ∙ one-kept n (what n) (rules n) (omega arith) (keptBelow what n) (kept-others n n (omega arith))
 
 -- Their edits can be made
 
@@ -140,7 +152,8 @@ can-both xs ys f g e m = ⊎-elim (f e) (g e) (List·Memᴰ·append-cases xs m)
 pub can-add : (h : Header) (low : ℕ) (ps : List NamedHazard) → Stand h low ps → CanMake (adds ps)
 can-add h low [] t e m = absurd (List·Memᴰ·not-nil m)
 can-add h low (p ∷ ps) t e m =
-    ⊎-elim (λ (q : edit e ≡ edit (add (p .name) (unnamed p))). let same : e ≡ add (p .name) (unnamed p) = cc in subst Nameable (sym same) (t .1)) (can-add h (p .name + 1) ps (t .3) e) (List·Memᴰ·cases-cons m)
+    ⊎-elim (λ (q : edit e ≡ edit (add (p .name) (unnamed p))). let same : e ≡ add (p .name) (unnamed p) = cc in subst Nameable (sym same) (t .1))
+    (can-add h (p .name + 1) ps (t .3) e) (List·Memᴰ·cases-cons m)
 
 can-withdraw : (ps : List NamedHazard) → CanMake (withdrawals ps)
 can-withdraw ps e m =
@@ -152,7 +165,8 @@ can-one : (h : Header) (x : Kept (List NamedHazard)) (n : ℕ) → StandKept h x
 unfolding keepOne
 can-one h nothing n r = λ e m. absurd (List·Memᴰ·not-nil m)
 can-one h (state ps) n r =
-    can-both (adds ps) (keepAs n ∷ withdrawals ps) (can-add h 0 ps (r .0)) (λ e m. ⊎-elim (λ (q : edit e ≡ keepAs n). impossible cc) (can-withdraw ps e) (List·Memᴰ·cases-cons m))
+    can-both (adds ps) (keepAs n ∷ withdrawals ps) (can-add h 0 ps (r .0))
+    (λ e m. ⊎-elim (λ (q : edit e ≡ keepAs n). impossible cc) (can-withdraw ps e) (List·Memᴰ·cases-cons m))
 
 pub can-below : (h : Header) (what : ℕ → Kept (List NamedHazard)) → ((number : ℕ) → StandKept h (what number)) → (n : ℕ) → CanMake (keepBelow what n)
 unfolding keepBelow

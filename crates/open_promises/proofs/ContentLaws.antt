@@ -25,7 +25,8 @@ use Rattle.open_job.proofs.LayoutLaws.{laid-standing, laid-open, add-laid}
 use Rattle.open_job.specs.declared.KeptState.{KeptState}
 use Rattle.open_job.specs.declared.OpenStates.{OpenStates}
 use Rattle.open_job.proofs.StateLaws.{kept-set, states-sound, now-open, each-sound, number-most}
-use Rattle.open_promises.specs.Lists.{add, withdraw, Call, edit, schedule, keepAs, returnTo, afterCall, testNameAndHazard, AgainPromise, RoomPromise, UntouchedPromise, KeepPromise}
+use Rattle.open_promises.specs.Lists.{add, withdraw, Call, edit, schedule, keepAs, returnTo, afterCall, testNameAndHazard, AgainPromise, RoomPromise}
+use Rattle.open_promises.specs.Lists.{UntouchedPromise, KeepPromise}
 use Rattle.open_promises.proofs.HazardLaws.{stand-distinct, without-stands, one-less}
 use Rattle.open_promises.proofs.ReplyLaws.{add-now}
 use Rattle.job.specs.Job.{counted}
@@ -35,8 +36,10 @@ unfolding keepIn
 keep-promise m next number e =
     let b = bound (underRules (areOpenStates m) (testState number)) _ next e in
     let most : number ≤ greatestStateNumber = leb-true _ _ (number-most m number (b .first) (b .taken)) in
-    let made : statesFrom (m .present) (set (keptStates m) number (keptFrom (m .present))) ≡ next = let q = b .rest in cc in
-    (sym (ap (λ (x : OpenStates). keptUnder x number) made) ∙ kept-set m number number (keptFrom (m .present)) most ∙ rw (eq-eqb number number refl), sym (ap (λ (x : OpenStates). x .present) made))
+    let made : statesFrom (m .present) (set (keptStates m) number (keptFrom (m .present))) ≡ next = let q = b .rest in cc in (
+      sym (ap (λ (x : OpenStates). keptUnder x number) made) ∙ kept-set m number number (keptFrom (m .present)) most ∙ rw (eq-eqb number number refl),
+      sym (ap (λ (x : OpenStates). x .present) made),
+    )
 
 pub untouched-promise : UntouchedPromise
 unfolding afterCall addIn withdrawIn keepIn returnIn
@@ -83,7 +86,12 @@ module _ (m : OpenStates) (good : areOpenStates m ≡ true) (name : ℕ) (stood 
   header = open-header (m .present) (now-open m good)
 
   fewer : length left < mostStanding
-  fewer = omega (arith, one-less name (standing (m .present)) (stand-distinct h 0 (standing (m .present)) rules-before) stood, open-count (m .present) (now-open m good), length-take (h .count) (m .present .hazards))
+  fewer = omega (
+    arith,
+    one-less name (standing (m .present)) (stand-distinct h 0 (standing (m .present)) rules-before) stood,
+    open-count (m .present) (now-open m good),
+    length-take (h .count) (m .present .hazards),
+  )
 
   left-open : areOpenStates next ≡ true
   left-open =
@@ -93,7 +101,8 @@ module _ (m : OpenStates) (good : areOpenStates m ≡ true) (name : ℕ) (stood 
   -- So an add is refused by its name and its hazard alone.
   next-added : (other : ℕ) (z : Hazard) → replied (addIn next other z) ≡ replied (testNameAndHazard h left other z)
   next-added other z =
-      add-now next left-open other z ∙ ap replied (add-laid h left other z) ∙ bind-assoc (testAdd h left other z) _ _ ∙ rw (lt-leb mostStanding (length left) fewer)
+      add-now next left-open other z ∙ ap replied (add-laid h left other z)
+      ∙ bind-assoc (testAdd h left other z) _ _ ∙ rw (lt-leb mostStanding (length left) fewer)
 
 -- A withdrawal that is not refused.
 record Withdrawn (m after : OpenStates) (name : ℕ) : Type 0 where
@@ -114,7 +123,8 @@ withdrawn m after name e =
 pub again-promise : AgainPromise
 again-promise m after name e z =
     let w = withdrawn m after name e in
-    subst (λ (n : OpenStates). replied (addIn n name z) ≡ replied (admit (m .present .header) name z)) (w .same) (next-added m (w .good) name (w .stood) name z ∙ rw (without-stands name (standing (m .present))))
+    subst (λ (n : OpenStates). replied (addIn n name z) ≡ replied (admit (m .present .header) name z)) (w .same)
+    (next-added m (w .good) name (w .stood) name z ∙ rw (without-stands name (standing (m .present))))
 
 pub room-promise : RoomPromise
 room-promise m after name e other z =

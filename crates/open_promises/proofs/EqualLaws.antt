@@ -70,7 +70,8 @@ state-equal a b size-a size-b open-a open-b alike same =
     x .layout ∙ ap (λ (h : Header). laidOut h (standing a)) alike ∙ ap (laidOut (b .header)) stand ∙ sym (y .layout)
 
 -- What is kept under a number.
-module _ (h i : Header) (alike : Alike h i) (k l : KeptState) (size-k : length (k .hazards) ≡ 256) (size-l : length (l .hazards) ≡ 256) (sound-k : keptSound h k ≡ true) (sound-l : keptSound i l ≡ true) where
+module _ (h i : Header) (alike : Alike h i) (k l : KeptState) (size-k : length (k .hazards) ≡ 256) (size-l : length (l .hazards) ≡ 256)
+    (sound-k : keptSound h k ≡ true) (sound-l : keptSound i l ≡ true) where
   used-is : (g : Header) (x : KeptState) → isUsed x ≡ true → x ≡ keptFrom (stateOf g x)
   unfolding isUsed
   used-is g x e = let used : x .used ≡ 1 = eqb-true _ _ e in λ j. record { used = used j; count = x .count; hazards = x .hazards }
@@ -79,7 +80,8 @@ module _ (h i : Header) (alike : Alike h i) (k l : KeptState) (size-k : length (
   kept-equal (both-nothing p q) = nothing-is k size-k (sound-unused k h p ∙ sound-k) ∙ sym (nothing-is l size-l (sound-unused l i q ∙ sound-l))
   kept-equal (both-states p q same) =
       used-is h k p
-      ∙ ap keptFrom (state-equal (stateOf h k) (stateOf i l) size-k size-l (sound-used k h p ∙ sound-k) (sound-used l i q ∙ sound-l) (ap (λ (g : Header). counted g (l .count)) alike) same)
+      ∙ ap keptFrom (state-equal (stateOf h k) (stateOf i l) size-k size-l (sound-used k h p ∙ sound-k) (sound-used l i q ∙ sound-l)
+      (ap (λ (g : Header). counted g (l .count)) alike) same)
       ∙ sym (used-is i l q)
 
 -- The same as itself.
@@ -97,10 +99,12 @@ pub equal-promise : EqualPromise
 equal-promise a b places-a places-b open-a open-b = (λ e. subst (SameOpenJob a) e (same-open a), equal)
   where
     equal : SameOpenJob a b → a ≡ b
-    equal s = states-same a b (state-equal (a .present) (b .present) (places-a .present-state) (places-b .present-state) (now-open a open-a) (now-open b open-b) (s .header) (s .hazards)) (λ number. go number (decLe number 7))
+    equal s = states-same a b (state-equal (a .present) (b .present) (places-a .present-state) (places-b .present-state) (now-open a open-a) (now-open b open-b)
+        (s .header) (s .hazards)) (λ number. go number (decLe number 7))
       where
         go : (number : ℕ) → Dec (number ≤ 7) → keptUnder a number ≡ keptUnder b number
         go number (yes l) =
-            kept-equal (a .present .header) (b .present .header) (s .header) (keptUnder a number) (keptUnder b number) (places-under a places-a number) (places-under b places-b number) (each-sound a open-a number) (each-sound b open-b number)
+            kept-equal (a .present .header) (b .present .header) (s .header) (keptUnder a number) (keptUnder b number) (places-under a places-a number)
+            (places-under b places-b number) (each-sound a open-a number) (each-sound b open-b number)
             (s .kept number l)
         go number (no l) = none-above a number (omega arith) ∙ sym (none-above b number (omega arith))

@@ -5,7 +5,8 @@ use native.Mathlib.Omega.{arith}
 use mathlib.Core.Path.{_≡_, refl, sym, ap, subst, _∙_}
 use mathlib.Core.Logic.{_⊎_, inl, inr, _↔_, ⊎-elim}
 use mathlib.Core.Bool.{Bool, true, false, _||_, not, false≢true}
-use mathlib.Core.List.{List, [], _∷_, _++_, map, List·Memᴰ, List·Memᴰ·head, List·Memᴰ·tail, List·Memᴰ·cases-cons, List·Memᴰ·not-nil, List·Memᴰ·append-cases, List·Memᴰ·eq-of-singleton, Memᴰ·append-left, Memᴰ·append-right, Memᴰ·map, Memᴰ·of-map}
+use mathlib.Core.List.{List, [], _∷_, _++_, map, List·Memᴰ, List·Memᴰ·head, List·Memᴰ·tail, List·Memᴰ·cases-cons, List·Memᴰ·not-nil, List·Memᴰ·append-cases}
+use mathlib.Core.List.{List·Memᴰ·eq-of-singleton, Memᴰ·append-left, Memᴰ·append-right, Memᴰ·map, Memᴰ·of-map}
 use lib.ListN.{length, take, drop, getD, take-append-drop}
 use lib.Dec.{eqb}
 use borrow.Author.Tests.{eq-eqb, ne-eqb, eqb-true}
@@ -26,7 +27,8 @@ use Rattle.open_memory.proofs.PlaceLaws.{standing-named, other-name, none-below
 put-which : (xs ys : List NamedHazard) (p x : NamedHazard) → List·Memᴰ x (xs ++ p ∷ ys) ↔ ((x ≡ p) ⊎ List·Memᴰ x (xs ++ ys))
 put-which xs ys p x = (
   λ m. ⊎-elim (λ k. inr (Memᴰ·append-left ys k)) (λ k. ⊎-elim inl (λ l. inr (Memᴰ·append-right xs l)) (List·Memᴰ·cases-cons k)) (List·Memᴰ·append-cases xs m),
-  λ w. ⊎-elim (λ e. Memᴰ·append-right xs (List·Memᴰ·head e)) (λ m. ⊎-elim (λ k. Memᴰ·append-left (p ∷ ys) k) (λ k. Memᴰ·append-right xs (List·Memᴰ·tail k)) (List·Memᴰ·append-cases xs m)) w,
+  λ w. ⊎-elim (λ e. Memᴰ·append-right xs (List·Memᴰ·head e))
+      (λ m. ⊎-elim (λ k. Memᴰ·append-left (p ∷ ys) k) (λ k. Memᴰ·append-right xs (List·Memᴰ·tail k)) (List·Memᴰ·append-cases xs m)) w,
 )
 
 -- A hazard whose name does not stand, put in at its place.
@@ -44,8 +46,10 @@ unfolding without
 without-other name x ps m differ = filter-intro (λ (p : NamedHazard). not (eqb (p .name) name)) m (rw (ne-eqb (x .name) name differ))
 
 -- The same without their names.
-pub unnamed-among : {ps qs : List NamedHazard} → ((p : NamedHazard) → List·Memᴰ p ps → List·Memᴰ p qs) → (z : Hazard) → List·Memᴰ z (map unnamed ps) → List·Memᴰ z (map unnamed qs)
-unnamed-among {ps} {qs} among z m = let w = Memᴰ·of-map unnamed ps m in subst (λ (y : Hazard). List·Memᴰ y (map unnamed qs)) (w .2) (Memᴰ·map unnamed (among (w .0) (w .1)))
+pub unnamed-among : {ps qs : List NamedHazard} → ((p : NamedHazard) → List·Memᴰ p ps → List·Memᴰ p qs) → (z : Hazard) → List·Memᴰ z (map unnamed ps)
+    → List·Memᴰ z (map unnamed qs)
+unnamed-among {ps} {qs} among z m = let w = Memᴰ·of-map unnamed ps m in
+    subst (λ (y : Hazard). List·Memᴰ y (map unnamed qs)) (w .2) (Memᴰ·map unnamed (among (w .0) (w .1)))
 
 -- Which names
 
@@ -75,14 +79,18 @@ unfolding hazardUnder stands someOf filter
 under-which name [] e = absurd (false≢true e)
 under-which name (p ∷ ps) e = go (eqb (p .name) name) refl e (under-which name ps)
   where
-    go : (b : Bool) → eqb (p .name) name ≡ b → (b || stands name ps) ≡ true → (stands name ps ≡ true → List·Memᴰ (hazardUnder name ps) ps × (hazardUnder name ps .name ≡ name))
-        → List·Memᴰ (getD (if b then p ∷ filter (λ (q : NamedHazard). eqb (q .name) name) ps else filter (λ (q : NamedHazard). eqb (q .name) name) ps) 0 unused) (p ∷ ps)
-        × (getD (if b then p ∷ filter (λ (q : NamedHazard). eqb (q .name) name) ps else filter (λ (q : NamedHazard). eqb (q .name) name) ps) 0 unused .name ≡ name)
+    go : (b : Bool) → eqb (p .name) name ≡ b → (b || stands name ps) ≡ true
+        → (stands name ps ≡ true → List·Memᴰ (hazardUnder name ps) ps × (hazardUnder name ps .name ≡ name))
+        → List·Memᴰ (getD (if b then p ∷ filter (λ (q : NamedHazard). eqb (q .name) name) ps else filter (λ (q : NamedHazard). eqb (q .name) name) ps) 0 unused)
+        (p ∷ ps)
+        × (getD (if b then p ∷ filter (λ (q : NamedHazard). eqb (q .name) name) ps else filter (λ (q : NamedHazard). eqb (q .name) name) ps) 0 unused .name
+        ≡ name)
     go true q f r = (List·Memᴰ·head refl, eqb-true _ _ q)
     go false q f r = let w = r f in (List·Memᴰ·tail (w .0), w .1)
 
 -- The names of some of the hazards are no others.
-pub stands-fewer : (name : ℕ) (ps qs : List NamedHazard) → ((p : NamedHazard) → List·Memᴰ p qs → List·Memᴰ p ps) → stands name ps ≡ false → stands name qs ≡ false
+pub stands-fewer : (name : ℕ) (ps qs : List NamedHazard) → ((p : NamedHazard) → List·Memᴰ p qs → List·Memᴰ p ps) → stands name ps ≡ false
+    → stands name qs ≡ false
 stands-fewer name ps qs among fresh = stands-none name qs (λ p m. other-name name ps p fresh (among p m))
 
 pub without-stands : (name : ℕ) (ps : List NamedHazard) → stands name (without name ps) ≡ false
@@ -91,7 +99,8 @@ without-stands name ps = stands-none name (without name ps) (λ p m. without-cas
 pub none-taken : (name : ℕ) (ps : List NamedHazard) → stands name ps ≡ false → without name ps ≡ ps
 unfolding without filter
 none-taken name [] e = refl
-none-taken name (p ∷ ps) e = rw (ne-eqb (p .name) name (other-name name (p ∷ ps) p e (List·Memᴰ·head refl))) (ap (_∷_ p) (none-taken name ps (stands-fewer name (p ∷ ps) ps (λ x m. List·Memᴰ·tail m) e)))
+none-taken name (p ∷ ps) e = rw (ne-eqb (p .name) name (other-name name (p ∷ ps) p e (List·Memᴰ·head refl)))
+    (ap (_∷_ p) (none-taken name ps (stands-fewer name (p ∷ ps) ps (λ x m. List·Memᴰ·tail m) e)))
 
 -- Names by which no two hazards stand
 
@@ -116,12 +125,14 @@ distinct-alone (x ∷ xs) d p q m k e = go (List·Memᴰ·cases-cons m) (List·M
 pub distinct-more : (past : List NamedHazard) (p : NamedHazard) → Distinct past → stands (p .name) past ≡ false → Distinct (past ++ p ∷ [])
 unfolding stands someOf
 distinct-more [] p d e = (refl, tt)
-distinct-more (q ∷ qs) p d e = (stands-none (q .name) (qs ++ p ∷ []) there, distinct-more qs p (d .1) (stands-fewer (p .name) (q ∷ qs) qs (λ x m. List·Memᴰ·tail m) e))
+distinct-more (q ∷ qs) p d e =
+    (stands-none (q .name) (qs ++ p ∷ []) there, distinct-more qs p (d .1) (stands-fewer (p .name) (q ∷ qs) qs (λ x m. List·Memᴰ·tail m) e))
   where
     there : (x : NamedHazard) → List·Memᴰ x (qs ++ p ∷ []) → x .name ≡ q .name → ⊥
     there x m same =
         ⊎-elim (λ k. other-name (q .name) qs x (d .0) k same)
-        (λ k. other-name (p .name) (q ∷ qs) q e (List·Memᴰ·head refl) (sym same ∙ ap (λ (y : NamedHazard). y .name) (List·Memᴰ·eq-of-singleton k))) (List·Memᴰ·append-cases qs m)
+        (λ k. other-name (p .name) (q ∷ qs) q e (List·Memᴰ·head refl) (sym same ∙ ap (λ (y : NamedHazard). y .name) (List·Memᴰ·eq-of-singleton k)))
+        (List·Memᴰ·append-cases qs m)
 
 pub distinct-less : (name : ℕ) (ps : List NamedHazard) → Distinct ps → Distinct (without name ps)
 unfolding without filter
@@ -149,6 +160,7 @@ unfolding without filter stands someOf
 one-less name [] d e = absurd (false≢true e)
 one-less name (p ∷ ps) d e = go (eqb (p .name) name) refl e (one-less name ps (d .1))
   where
-    go : (b : Bool) → eqb (p .name) name ≡ b → (b || stands name ps) ≡ true → (stands name ps ≡ true → suc (length (without name ps)) ≡ length ps) → suc (length (if not b then p ∷ without name ps else without name ps)) ≡ suc (length ps)
+    go : (b : Bool) → eqb (p .name) name ≡ b → (b || stands name ps) ≡ true → (stands name ps ≡ true → suc (length (without name ps)) ≡ length ps)
+        → suc (length (if not b then p ∷ without name ps else without name ps)) ≡ suc (length ps)
     go true q f r = ap (λ (l : List NamedHazard). suc (length l)) (none-taken name ps (ap (λ (n : ℕ). stands n ps) (sym (eqb-true _ _ q)) ∙ d .0))
     go false q f r = ap suc (r f)

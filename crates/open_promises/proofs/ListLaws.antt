@@ -30,7 +30,8 @@ use Rattle.open_job.specs.declared.KeptState.{KeptState}
 use Rattle.open_job.specs.declared.OpenStates.{OpenStates}
 use Rattle.open_job.proofs.StateLaws.{not-used, kept-used}
 use Rattle.open_promises.specs.Opening.{emptyStates, openedFrom}
-use Rattle.open_promises.specs.Lists.{Call, keepAs, returnTo, Kept, nothing, state, States, isKept, opened, statesAfter, hazardsAfter, afterCall, CallsFrom, AnswersAs, SchedulePromise, Holds, HoldsKept, Standing, StandingPromise, ReturnPromise}
+use Rattle.open_promises.specs.Lists.{Call, keepAs, returnTo, Kept, nothing, state, States, isKept, opened, statesAfter, hazardsAfter, afterCall}
+use Rattle.open_promises.specs.Lists.{CallsFrom, AnswersAs, SchedulePromise, Holds, HoldsKept, Standing, StandingPromise, ReturnPromise}
 use Rattle.open_promises.proofs.OpeningLaws.{opening-accepted}
 use Rattle.open_promises.proofs.SameLaws.{same-plans}
 use Rattle.open_promises.proofs.HazardLaws.{unnamed-among}
@@ -76,7 +77,8 @@ module _ (s : List ℕ) (j : Job) (calls : List Call) (m : OpenStates) (from : C
   follows : Follows h placed are m
   follows =
       let memory : m ≡ foldl afterCall (emptyStates h) calls =
-      from .memory ∙ ap (λ (a : Answer OpenStates). foldl afterCall (memoryAfter a (from .before)) calls) (opening-accepted s j (from .is-accepted) ∙ ap (openedFrom h) (from .empty)) in
+      from .memory ∙ ap (λ (a : Answer OpenStates). foldl afterCall (memoryAfter a (from .before)) calls)
+      (opening-accepted s j (from .is-accepted) ∙ ap (openedFrom h) (from .empty)) in
       subst (Follows h placed are) (sym memory) (follows-all h fits (opened []) (opened []) _ (follows-opened h) calls (from .nameable))
 
   good : areOpenStates m ≡ true
@@ -96,19 +98,24 @@ module _ (s : List ℕ) (j : Job) (calls : List Call) (m : OpenStates) (from : C
     is-open = good;
     present-state = rw now-laid (holds h same);
     states-kept = kept-holds;
-    next-add = λ name z. add-now m good name z ∙ ap (λ (a : StoredJob). replied (addTo a name z)) now-laid ∙ ap replied (add-laid h (placed .present) name z) ∙ bind-assoc (testAdd h (placed .present) name z) _ _ ∙ ap replied (tests-same h same name z);
-    next-withdrawal = λ name. withdraw-now m good name ∙ ap (λ (a : StoredJob). replied (withdrawFrom a name)) now-laid ∙ ap replied (withdraw-laid h (placed .present) name) ∙ bind-assoc (unless-refuse (stands name (placed .present)) (Row.Name name)) _ _
+    next-add = λ name z. add-now m good name z ∙ ap (λ (a : StoredJob). replied (addTo a name z)) now-laid ∙ ap replied (add-laid h (placed .present) name z)
+        ∙ bind-assoc (testAdd h (placed .present) name z) _ _ ∙ ap replied (tests-same h same name z);
+    next-withdrawal = λ name. withdraw-now m good name ∙ ap (λ (a : StoredJob). replied (withdrawFrom a name)) now-laid
+        ∙ ap replied (withdraw-laid h (placed .present) name) ∙ bind-assoc (unless-refuse (stands name (placed .present)) (Row.Name name)) _ _
         ∙ ap (λ (b : Bool). replied (unless-refuse b (Row.Name name))) (stands-same h same name);
     next-keep = keep-replied m good;
-    next-return = λ number. return-replied m good number ∙ ap (λ (b : Bool). replied (unless-refuse b Row.State)) (used-kept h (are .kept number) (keptUnder m number) (kept-holds number));
+    next-return = λ number. return-replied m good number
+        ∙ ap (λ (b : Bool). replied (unless-refuse b Row.State)) (used-kept h (are .kept number) (keptUnder m number) (kept-holds number));
   }
 
-  answers : (zs : List Hazard) → length zs ≤ mostStanding → ((z : Hazard) → List·Memᴰ z zs ↔ List·Memᴰ z (map unnamed (are .present))) → AnswersAs m (madeFrom h zs)
+  answers : (zs : List Hazard) → length zs ≤ mostStanding → ((z : Hazard) → List·Memᴰ z zs ↔ List·Memᴰ z (map unnamed (are .present)))
+      → AnswersAs m (madeFrom h zs)
   answers zs most each = record {
     is-accepted = fitting-accepted (madeFrom h zs) (made-fits h zs fits most (λ z k. may z (back z k)));
     planned = λ side room.
         schedule-now m good side room ∙ ap (λ (a : StoredJob). plan (writeJob (jobOf a)) side room) now-laid ∙ schedule-laid h (placed .present) side room
-        ∙ same-plans h fits (map unnamed (placed .present)) zs (rw (length-map (placed .present) unnamed) (same .few)) most may (λ z k. each z .1 (unnamed-among (λ p. same .same p .0) z k)) back side room;
+        ∙ same-plans h fits (map unnamed (placed .present)) zs (rw (length-map (placed .present) unnamed) (same .few)) most may
+        (λ z k. each z .1 (unnamed-among (λ p. same .same p .0) z k)) back side room;
   }
     where
       may : (z : Hazard) → List·Memᴰ z (map unnamed (placed .present)) → Admitted h z

@@ -35,7 +35,8 @@ use Rattle.open_promises.specs.Rules.{RulesPromise, HasPlaces, MemoryPro
 use Rattle.open_promises.proofs.OpeningLaws.{opening-accepted}
 use Rattle.open_promises.proofs.MemoryLaws.{laidKept, Laid, follows-all, follows-opened}
 use Rattle.open_promises.proofs.ListLaws.{standing-promise}
-use Rattle.open_promises.proofs.BuildLaws.{adds, keepBelow, keptBelow, holding, placedAfterAll, adds-leave, StandKept, kept-others, kept-lower, below-kept, CanMake, can-both, can-add, can-below}
+use Rattle.open_promises.proofs.BuildLaws.{adds, keepBelow, keptBelow, holding, placedAfterAll, adds-leave, StandKept, kept-others, kept-lower}
+use Rattle.open_promises.proofs.BuildLaws.{below-kept, CanMake, can-both, can-add, can-below}
 
 -- A header without hazards is an accepted job.
 empty-accepted : (h : Header) → HeaderFits h → acceptJob (writeJob (madeFrom h [])) ≡ accepted (madeFrom h [])
@@ -44,7 +45,12 @@ empty-accepted h fits = fitting-accepted (madeFrom h []) (made-fits h [] fits (o
 -- The rules do not go by the hazard count.
 stand-counted : (h : Header) (n low : ℕ) (ps : List NamedHazard) → Stand h low ps → Stand (counted h n) low ps
 stand-counted h n low [] t = tt
-stand-counted h n low (p ∷ ps) t = (t .0, t .1, record { fits = counted-hazard h n (unnamed p) (t .2); passed = counted-passed h n (unnamed p) (t .2) }, stand-counted h n (p .name + 1) ps (t .3))
+stand-counted h n low (p ∷ ps) t = (
+  t .0,
+  t .1,
+  record { fits = counted-hazard h n (unnamed p) (t .2); passed = counted-passed h n (unnamed p) (t .2) },
+  stand-counted h n (p .name + 1) ps (t .3),
+)
 
 -- What is kept, laid out.
 record Told (h : Header) (k : KeptState) : Type 0 where
@@ -52,7 +58,8 @@ record Told (h : Header) (k : KeptState) : Type 0 where
   rules : StandKept h what
   same : k ≡ laidKept h what
 
-told : (h : Header) (k : KeptState) → length (k .hazards) ≡ 256 → (isNothingKept k ≡ true) ⊎ ((isUsed k ≡ true) × (isOpenJob (stateOf h k) ≡ true)) → Told (counted h 0) k
+told : (h : Header) (k : KeptState) → length (k .hazards) ≡ 256 → (isNothingKept k ≡ true) ⊎ ((isUsed k ≡ true) × (isOpenJob (stateOf h k) ≡ true))
+    → Told (counted h 0) k
 unfolding isUsed
 told h k size (inl e) = record { what = nothing; rules = tt; same = nothing-is k size e }
 told h k size (inr w) =
@@ -61,7 +68,10 @@ told h k size (inr w) =
     let used : k .used ≡ 1 = eqb-true _ _ (w .0) in
     record {
       what = state (standing a);
-      rules = (stand-counted (a .header) 0 0 (standing a) (r .hazards), omega (arith, header-bounds (a .header) (r .header) .count, length-take (a .header .count) (a .hazards)));
+      rules = (
+        stand-counted (a .header) 0 0 (standing a) (r .hazards),
+        omega (arith, header-bounds (a .header) (r .header) .count, length-take (a .header .count) (a .hazards)),
+      );
       same = (λ i. record { used = used i; count = k .count; hazards = k .hazards }) ∙ ap keptFrom (r .layout);
     }
 
@@ -90,7 +100,8 @@ module _ (m : OpenStates) (good : areOpenStates m ≡ true) (places : HasPlaces 
   rules = stand-counted (m .present .header) 0 0 ps (kept-rules .hazards)
 
   told-under : (number : ℕ) → Told h (keptUnder m number)
-  told-under number = told (m .present .header) (keptUnder m number) (places-under m places number) (sound-cases (keptUnder m number) (m .present .header) (each-sound m good number))
+  told-under number = told (m .present .header) (keptUnder m number) (places-under m places number)
+      (sound-cases (keptUnder m number) (m .present .header) (each-sound m good number))
 
   what : ℕ → Kept (List NamedHazard)
   what number = told-under number .what
@@ -111,8 +122,10 @@ module _ (m : OpenStates) (good : areOpenStates m ≡ true) (places : HasPlaces 
 
   made : placedAfterAll h (opened []) calls ≡ holding ps (keptBelow what 8)
   made =
-      foldl-append _ (opened []) (keepBelow what 8) (adds ps) ∙ ap (λ (t : States (List NamedHazard)). placedAfterAll h t (adds ps)) (below-kept h what what-rules 8 (omega arith))
-      ∙ adds-leave h (keptBelow what 8) [] ps rules (omega (arith, header-bounds (m .present .header) (kept-rules .header) .count, length-take (m .present .header .count) (m .present .hazards)))
+      foldl-append _ (opened []) (keepBelow what 8) (adds ps)
+      ∙ ap (λ (t : States (List NamedHazard)). placedAfterAll h t (adds ps)) (below-kept h what what-rules 8 (omega arith))
+      ∙ adds-leave h (keptBelow what 8) [] ps rules
+      (omega (arith, header-bounds (m .present .header) (kept-rules .header) .count, length-take (m .present .header .count) (m .present .hazards)))
 
   laid : Laid h (holding ps (keptBelow what 8)) (foldl afterCall start calls)
   laid = rw made at (follows-all h fits (opened []) (opened []) start (follows-opened h) calls can-make .laid)

@@ -17,14 +17,16 @@ use Rattle.job.specs.declared.NamedHazard.{NamedHazard}
 use Rattle.job.specs.declared.StoredJob.{StoredJob}
 use Rattle.job.specs.Fits.{HeaderFits}
 use Rattle.open_memory.specs.Memory.{laidOut, isOpenJob}
-use Rattle.open_job.specs.States.{mostKept, greatestStateNumber, nothingKept, keptFrom, stateOf, isUsed, keptSound, keptStates, keptUnder, statesFrom, areOpenStates}
+use Rattle.open_job.specs.States.{mostKept, greatestStateNumber, nothingKept, keptFrom, stateOf, isUsed, keptSound, keptStates, keptUnder, statesFrom}
+use Rattle.open_job.specs.States.{areOpenStates}
 use Rattle.open_job.specs.Calls.{testAdd, memoryAfter, addTo, withdrawFrom, addIn, withdrawIn, keepIn, keptJob, returnIn}
 use Rattle.open_job.proofs.LayoutLaws.{laid-open}
 use Rattle.open_job.specs.declared.KeptState.{KeptState}
 use Rattle.open_job.specs.declared.OpenStates.{OpenStates}
 use Rattle.open_job.proofs.StateLaws.{kept-under, kept-set, none-under, none-above, nothing-sound, not-used, kept-used, sound-used, states-sound}
 use Rattle.open_job.proofs.WholeLaws.{change-whole}
-use Rattle.open_promises.specs.Lists.{Edit, add, withdraw, Call, edit, schedule, keepAs, returnTo, Nameable, Kept, nothing, state, States, opened, returnedTo, statesAfter, standAfter, afterCall}
+use Rattle.open_promises.specs.Lists.{Edit, add, withdraw, Call, edit, schedule, keepAs, returnTo, Nameable, Kept, nothing, state, States, opened}
+use Rattle.open_promises.specs.Lists.{returnedTo, statesAfter, standAfter, afterCall}
 use Rattle.open_promises.proofs.StandingLaws.{placedAfter, edited, edit-memory, Agree, agree-edit}
 use Rattle.open_promises.proofs.ModelLaws.{AgreeKept, AgreeAll, agree-opened, agree-call}
 use Rattle.job.specs.Job.{counted}
@@ -49,12 +51,14 @@ module _ (h : Header) (fits : HeaderFits h) {t s : States (List NamedHazard)} {m
   laid-states =
       let present = f .agree .present in
       states-sound m (ap isOpenJob (f .laid .present) ∙ laid-open h (t .present) fits (present .rules) (present .few))
-      (λ number. ap₂ (λ (a : StoredJob) (k : KeptState). keptSound (a .header) k) (f .laid .present) (f .laid .kept number) ∙ go (t .kept number) (s .kept number) (f .agree .kept number) (length (t .present)))
+      (λ number. ap₂ (λ (a : StoredJob) (k : KeptState). keptSound (a .header) k) (f .laid .present) (f .laid .kept number)
+      ∙ go (t .kept number) (s .kept number) (f .agree .kept number) (length (t .present)))
     where
       go : (x y : Kept (List NamedHazard)) → AgreeKept (Agree h) x y → (n : ℕ) → keptSound (counted h n) (laidKept h x) ≡ true
       go nothing y r n = nothing-sound (counted h n)
       go (state ps) nothing r n = absurd r
-      go (state ps) (state past) r n = sym (sound-used (keptFrom (laidOut h ps)) (counted h n) (kept-used (laidOut h ps))) ∙ laid-open h ps fits (r .rules) (r .few)
+      go (state ps) (state past) r n =
+          sym (sound-used (keptFrom (laidOut h ps)) (counted h n) (kept-used (laidOut h ps))) ∙ laid-open h ps fits (r .rules) (r .few)
 
   edit-after : (e : Edit) → afterCall m (edit e) ≡ statesFrom (memoryAfter (edited (m .present) e) (m .present)) (keptStates m)
   unfolding afterCall addIn withdrawIn
@@ -87,10 +91,12 @@ module _ (h : Header) (fits : HeaderFits h) {t s : States (List NamedHazard)} {m
     where
       back : Bool → KeptState → OpenStates
       back b k =
-          let kept : Answer StoredJob = unless-refuse b Row.State >>= λ _. unless-refuse (isUsed k) Row.State >>= λ _. accepted (stateOf (m .present .header) k) in
+          let kept : Answer StoredJob =
+          unless-refuse b Row.State >>= λ _. unless-refuse (isUsed k) Row.State >>= λ _. accepted (stateOf (m .present .header) k) in
           memoryAfter (kept >>= λ a. accepted (statesFrom a (keptStates m))) m
 
-      go : (b : Bool) → leb n greatestStateNumber ≡ b → (x : Kept (List NamedHazard)) (k : KeptState) → keptUnder m n ≡ k → k ≡ laidKept h x → Laid h (returnedTo x t) (back b k)
+      go : (b : Bool) → leb n greatestStateNumber ≡ b → (x : Kept (List NamedHazard)) (k : KeptState) → keptUnder m n ≡ k → k ≡ laidKept h x
+          → Laid h (returnedTo x t) (back b k)
       go false e nothing k u l = f .laid
       go false e (state ps) k u l =
           let none : _≡_ {A = ℕ} 0 1 = ap (λ (y : KeptState). y .used) (sym (none-above m n (leb-false n 7 e)) ∙ u ∙ l) in
@@ -98,7 +104,10 @@ module _ (h : Header) (fits : HeaderFits h) {t s : States (List NamedHazard)} {m
       go true e nothing k u l = subst (λ (y : KeptState). Laid h t (back true y)) (sym l) (rw not-used (f .laid))
       go true e (state ps) k u l =
           subst (λ (y : KeptState). Laid h (record { present = ps; kept = t .kept }) (back true y)) (sym l)
-          (rw (kept-used (laidOut h ps)) (record { present = ap (λ (a : StoredJob). stateOf (a .header) (keptFrom (laidOut h ps))) (f .laid .present); kept = f .laid .kept }))
+          (rw (kept-used (laidOut h ps)) (record {
+            present = ap (λ (a : StoredJob). stateOf (a .header) (keptFrom (laidOut h ps))) (f .laid .present);
+            kept = f .laid .kept;
+          }))
 
   laid-call : (c : Call) → Laid h (statesAfter (placedAfter h) t c) (afterCall m c)
   unfolding statesAfter afterCall
@@ -110,11 +119,16 @@ module _ (h : Header) (fits : HeaderFits h) {t s : States (List NamedHazard)} {m
 -- A list of calls
 
 pub follows-all : (h : Header) → HeaderFits h → (t s : States (List NamedHazard)) (m : OpenStates) → Follows h t s m
-    → (cs : List Call) → ((e : Edit) → List·Memᴰ (edit e) cs → Nameable e) → Follows h (foldl (statesAfter (placedAfter h)) t cs) (foldl (statesAfter (standAfter (testAdd h))) s cs) (foldl afterCall m cs)
+    → (cs : List Call) → ((e : Edit) → List·Memᴰ (edit e) cs → Nameable e)
+    → Follows h (foldl (statesAfter (placedAfter h)) t cs) (foldl (statesAfter (standAfter (testAdd h))) s cs) (foldl afterCall m cs)
 follows-all h fits t s m f [] may = f
 follows-all h fits t s m f (c ∷ cs) may =
     follows-all h fits (statesAfter (placedAfter h) t c) (statesAfter (standAfter (testAdd h)) s c) (afterCall m c)
-    (record { agree = agree-call (Agree h) (placedAfter h) (standAfter (testAdd h)) Nameable (λ ps past k e may. agree-edit h k e may) t s (f .agree) c (λ e q. may e (List·Memᴰ·head q)); laid = laid-call h fits f c }) cs (λ e k. may e (List·Memᴰ·tail k))
+    (record {
+      agree = agree-call (Agree h) (placedAfter h) (standAfter (testAdd h)) Nameable (λ ps past k e may. agree-edit h k e may) t s (f .agree) c
+          (λ e q. may e (List·Memᴰ·head q));
+      laid = laid-call h fits f c;
+    }) cs (λ e k. may e (List·Memᴰ·tail k))
 
 -- After an opening nothing stands, and nothing is kept.
 pub follows-opened : (h : Header) → Follows h (opened []) (opened []) (statesFrom (laidOut h []) (replicate mostKept nothingKept))

@@ -70,4 +70,5 @@ opening-accepted s j e = go (j .hazards) refl
     go [] none = no-hazard s (λ f read. count-is s j e f read ∙ ap length none) ∙ rw e
     go (z ∷ zs) some =
         let (f, read) = header-read s j e in
-        opening-with-hazards s f read (omega (arith, count-is s j e f read ∙ ap length some)) ∙ ap (λ (h : Header). refused 3 (headerSize (h .kind))) (header-is s j e f read)
+        opening-with-hazards s f read (omega (arith, count-is s j e f read ∙ ap length some))
+        ∙ ap (λ (h : Header). refused 3 (headerSize (h .kind))) (header-is s j e f read)

@@ -122,12 +122,15 @@ module _ (s : List ℕ) (j : Job) (calls : List Call) (m : OpenStates) (from : C
       says = says;
       covered = λ w p.
           covers-envelope (old .header) z (scheduleLevel w)
-          (λ q t on k. demand2 (writeJob old) old (r .side) w (far .before .is-accepted) low (scheduled-planned m old (far .before) (r .side) w p) .covers z own (sym (own-side (old .header) z)) q t on k);
+          (λ q t on k. demand2 (writeJob old) old (r .side) w (far .before .is-accepted) low (scheduled-planned m old (far .before) (r .side) w p) .covers z own
+          (sym (own-side (old .header) z)) q t on k);
       levels = levels;
       shown = λ side good right left rightAfter leftAfter p q.
-          same-shown (writeJob old) (writeJob new) old new (far .before .is-accepted) (far .after .is-accepted) (Untouched r) levels side good right left rightAfter leftAfter
+          same-shown (writeJob old) (writeJob new) old new (far .before .is-accepted) (far .after .is-accepted) (Untouched r) levels side good right left
+          rightAfter leftAfter
           (scheduled-planned m old (far .before) side _ p) (scheduled-planned next new (far .after) side _ q);
-      nothing-alters = λ side u room. far .nothing-alters side (unaltered-counted (old .header) (h .count) z side (untouched-side (old .header) z r says side u)) room;
+      nothing-alters =
+          λ side u room. far .nothing-alters side (unaltered-counted (old .header) (h .count) z side (untouched-side (old .header) z r says side u)) room;
     }
 
 pub reach-promise : ReachPromise

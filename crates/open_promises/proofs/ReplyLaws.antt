@@ -46,7 +46,8 @@ module _ (m : OpenStates) (good : areOpenStates m ≡ true) where
       kept = keptUnder m number
 
       go : (b : Bool) → leb number greatestStateNumber ≡ b
-          → replied ((unless-refuse b Row.State >>= λ _. unless-refuse (isUsed kept) Row.State >>= λ _. accepted (stateOf (m .present .header) kept)) >>= λ a. accepted (statesFrom a (keptStates m)))
+          → replied ((unless-refuse b Row.State >>= λ _. unless-refuse (isUsed kept) Row.State >>= λ _. accepted (stateOf (m .present .header) kept))
+          >>= λ a. accepted (statesFrom a (keptStates m)))
           ≡ replied (unless-refuse (isUsed kept) Row.State)
       go true e = ap replied (bind-assoc (unless-refuse (isUsed kept) Row.State) _ _) ∙ bind-assoc (unless-refuse (isUsed kept) Row.State) _ _
       go false e = sym (ap (λ (b : Bool). replied (unless-refuse b Row.State)) (ap isUsed (none-above m number (leb-false number 7 e)) ∙ not-used))

@@ -20,5 +20,6 @@ pub same-plans : (h : Header) → HeaderFits h → (xs ys : List Hazard) → len
     → (side room : ℕ) → plan (writeJob (madeFrom h xs)) side room ≡ plan (writeJob (madeFrom h ys)) side room
 same-plans h fits xs ys few less may xy yx side room =
     let jx = madeFrom h xs in let jy = madeFrom h ys in
-    same-plan jx jy (counted-alike h (length xs) (length ys)) (counted-alike h (length ys) (length xs)) side (λ z s. xy z (s .member)) (λ z s. yx z (s .member)) (writeJob jx) (writeJob jy)
+    same-plan jx jy (counted-alike h (length xs) (length ys)) (counted-alike h (length ys) (length xs)) side (λ z s. xy z (s .member)) (λ z s. yx z (s .member))
+    (writeJob jx) (writeJob jy)
     (fitting-accepted jx (made-fits h xs fits few may)) (fitting-accepted jy (made-fits h ys fits less (λ z m. may z (yx z m)))) room

@@ -24,7 +24,8 @@ use Rattle.open_memory.proofs.PlaceLaws.{inserted-stand, inserted-length, witho
 use Rattle.open_job.specs.Calls.{testAdd, memoryAfter, addTo, withdrawFrom}
 use Rattle.open_job.proofs.LayoutLaws.{add-laid, withdraw-laid}
 use Rattle.open_promises.specs.Lists.{Edit, add, withdraw, Nameable, standAfter}
-use Rattle.open_promises.proofs.HazardLaws.{inserted-which, without-cases, without-other, stands-alike, none-taken, Distinct, stand-distinct, distinct-more, distinct-less, without-length, one-less}
+use Rattle.open_promises.proofs.HazardLaws.{inserted-which, without-cases, without-other, stands-alike, none-taken, Distinct, stand-distinct}
+use Rattle.open_promises.proofs.HazardLaws.{distinct-more, distinct-less, without-length, one-less}
 
 -- An add that is not refused.
 pub record MayAdd (h : Header) (ps : List NamedHazard) (name : ℕ) (z : Hazard) : Type 0 where
@@ -35,7 +36,8 @@ pub record MayAdd (h : Header) (ps : List NamedHazard) (name : ℕ) (z : Hazard)
 pub may-add : (h : Header) (ps : List NamedHazard) (name : ℕ) (z : Hazard) → isAccepted (testAdd h ps name z) ≡ true → MayAdd h ps name z
 may-add h ps name z e = go (stands name ps) (isFull ps) refl refl e
   where
-    go : (b f : Bool) → stands name ps ≡ b → isFull ps ≡ f → isAccepted (unless-refuse (not b) (Row.Name name) >>= λ _. unless-refuse (not f) Row.Full >>= λ _. admit h name z) ≡ true → MayAdd h ps name z
+    go : (b f : Bool) → stands name ps ≡ b → isFull ps ≡ f
+        → isAccepted (unless-refuse (not b) (Row.Name name) >>= λ _. unless-refuse (not f) Row.Full >>= λ _. admit h name z) ≡ true → MayAdd h ps name z
     go false false p q r = record { fresh = p; room = q; may = r }
     go false true p q r = impossible cc
     go true f p q r = impossible cc
@@ -55,12 +57,14 @@ pub edit-memory : (h : Header) (ps : List NamedHazard) (e : Edit) → memoryAfte
 unfolding placedAfter
 edit-memory h ps (add name z) = ap (λ (x : Answer StoredJob). memoryAfter x (laidOut h ps)) (add-laid h ps name z) ∙ go (testAdd h ps name z)
   where
-    go : (a : Answer (Unit {0})) → memoryAfter (a >>= λ _. accepted (laidOut h (inserted (named name z) ps))) (laidOut h ps) ≡ laidOut h (if isAccepted a then inserted (named name z) ps else ps)
+    go : (a : Answer (Unit {0})) → memoryAfter (a >>= λ _. accepted (laidOut h (inserted (named name z) ps))) (laidOut h ps)
+        ≡ laidOut h (if isAccepted a then inserted (named name z) ps else ps)
     go (accepted u) = refl
     go (refused k v) = refl
 edit-memory h ps (withdraw name) = ap (λ (x : Answer StoredJob). memoryAfter x (laidOut h ps)) (withdraw-laid h ps name) ∙ go (stands name ps) refl
   where
-    go : (b : Bool) → stands name ps ≡ b → memoryAfter (unless-refuse b (Row.Name name) >>= λ _. accepted (laidOut h (without name ps))) (laidOut h ps) ≡ laidOut h (without name ps)
+    go : (b : Bool) → stands name ps ≡ b → memoryAfter (unless-refuse b (Row.Name name) >>= λ _. accepted (laidOut h (without name ps))) (laidOut h ps)
+        ≡ laidOut h (without name ps)
     go true e = refl
     go false e = ap (laidOut h) (sym (none-taken name ps e))
 

@@ -31,7 +31,8 @@ use Rattle.open_memory.proofs.RuleLaws.{open-standing}
 use Rattle.open_job.specs.Calls.{testAdd, memoryAfter, openStates, withdrawIn}
 use Rattle.open_job.specs.declared.OpenStates.{OpenStates}
 use Rattle.open_job.proofs.StateLaws.{now-open}
-use Rattle.open_promises.specs.Lists.{withdraw, Nameable, Call, edit, States, opened, statesAfter, standAfter, addedSince, afterCall, CallsFrom, AnswersAs, Standing}
+use Rattle.open_promises.specs.Lists.{withdraw, Nameable, Call, edit, States, opened, statesAfter, standAfter, addedSince, afterCall, CallsFrom}
+use Rattle.open_promises.specs.Lists.{AnswersAs, Standing}
 use Rattle.open_promises.specs.Withdrawal.{thenWithdrawn, jobAfter, Scheduled, StandsUnder, WithdrawalPromise}
 use Rattle.open_promises.proofs.HazardLaws.{unnamed-among, stands-which, stand-distinct, distinct-alone, without-cases, without-other}
 use Rattle.open_promises.proofs.ListLaws.{schedule-promise, standing-promise}
@@ -39,7 +40,8 @@ use Rattle.open_promises.proofs.ListLaws.{schedule-promise, standing-pr
 -- The hazard under a name
 
 -- It is among those apart from the memory, and no other: in the memory names rise.
-under-name : (h : Header) (s : States (List NamedHazard)) (m : OpenStates) → Standing h s m → (name : ℕ) → stands name (s .present) ≡ true → (p : NamedHazard) × StandsUnder name (s .present) p
+under-name : (h : Header) (s : States (List NamedHazard)) (m : OpenStates) → Standing h s m → (name : ℕ) → stands name (s .present) ≡ true
+    → (p : NamedHazard) × StandsUnder name (s .present) p
 under-name h s m stood name e =
     let w = stands-which name (s .present) e in
     let apart = stand-distinct (m .present .header) 0 (standing (m .present)) (open-standing (m .present) (now-open m (stood .is-open))) in (
@@ -47,7 +49,8 @@ under-name h s m stood name e =
       record {
         member = w .1;
         its-name = w .2;
-        alone = λ q k same. distinct-alone (standing (m .present)) apart (w .0) q (stood .present-state .each (w .0) .1 (w .1)) (stood .present-state .each q .1 k) (same ∙ sym (w .2));
+        alone = λ q k same. distinct-alone (standing (m .present)) apart (w .0) q (stood .present-state .each (w .0) .1 (w .1))
+            (stood .present-state .each q .1 k) (same ∙ sym (w .2));
       },
     )
 
@@ -88,36 +91,45 @@ module _ (h : Header) (past : List NamedHazard) (name : ℕ) (p : NamedHazard) (
   back = counted-alike h (length others) (length zs)
 
   without-levels : AcceptedFits (madeFrom h zs) → SameLevels (Beyond h (unnamed p)) (jobLevel (madeFrom h zs)) (jobLevel (madeFrom h others))
-  without-levels fits side t b = same-beyond (madeFrom h zs) (madeFrom h others) to back (unnamed p) only among fits (Memᴰ·map unnamed (under .member)) side t (beyond-counted h (length zs) (unnamed p) side t b)
+  without-levels fits side t b = same-beyond (madeFrom h zs) (madeFrom h others) to back (unnamed p) only among fits (Memᴰ·map unnamed (under .member)) side t
+      (beyond-counted h (length zs) (unnamed p) side t b)
 
-  without-plans : (s₁ s₂ : List ℕ) → Accepted s₁ (madeFrom h zs) → Accepted s₂ (madeFrom h others) → (side : ℕ) → Unaltered h (unnamed p) side → (room : ℕ) → plan s₂ side room ≡ plan s₁ side room
-  without-plans s₁ s₂ a₁ a₂ side u room = side-plans (madeFrom h zs) (madeFrom h others) to back (unnamed p) only among s₁ s₂ a₁ a₂ side (unaltered-counted h (length zs) (unnamed p) side u) room
+  without-plans : (s₁ s₂ : List ℕ) → Accepted s₁ (madeFrom h zs) → Accepted s₂ (madeFrom h others) → (side : ℕ) → Unaltered h (unnamed p) side → (room : ℕ)
+      → plan s₂ side room ≡ plan s₁ side room
+  without-plans s₁ s₂ a₁ a₂ side u room =
+      side-plans (madeFrom h zs) (madeFrom h others) to back (unnamed p) only among s₁ s₂ a₁ a₂ side (unaltered-counted h (length zs) (unnamed p) side u) room
 
 -- The calls with the withdrawal behind them
 
 added-without : (h : Header) (calls : List Call) (name : ℕ) → addedSince h (thenWithdrawn calls name) ≡ without name (addedSince h calls)
 unfolding statesAfter standAfter
-added-without h calls name = ap (λ (s : States (List NamedHazard)). s .present) (foldl-append (statesAfter (standAfter (testAdd h))) (opened []) calls (edit (withdraw name) ∷ []))
+added-without h calls name =
+    ap (λ (s : States (List NamedHazard)). s .present) (foldl-append (statesAfter (standAfter (testAdd h))) (opened []) calls (edit (withdraw name) ∷ []))
 
 module _ (s : List ℕ) (j : Job) (calls : List Call) (m : OpenStates) (from : CallsFrom s j calls m) where
   abbrev past : List NamedHazard
   past = addedSince (j .header) calls
 
   answers : AnswersAs m (jobAfter (j .header) calls)
-  answers = schedule-promise s j calls m from (map unnamed past) (rw (length-map past unnamed) (standing-promise s j calls m from .present-state .few)) (λ z. (λ k. k, λ k. k))
+  answers = schedule-promise s j calls m from (map unnamed past) (rw (length-map past unnamed) (standing-promise s j calls m from .present-state .few))
+      (λ z. (λ k. k, λ k. k))
 
   module _ (name : ℕ) (next : OpenStates) (e : withdrawIn m name ≡ accepted next) where
     was-standing : stands name past ≡ true
-    was-standing = passed (stands name past) (Row.Name name) (λ _. accepted 0) 0 (sym (standing-promise s j calls m from .next-withdrawal name) ∙ ap replied e) .0
+    was-standing =
+        passed (stands name past) (Row.Name name) (λ _. accepted 0) 0 (sym (standing-promise s j calls m from .next-withdrawal name) ∙ ap replied e) .0
 
     still-from : CallsFrom s j (thenWithdrawn calls name) next
     unfolding afterCall
     still-from = record {
       is-accepted = from .is-accepted;
       empty = from .empty;
-      nameable = λ x k. ⊎-elim (from .nameable x) (λ (l : List·Memᴰ (edit x) (edit (withdraw name) ∷ [])). let q = List·Memᴰ·eq-of-singleton l in let same : x ≡ withdraw name = cc in subst Nameable (sym same) tt) (List·Memᴰ·append-cases calls k);
+      nameable = λ x k. ⊎-elim (from .nameable x)
+          (λ (l : List·Memᴰ (edit x) (edit (withdraw name) ∷ [])). let q = List·Memᴰ·eq-of-singleton l in let same : x ≡ withdraw name = cc in
+          subst Nameable (sym same) tt) (List·Memᴰ·append-cases calls k);
       before = from .before;
-      memory = sym (foldl-append afterCall (memoryAfter (openStates s) (from .before)) calls (edit (withdraw name) ∷ []) ∙ ap (λ (n : OpenStates). memoryAfter (withdrawIn n name) n) (sym (from .memory)) ∙ ap (λ (a : Answer OpenStates). memoryAfter a m) e);
+      memory = sym (foldl-append afterCall (memoryAfter (openStates s) (from .before)) calls (edit (withdraw name) ∷ [])
+          ∙ ap (λ (n : OpenStates). memoryAfter (withdrawIn n name) n) (sym (from .memory)) ∙ ap (λ (a : Answer OpenStates). memoryAfter a m) e);
     }
 
 -- The schedule call's bytes are the planned schedule of the job that the memory answers as.
@@ -133,7 +145,8 @@ withdrawal-promise s j calls m from name next e = record {
   after = after;
   levels = levels;
   shown = λ side low right left rightAfter leftAfter p q.
-      same-shown (writeJob old) (writeJob new) old new (before .is-accepted) (after .is-accepted) (Beyond h (unnamed (found .0))) levels side low right left rightAfter leftAfter
+      same-shown (writeJob old) (writeJob new) old new (before .is-accepted) (after .is-accepted) (Beyond h (unnamed (found .0))) levels side low right left
+      rightAfter leftAfter
       (scheduled-planned m old before side _ p) (scheduled-planned next new after side _ q);
   nothing-alters = λ side u room. after .planned side room ∙ plans side u room ∙ sym (before .planned side room);
 }

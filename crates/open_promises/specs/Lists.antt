@@ -145,7 +145,8 @@ pub record AnswersAs (m : OpenStates) (j : Job) : Type 0 where
 
 -- "The schedule equals that of a job made from the hazards added and not withdrawn since", whatever the hazards' order.
 abbrev pub SchedulesAs : Header → (past : List NamedHazard) → OpenStates → Type 0
-SchedulesAs h past m = (zs : List Hazard) → length zs ≤ mostStanding → ((z : Hazard) → List·Memᴰ z zs ↔ List·Memᴰ z (map unnamed past)) → AnswersAs m (madeFrom h zs)
+SchedulesAs h past m =
+    (zs : List Hazard) → length zs ≤ mostStanding → ((z : Hazard) → List·Memᴰ z zs ↔ List·Memᴰ z (map unnamed past)) → AnswersAs m (madeFrom h zs)
 
 -- "The promise for lists of calls now includes keep and return."
 abbrev pub SchedulePromise : Type 0
@@ -180,7 +181,8 @@ StandingPromise = (s : List ℕ) (j : Job) (calls : List Call) (m : OpenStates) 
 
 -- "A withdrawn name can be added again": the add is refused by its hazard alone.
 abbrev pub AgainPromise : Type 0
-AgainPromise = (m next : OpenStates) (name : ℕ) → withdrawIn m name ≡ accepted next → (z : Hazard) → replied (addIn next name z) ≡ replied (admit (m .present .header) name z)
+AgainPromise = (m next : OpenStates) (name : ℕ) → withdrawIn m name ≡ accepted next → (z : Hazard)
+    → replied (addIn next name z) ≡ replied (admit (m .present .header) name z)
 
 -- The tests of an add but for room: 12 by its name, then its hazard's. So it is tested where there is room, and so it was before request 12.
 abbrev pub testNameAndHazard : Header → List NamedHazard → (name : ℕ) → Hazard → Answer (Unit {0})
@@ -207,4 +209,5 @@ UntouchedPromise = (m : OpenStates) (c : Call) (number : ℕ) → (c ≡ keepAs 
 
 -- "Keeping under a used number replaces it", and leaves the open job as it is.
 abbrev pub KeepPromise : Type 0
-KeepPromise = (m next : OpenStates) (number : ℕ) → keepIn m number ≡ accepted next → (keptUnder next number ≡ keptFrom (m .present)) × (next .present ≡ m .present)
+KeepPromise =
+    (m next : OpenStates) (number : ℕ) → keepIn m number ≡ accepted next → (keptUnder next number ≡ keptFrom (m .present)) × (next .present ≡ m .present)

@@ -44,7 +44,8 @@ pub record OpenReachesNoFarther (s : List ℕ) (j : Job) (calls : List Call) (m 
   pub before : AnswersAs m (jobAfter (j .header) calls)
   pub after : AnswersAs next (jobAfter (j .header) (thenWithdrawn calls name))
   -- They require the same level beyond the reach, and lookup in the open job's schedules shows it.
-  pub levels : SameLevels (Beyond (j .header) (unnamed hazard)) (jobLevel (jobAfter (j .header) calls)) (jobLevel (jobAfter (j .header) (thenWithdrawn calls name)))
+  pub levels : SameLevels (Beyond (j .header) (unnamed hazard)) (jobLevel (jobAfter (j .header) calls))
+      (jobLevel (jobAfter (j .header) (thenWithdrawn calls name)))
   pub shown : SameShown (Beyond (j .header) (unnamed hazard)) (jobLevel (jobAfter (j .header) calls)) (Scheduled m) (Scheduled next)
   -- "Where it has no envelope, and on the other side always, nothing alters": the schedule call's whole reply, the overhangs too.
   pub nothing-alters : (side : ℕ) → Unaltered (j .header) (unnamed hazard) side → (room : ℕ) → scheduleIn next side room ≡ scheduleIn m side room

@@ -25,7 +25,8 @@ better-assoc (found o l) none c = refl
 better-assoc (found o l) (found p m) none = better-none (if leb o p then found o l else found p m)
 better-assoc (found o l) (found p m) (found q n) = go (leb o p) refl (leb p q) refl
   where
-    go : (s : Bool) → leb o p ≡ s → (t : Bool) → leb p q ≡ t → better (if s then found o l else found p m) (found q n) ≡ better (found o l) (if t then found p m else found q n)
+    go : (s : Bool) → leb o p ≡ s → (t : Bool) → leb p q ≡ t
+        → better (if s then found o l else found p m) (found q n) ≡ better (found o l) (if t then found p m else found q n)
     go true a true b = rw (a, le-leb o q (omega (arith, leb-true o p a, leb-true p q b)))
     go true a false b = refl
     go false a true b = rw (a, b)
@@ -35,7 +36,8 @@ module _ (lengths : List ℕ) (run : ℕ) where
   pub best-append : (xs ys : List (List ℕ)) → best lengths run (xs ++ ys) ≡ better (best lengths run xs) (best lengths run ys)
   unfolding best
   best-append [] ys = refl
-  best-append (x ∷ xs) ys = ap (better (ifCovering lengths run x)) (best-append xs ys) ∙ sym (better-assoc (ifCovering lengths run x) (best lengths run xs) (best lengths run ys))
+  best-append (x ∷ xs) ys =
+      ap (better (ifCovering lengths run x)) (best-append xs ys) ∙ sym (better-assoc (ifCovering lengths run x) (best lengths run xs) (best lengths run ys))
 
   pub judged-covers : (l : List ℕ) → covers lengths run l ≡ true → ifCovering lengths run l ≡ found (overrun lengths run l) l
   unfolding ifCovering
@@ -96,7 +98,8 @@ module _ (lengths : List ℕ) (run : ℕ) where
       IH : Type 0
       IH = (p : ℕ) (m : List ℕ) → best lengths run xs ≡ found p m → FirstSmallest lengths run xs p m
 
-      later : (p : ℕ) (m : List ℕ) → FirstSmallest lengths run xs p m → (covers lengths run x ≡ true → p < overrun lengths run x) → FirstSmallest lengths run (x ∷ xs) p m
+      later : (p : ℕ) (m : List ℕ) → FirstSmallest lengths run xs p m → (covers lengths run x ≡ true → p < overrun lengths run x)
+          → FirstSmallest lengths run (x ∷ xs) p m
       later p m f g = record {
         place = suc (f .place);
         among = let h = f .among in omega arith;
@@ -115,7 +118,8 @@ module _ (lengths : List ℕ) (run : ℕ) where
           before zero i h = g h
           before (suc i) h k = f .first i (omega arith) k
 
-      at-once : (covers lengths run x ≡ true) → ((l : List ℕ) → List·Memᴰ l xs → covers lengths run l ≡ true → overrun lengths run x ≤ overrun lengths run l) → FirstSmallest lengths run (x ∷ xs) (overrun lengths run x) x
+      at-once : (covers lengths run x ≡ true) → ((l : List ℕ) → List·Memᴰ l xs → covers lengths run l ≡ true → overrun lengths run x ≤ overrun lengths run l)
+          → FirstSmallest lengths run (x ∷ xs) (overrun lengths run x) x
       at-once h g = record {
         place = 0;
         among = omega arith;
@@ -130,7 +134,8 @@ module _ (lengths : List ℕ) (run : ℕ) where
           less l (inl q) h = rw q (omega arith)
           less l (inr k) h = g l k h
 
-      both : (h : covers lengths run x ≡ true) (p : ℕ) (m : List ℕ) → FirstSmallest lengths run xs p m → (t : Bool) → leb (overrun lengths run x) p ≡ t → (if t then found (overrun lengths run x) x else found p m) ≡ found o c → FirstSmallest lengths run (x ∷ xs) o c
+      both : (h : covers lengths run x ≡ true) (p : ℕ) (m : List ℕ) → FirstSmallest lengths run xs p m → (t : Bool) → leb (overrun lengths run x) p ≡ t
+          → (if t then found (overrun lengths run x) x else found p m) ≡ found o c → FirstSmallest lengths run (x ∷ xs) o c
       both h p m f true l q =
           let s = found-same q in
           subst (λ (y : ℕ). FirstSmallest lengths run (x ∷ xs) y c) (s .0)
@@ -142,10 +147,12 @@ module _ (lengths : List ℕ) (run : ℕ) where
           (subst (λ (y : List ℕ). FirstSmallest lengths run (x ∷ xs) p y) (s .1)
           (later p m f (λ w. leb-false (overrun lengths run x) p l)))
 
-      go : (covers lengths run x ≡ true) ⊎ (covers lengths run x ≡ false) → (b : BestLayout) → best lengths run xs ≡ b → IH → FirstSmallest lengths run (x ∷ xs) o c
+      go : (covers lengths run x ≡ true) ⊎ (covers lengths run x ≡ false) → (b : BestLayout) → best lengths run xs ≡ b → IH
+          → FirstSmallest lengths run (x ∷ xs) o c
       go (inr h) b q r = later o c (r o c (sym (ap (λ (j : BestLayout). better j (best lengths run xs)) (judged-short x h)) ∙ e)) (λ w. absurd (not-both w h))
       go (inl h) none q r =
-          let s = found-same (sym (ap (λ (j : BestLayout). better j (best lengths run xs)) (judged-covers x h) ∙ ap (better (found (overrun lengths run x) x)) q) ∙ e) in
+          let s = found-same (sym (ap (λ (j : BestLayout). better j (best lengths run xs)) (judged-covers x h)
+          ∙ ap (better (found (overrun lengths run x) x)) q) ∙ e) in
           subst (λ (y : ℕ). FirstSmallest lengths run (x ∷ xs) y c) (s .0)
           (subst (λ (y : List ℕ). FirstSmallest lengths run (x ∷ xs) (overrun lengths run x) y) (s .1)
           (at-once h (λ y k w. absurd (not-both w (none-short xs q y k)))))

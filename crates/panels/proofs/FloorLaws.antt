@@ -2,7 +2,8 @@
 -- Assumes nothing.
 use Prim.Native.Nat.{ℕ, zero, suc, _+_, _-_, _*_, _/_, _%_, _≤_, _<_, _∣_}
 use native.Mathlib.Omega.{arith}
-use native.Mathlib.Nat.{dvd-zero, dvd-add, dvd-mul-left, dvd-mul-left-of-dvd, le-of-dvd, mod-eq-zero-of-dvd, dvd-of-mod-eq-zero, div-mul-cancel, mul-le-mul-right, one-dvd, suc-mul, dvd-mod-iff, dvd-refl, pos-of-dvd-of-pos, div-add-mod', mod-lt, lt-of-mul-lt-mul-right}
+use native.Mathlib.Nat.{dvd-zero, dvd-add, dvd-mul-left, dvd-mul-left-of-dvd, le-of-dvd, mod-eq-zero-of-dvd, dvd-of-mod-eq-zero, div-mul-cancel}
+use native.Mathlib.Nat.{mul-le-mul-right, one-dvd, suc-mul, dvd-mod-iff, dvd-refl, pos-of-dvd-of-pos, div-add-mod', mod-lt, lt-of-mul-lt-mul-right}
 use native.Mathlib.Decide.{ℕ-discrete}
 use mathlib.Core.Path.{_≡_, refl, sym, ap, _∙_, subst}
 use mathlib.Core.Logic.{_↔_, _⊎_, inl, inr}
@@ -42,7 +43,8 @@ unfolding greatest
 greatest-passes p zero h = absurd (omega arith)
 greatest-passes p (suc n) h = go (p (suc n)) refl h (greatest-passes p n)
   where
-    go : (t : Bool) → p (suc n) ≡ t → 0 < (if t then suc n else greatest p n) → (0 < greatest p n → p (greatest p n) ≡ true) → p (if t then suc n else greatest p n) ≡ true
+    go : (t : Bool) → p (suc n) ≡ t → 0 < (if t then suc n else greatest p n) → (0 < greatest p n → p (greatest p n) ≡ true)
+        → p (if t then suc n else greatest p n) ≡ true
     go true e h r = e
     go false e h r = r h
 
@@ -76,7 +78,8 @@ gcd-divides ls f = go ls (gcd-some ls f)
 pub gcd-greatest : (ls : List ℕ) → SomeLengths ls → (d : ℕ) → ((l : ℕ) → List·Memᴰ l ls → d ∣ l) → d ≤ gcd ls
 unfolding gcd
 gcd-greatest [] f d g = absurd (let h = f .some in omega arith)
-gcd-greatest (l ∷ ls) f d g = greatest-greatest (dividesAll (l ∷ ls)) l d (le-of-dvd (f .each l (List·Memᴰ·head refl)) (g l (List·Memᴰ·head refl))) (divided-all (l ∷ ls) d g)
+gcd-greatest (l ∷ ls) f d g =
+    greatest-greatest (dividesAll (l ∷ ls)) l d (le-of-dvd (f .each l (List·Memᴰ·head refl)) (g l (List·Memᴰ·head refl))) (divided-all (l ∷ ls) d g)
 
 -- A layout's total is a multiple of every common divisor, whatever its counts.
 total-divided : (ls : List ℕ) (d : ℕ) (cs : List ℕ) → ((l : ℕ) → List·Memᴰ l ls → d ∣ l) → d ∣ total ls cs
@@ -110,7 +113,10 @@ same-divisors a b = record { same = λ d. ((λ x. x), (λ x. x)) }
 pub euclid-turn : {a b greater less : ℕ} → SameDivisors a b greater less → SameDivisors a b less (greater % less)
 euclid-turn {a} {b} {greater} {less} s =
     record {
-      same = λ d. ((λ p. s .same d .0 (dvd-mod-iff d {m = greater} {n = less} (p .0) .0 (p .1), p .0)), (λ q. let p = s .same d .1 q in (p .1, dvd-mod-iff d {m = greater} {n = less} (p .1) .1 (p .0))));
+      same = λ d. (
+        (λ p. s .same d .0 (dvd-mod-iff d {m = greater} {n = less} (p .0) .0 (p .1), p .0)),
+        (λ q. let p = s .same d .1 q in (p .1, dvd-mod-iff d {m = greater} {n = less} (p .1) .1 (p .0))),
+      );
     }
 
 pub euclid-end : {a b greater less : ℕ} → SameDivisors a b greater less → less ≡ 0 → CommonDivisors a b greater
@@ -152,7 +158,8 @@ placed (x ∷ xs) l m = go (List·Memᴰ·cases-cons m) (placed xs l)
 
 pub divisors-gcd : (ls : List ℕ) (r n : ℕ) → SomeLengths ls → n ≡ length ls → DivisorsTo ls r n → r ≡ gcd ls
 divisors-gcd ls r n f e s =
-    let low : r ≤ gcd ls = gcd-greatest ls f r (λ l m. let w = placed ls l m in let b = w .below in subst (λ (x : ℕ). r ∣ x) (w .is) (s .divisors r .0 (dvd-refl r) (w .at) (omega arith))) in
+    let low : r ≤ gcd ls = gcd-greatest ls f r
+    (λ l m. let w = placed ls l m in let b = w .below in subst (λ (x : ℕ). r ∣ x) (w .is) (s .divisors r .0 (dvd-refl r) (w .at) (omega arith))) in
     let first = f .some in
     let one : r ∣ getD ls 0 0 = s .divisors r .0 (dvd-refl r) 0 (omega arith) in
     let some : 0 < r = pos-of-dvd-of-pos one (f .each (getD ls 0 0) (getD-member ls 0 0 (omega arith))) in

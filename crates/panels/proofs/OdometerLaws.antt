@@ -81,7 +81,8 @@ total-fits l o f w =
 
 module _ (l : Lengths) (o : Odometer) (p : ℕ) (s : Shows l p o) where
   -- The last count goes up.
-  pub last-up : o .last < 15 → Shows l (p + 1) (record { first = o .first; second = o .second; third = o .third; last = o .last + 1; total = o .total + l .last })
+  pub last-up : o .last < 15 → Shows l (p + 1)
+      (record { first = o .first; second = o .second; third = o .third; last = o .last + 1; total = o .total + l .last })
   last-up h =
       record {
         first = omega arith;
@@ -118,7 +119,13 @@ module _ (l : Lengths) (o : Odometer) (p : ℕ) (s : Shows l p o) where
       }
 
   pub first-up : 15 ≤ o .last → 15 ≤ o .third → 15 ≤ o .second
-      → Shows l (p + 1) (record { first = o .first + 1; second = 0; third = 0; last = 0; total = o .total - 15 * l .last - 15 * l .third - 15 * l .second + l .first })
+      → Shows l (p + 1) (record {
+        first = o .first + 1;
+        second = 0;
+        third = 0;
+        last = 0;
+        total = o .total - 15 * l .last - 15 * l .third - 15 * l .second + l .first;
+      })
   first-up h k m =
       record {
         first = omega arith;
@@ -126,6 +133,12 @@ module _ (l : Lengths) (o : Odometer) (p : ℕ) (s : Shows l p o) where
         third = omega arith;
         last = omega arith;
         total =
-            omega
-            (arith, s .total, spent (o .last) (l .last) (omega arith), spent (o .third) (l .third) (omega arith), spent (o .second) (l .second) (omega arith), add-mul (o .first) 1 (l .first));
+            omega (
+              arith,
+              s .total,
+              spent (o .last) (l .last) (omega arith),
+              spent (o .third) (l .third) (omega arith),
+              spent (o .second) (l .second) (omega arith),
+              add-mul (o .first) 1 (l .first),
+            );
       }

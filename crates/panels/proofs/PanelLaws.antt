@@ -20,7 +20,8 @@ use Rattle.base.proofs.AnswerLaws.{bound}
 use Rattle.refusal.proofs.RefuseLaws.{tested}
 use Rattle.base.proofs.ListLaws.{getD-member}
 use Rattle.base.proofs.LeastLaws.{multiple-least}
-use Rattle.panels.specs.Layout.{IsLayout, zeroToFifteen, eachBefore, layouts, tried, total, covers, overrun, BestLayout, none, found, ifCovering, better, best}
+use Rattle.panels.specs.Layout.{IsLayout, zeroToFifteen, eachBefore, layouts, tried, total, covers, overrun, BestLayout, none, found, ifCovering, better}
+use Rattle.panels.specs.Layout.{best}
 use Rattle.panels.specs.Panels.{Panels, gcd, floor, panelsFor}
 use Rattle.panels.specs.Promised.{StockLengths, Limit, FirstSmallest, NoneCovers, NoWorse, PanelsGiven, Panels-given, More-tries, Run-zero}
 use Rattle.panels.proofs.RefusedLaws.{unfit, unlimited, fit-yard, fit-limit}
@@ -74,7 +75,8 @@ module _ (lengths : List ℕ) (run limit : ℕ) (p : Panels) (e : panelsFor leng
   unfolding tried
   all-tried h = take-all limit (layouts (length lengths)) h
 
-  all-least : length (layouts (length lengths)) ≤ limit → (o : ℕ) (counts : List ℕ) → p .best ≡ found o counts → FirstSmallest lengths run (layouts (length lengths)) o counts
+  all-least : length (layouts (length lengths)) ≤ limit → (o : ℕ) (counts : List ℕ) → p .best ≡ found o counts
+      → FirstSmallest lengths run (layouts (length lengths)) o counts
   all-least h o counts q = subst (λ (ls : List (List ℕ)). FirstSmallest lengths run ls o counts) (all-tried h) (smallest o counts q)
 
   all-none : length (layouts (length lengths)) ≤ limit → p .best ≡ none → NoneCovers lengths run (layouts (length lengths))
@@ -119,7 +121,8 @@ more-tries lengths run limit more p q e f h =
     let a = taken lengths run limit p e .best-is in
     let b = taken lengths run more q f .best-is in
     let all = take more (layouts (length lengths)) in
-    let c : best lengths run all ≡ better (best lengths run (take limit all)) (best lengths run (drop limit all)) = ap (best lengths run) (sym (take-append-drop limit all)) ∙ best-append lengths run (take limit all) (drop limit all) in
+    let c : best lengths run all ≡ better (best lengths run (take limit all)) (best lengths run (drop limit all)) =
+    ap (best lengths run) (sym (take-append-drop limit all)) ∙ best-append lengths run (take limit all) (drop limit all) in
     let d : take limit all ≡ take limit (layouts (length lengths)) = take-take limit more (layouts (length lengths)) h in
     rw (b, c, d, a) (better-no-worse (best lengths run (take limit (layouts (length lengths)))) (best lengths run (drop limit all)))
 
@@ -147,7 +150,10 @@ run-zero lengths limit p e =
     let zeros : List ℕ = replicate (length lengths) 0 in
     let rest = best lengths 0 (take (limit - 1) (first .0)) in
     let some : limit ≡ suc (limit - 1) = omega (arith, t .limit-is .low) in
-    let those : take limit (layouts (length lengths)) ≡ zeros ∷ take (limit - 1) (first .0) = ap (take limit) (first .1) ∙ ap (λ (n : ℕ). take n (zeros ∷ first .0)) some in
+    let those : take limit (layouts (length lengths)) ≡ zeros ∷ take (limit - 1) (first .0) =
+    ap (take limit) (first .1) ∙ ap (λ (n : ℕ). take n (zeros ∷ first .0)) some in
     let own : ifCovering lengths 0 zeros ≡ found 0 zeros = rw (no-panels lengths (length lengths)) in
-    let low = multiple-least (gcd lengths) 0 0 (gcd-some lengths (t .yard .proper)) (dvd-zero (gcd lengths)) (omega arith) in
-    (t .best-is ∙ ap (best lengths 0) those ∙ ap (λ (f : BestLayout). better f rest) own ∙ nothing-over zeros rest, t .floor-is ∙ (let z : nextMultiple (gcd lengths) 0 - 0 ≡ 0 = omega arith in z))
+    let low = multiple-least (gcd lengths) 0 0 (gcd-some lengths (t .yard .proper)) (dvd-zero (gcd lengths)) (omega arith) in (
+      t .best-is ∙ ap (best lengths 0) those ∙ ap (λ (f : BestLayout). better f rest) own ∙ nothing-over zeros rest,
+      t .floor-is ∙ (let z : nextMultiple (gcd lengths) 0 - 0 ≡ 0 = omega arith in z),
+    )

@@ -7,7 +7,8 @@ use mathlib.Core.Path.{_≡_, refl, sym, ap, _∙_, subst}
 use native.Mathlib.Decide.{decLt, ℕ-discrete}
 use mathlib.Core.Logic.{_↔_, _⊎_, inl, inr}
 use mathlib.Core.Bool.{true}
-use mathlib.Core.List.{List, [], _∷_, _++_, map, List·Memᴰ, List·Memᴰ·head, List·Memᴰ·tail, List·Memᴰ·not-nil, List·Memᴰ·cases-cons, List·Memᴰ·append-cases, List·Memᴰ·eq-of-singleton, Memᴰ·append-left, Memᴰ·append-right, Memᴰ·cast, Memᴰ·map, Memᴰ·of-map}
+use mathlib.Core.List.{List, [], _∷_, _++_, map, List·Memᴰ, List·Memᴰ·head, List·Memᴰ·tail, List·Memᴰ·not-nil, List·Memᴰ·cases-cons, List·Memᴰ·append-cases}
+use mathlib.Core.List.{List·Memᴰ·eq-of-singleton, Memᴰ·append-left, Memᴰ·append-right, Memᴰ·cast, Memᴰ·map, Memᴰ·of-map}
 use lib.ListN.{length, take, getD}
 use lib.Seq.{take-at}
 use lib.Dec.{leb}
@@ -67,15 +68,18 @@ counting : (from n : ℕ) → List ℕ
 counting c zero = []
 counting c (suc n) = c ∷ counting (suc c) n
 
-each-before : (k c n : ℕ) → c + n ≤ 16 → layouts k ≡ layoutsFrom k 0 (16 ^ k) → eachBefore (counting c n) (layouts k) ≡ layoutsFrom (suc k) (c * 16 ^ k) (n * 16 ^ k)
+each-before : (k c n : ℕ) → c + n ≤ 16 → layouts k ≡ layoutsFrom k 0 (16 ^ k)
+    → eachBefore (counting c n) (layouts k) ≡ layoutsFrom (suc k) (c * 16 ^ k) (n * 16 ^ k)
 unfolding eachBefore layoutsFrom counting
 each-before k c zero h e = rw (zero-mul (16 ^ k))
 each-before k c (suc n) h e =
     let p : c * 16 ^ k + 0 ≡ c * 16 ^ k = omega arith in
     let q : suc n * 16 ^ k ≡ 16 ^ k + n * 16 ^ k = suc-mul n (16 ^ k) ∙ add-comm (n * 16 ^ k) (16 ^ k) in
     let r : suc c * 16 ^ k ≡ c * 16 ^ k + 16 ^ k = suc-mul c (16 ^ k) in
-    let first : map (λ (l : List ℕ). c ∷ l) (layouts k) ≡ layoutsFrom (suc k) (c * 16 ^ k) (16 ^ k) = ap (map (λ (l : List ℕ). c ∷ l)) e ∙ one-before k c 0 (16 ^ k) (omega arith) (omega arith) ∙ ap (λ (x : ℕ). layoutsFrom (suc k) x (16 ^ k)) p in
-    let rest : eachBefore (counting (suc c) n) (layouts k) ≡ layoutsFrom (suc k) (c * 16 ^ k + 16 ^ k) (n * 16 ^ k) = each-before k (suc c) n (omega arith) e ∙ ap (λ (x : ℕ). layoutsFrom (suc k) x (n * 16 ^ k)) r in
+    let first : map (λ (l : List ℕ). c ∷ l) (layouts k) ≡ layoutsFrom (suc k) (c * 16 ^ k) (16 ^ k) =
+    ap (map (λ (l : List ℕ). c ∷ l)) e ∙ one-before k c 0 (16 ^ k) (omega arith) (omega arith) ∙ ap (λ (x : ℕ). layoutsFrom (suc k) x (16 ^ k)) p in
+    let rest : eachBefore (counting (suc c) n) (layouts k) ≡ layoutsFrom (suc k) (c * 16 ^ k + 16 ^ k) (n * 16 ^ k) =
+    each-before k (suc c) n (omega arith) e ∙ ap (λ (x : ℕ). layoutsFrom (suc k) x (n * 16 ^ k)) r in
     rw (first, rest, q) (sym (from-append (suc k) (c * 16 ^ k) (16 ^ k) (n * 16 ^ k)))
 
 -- All layouts, by their places; there are 16 for each length, multiplied.
@@ -109,7 +113,8 @@ member-count c h = listed 0 16 c (omega arith) (omega arith)
 
 each-has : {c : ℕ} {l : List ℕ} {cs : List ℕ} {others : List (List ℕ)} → List·Memᴰ c cs → List·Memᴰ l others → List·Memᴰ (c ∷ l) (eachBefore cs others)
 unfolding eachBefore
-each-has {c} {l} {others = others} (List·Memᴰ·head {x = d} {xs = ds} e) m = Memᴰ·append-left (eachBefore ds others) (Memᴰ·cast (ap (λ (x : ℕ). x ∷ l) e) (Memᴰ·map (λ (y : List ℕ). d ∷ y) m))
+each-has {c} {l} {others = others} (List·Memᴰ·head {x = d} {xs = ds} e) m =
+    Memᴰ·append-left (eachBefore ds others) (Memᴰ·cast (ap (λ (x : ℕ). x ∷ l) e) (Memᴰ·map (λ (y : List ℕ). d ∷ y) m))
 each-has {c} {l} {others = others} (List·Memᴰ·tail {x = d} {xs = ds} k) m = Memᴰ·append-right (map (λ (y : List ℕ). d ∷ y) others) (each-has k m)
 
 pub layouts-have : (k : ℕ) (l : List ℕ) → length l ≡ k → allOf (λ c. leb c 15) l ≡ true → List·Memᴰ l (layouts k)
@@ -132,8 +137,10 @@ unfolding eachBefore
 each-only [] others m = absurd (List·Memᴰ·not-nil m)
 each-only {l} (c ∷ cs) others m = go (List·Memᴰ·append-cases (map (λ (y : List ℕ). c ∷ y) others) m) (each-only cs others)
   where
-    go : List·Memᴰ l (map (λ (y : List ℕ). c ∷ y) others) ⊎ List·Memᴰ l (eachBefore cs others) → (List·Memᴰ l (eachBefore cs others) → Split cs others l) → Split (c ∷ cs) others l
-    go (inl k) r = let w = Memᴰ·of-map (λ (y : List ℕ). c ∷ y) others k in record { count = c; rest = w .0; listed = List·Memᴰ·head refl; other = w .1; whole = w .2 }
+    go : List·Memᴰ l (map (λ (y : List ℕ). c ∷ y) others) ⊎ List·Memᴰ l (eachBefore cs others) → (List·Memᴰ l (eachBefore cs others) → Split cs others l)
+        → Split (c ∷ cs) others l
+    go (inl k) r = let w = Memᴰ·of-map (λ (y : List ℕ). c ∷ y) others k in
+        record { count = c; rest = w .0; listed = List·Memᴰ·head refl; other = w .1; whole = w .2 }
     go (inr k) r = let w = r k in record { count = w .count; rest = w .rest; listed = List·Memᴰ·tail (w .listed); other = w .other; whole = w .whole }
 
 listed-count : (from n c : ℕ) → List·Memᴰ c (counting from n) → c < from + n
@@ -160,8 +167,10 @@ layouts-only (suc k) l m =
 
 -- "A layout is a count from 0 to 15 of each."
 pub layouts-exactly : (lengths l : List ℕ) → List·Memᴰ l (layouts (length lengths)) ↔ IsLayout lengths l
-layouts-exactly lengths l =
-    ((λ m. let r = layouts-only (length lengths) l m in record { each = r .0; to-fifteen = r .1 }), (λ f. layouts-have (length lengths) l (f .each) (f .to-fifteen)))
+layouts-exactly lengths l = (
+  (λ m. let r = layouts-only (length lengths) l m in record { each = r .0; to-fifteen = r .1 }),
+  (λ f. layouts-have (length lengths) l (f .each) (f .to-fifteen)),
+)
 
 -- "In rising order of their counts, the last length's changing fastest."
 front-before : (l m : List ℕ) (a b : List ℕ) → Before l m → Before (l ++ a) (m ++ b)
@@ -182,7 +191,8 @@ at-before (suc k) i j h l = go (decLt (i / 16) (j / 16)) (at-before k (i / 16) (
     top : j / 16 < 16 ^ k
     top = let p : j < 16 ^ k * 16 = rw pow-suc at l in omega arith
 
-    go : Dec (i / 16 < j / 16) → (i / 16 < j / 16 → j / 16 < 16 ^ k → Before (layoutAt k (i / 16)) (layoutAt k (j / 16))) → Before (layoutAt k (i / 16) ++ i % 16 ∷ []) (layoutAt k (j / 16) ++ j % 16 ∷ [])
+    go : Dec (i / 16 < j / 16) → (i / 16 < j / 16 → j / 16 < 16 ^ k → Before (layoutAt k (i / 16)) (layoutAt k (j / 16)))
+        → Before (layoutAt k (i / 16) ++ i % 16 ∷ []) (layoutAt k (j / 16) ++ j % 16 ∷ [])
     go (yes p) r = front-before (layoutAt k (i / 16)) (layoutAt k (j / 16)) (i % 16 ∷ []) (j % 16 ∷ []) (r p top)
     go (no p) r =
         let e : i / 16 ≡ j / 16 = omega arith in

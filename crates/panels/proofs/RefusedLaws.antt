@@ -54,12 +54,14 @@ fit-limit limit e =
     record { low = omega arith; top = ltb-false 65536 limit (parts .1) }
 
 -- "No length, over four, or one out of range is 16, tested first; a limit of 0 or above 65,536 is 17, next": exactly then.
-sixteen-only : (t u : Bool) (p : Panels) (v : ℕ) → (unless-refuse (not t) Row.Lengths >>= λ _. unless-refuse (not u) Row.Tries >>= λ _. accepted p) ≡ refused 16 v → (v ≡ 0) × (t ≡ true)
+sixteen-only : (t u : Bool) (p : Panels) (v : ℕ)
+    → (unless-refuse (not t) Row.Lengths >>= λ _. unless-refuse (not u) Row.Tries >>= λ _. accepted p) ≡ refused 16 v → (v ≡ 0) × (t ≡ true)
 sixteen-only true u p v e = let none : _≡_ {A = ℕ} 0 v = cc in (sym none, refl)
 sixteen-only false true p v e = let z : _≡_ {A = ℕ} 17 16 = cc in absurd (omega arith)
 sixteen-only false false p v e = impossible cc
 
-seventeen-only : (t u : Bool) (p : Panels) (v : ℕ) → (unless-refuse (not t) Row.Lengths >>= λ _. unless-refuse (not u) Row.Tries >>= λ _. accepted p) ≡ refused 17 v → (v ≡ 0) × (t ≡ false) × (u ≡ true)
+seventeen-only : (t u : Bool) (p : Panels) (v : ℕ)
+    → (unless-refuse (not t) Row.Lengths >>= λ _. unless-refuse (not u) Row.Tries >>= λ _. accepted p) ≡ refused 17 v → (v ≡ 0) × (t ≡ false) × (u ≡ true)
 seventeen-only true u p v e = let z : _≡_ {A = ℕ} 16 17 = cc in absurd (omega arith)
 seventeen-only false true p v e = let none : _≡_ {A = ℕ} 0 v = cc in (sym none, refl, refl)
 seventeen-only false false p v e = impossible cc
@@ -73,7 +75,8 @@ yard-fit ls y =
     all (inr e) = e
     all (inl e) =
         let w = any-elim outOfRange ls e in
-        absurd (not-both (w .passes) (let l = y .proper .each (w .one) (w .member) in rw (le-ltb (w .one) 1 l, le-ltb 20000 (w .one) (y .to (w .one) (w .member)))))
+        absurd (not-both (w .passes) (let l = y .proper .each (w .one) (w .member) in
+        rw (le-ltb (w .one) 1 l, le-ltb 20000 (w .one) (y .to (w .one) (w .member)))))
 
 module _ (ls : List ℕ) (run limit v : ℕ) where
   sixteen : (panelsFor ls run limit ≡ refused 16 v) ↔ ((v ≡ 0) × Unfit ls)
@@ -98,8 +101,10 @@ module _ (ls : List ℕ) (run limit v : ℕ) where
 
   seventeen : (panelsFor ls run limit ≡ refused 17 v) ↔ ((v ≡ 0) × StockLengths ls × ((limit ≡ 0) ⊎ (65536 < limit)))
   unfolding panelsFor
-  seventeen =
-      ((λ e. let w = seventeen-only (unfit ls) (unlimited limit) _ v e in (w .0, fit-yard ls (w .1), to (or-cases (eqb limit 0) (ltb 65536 limit) (w .2)))), (λ h. rw (h .0, yard-fit ls (h .1), test (h .2))))
+  seventeen = (
+    (λ e. let w = seventeen-only (unfit ls) (unlimited limit) _ v e in (w .0, fit-yard ls (w .1), to (or-cases (eqb limit 0) (ltb 65536 limit) (w .2)))),
+    (λ h. rw (h .0, yard-fit ls (h .1), test (h .2))),
+  )
     where
       to : (eqb limit 0 ≡ true) ⊎ (ltb 65536 limit ≡ true) → (limit ≡ 0) ⊎ (65536 < limit)
       to (inl q) = inl (eqb-true limit 0 q)

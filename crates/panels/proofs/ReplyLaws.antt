@@ -51,7 +51,8 @@ tried-from ls limit = go (decLe limit (16 ^ length ls))
         ∙ ap (layoutsFrom (length ls) 0) (let e : 16 ^ length ls ≡ min limit (16 ^ length ls) = omega arith in e)
 
 -- The reply, from the tries and the floor.
-module _ (ls : List ℕ) (run limit : ℕ) (y : StockLengths ls) (l : Limit limit) (t : Tried) (end f : ℕ) (s : Searched ls run end t) (e : end ≡ min limit (16 ^ length ls)) (g : f ≡ floor ls run) where
+module _ (ls : List ℕ) (run limit : ℕ) (y : StockLengths ls) (l : Limit limit) (t : Tried) (end f : ℕ) (s : Searched ls run end t)
+    (e : end ≡ min limit (16 ^ length ls)) (g : f ≡ floor ls run) where
   from-tries : repliedBest (foundAt (length ls) (t .kept)) (t .tries) f ≡ layoutReplied (panelsFor ls run limit)
   unfolding layoutReplied
   from-tries =
@@ -61,9 +62,11 @@ module _ (ls : List ℕ) (run limit : ℕ) (y : StockLengths ls) (l : Limit limi
       rw (panels-answered ls run limit y l, kept, number, g)
 
   pub found-replied : (counts : List ℕ) → t .kept .found ≡ true → counts ≡ countPlaces (layoutAt (length ls) (t .kept .place))
-      → record { answer = accepted tt; found = true; overrun = t .kept .overrun; counts = counts; tries = t .tries; floor = f } ≡ layoutReplied (panelsFor ls run limit)
+      → record { answer = accepted tt; found = true; overrun = t .kept .overrun; counts = counts; tries = t .tries; floor = f }
+      ≡ layoutReplied (panelsFor ls run limit)
   found-replied counts h c = rw (h, sym c) at from-tries
 
   pub none-replied : t .kept .found ≡ false
-      → record { answer = accepted tt; found = false; overrun = 0; counts = countPlaces []; tries = t .tries; floor = f } ≡ layoutReplied (panelsFor ls run limit)
+      → record { answer = accepted tt; found = false; overrun = 0; counts = countPlaces []; tries = t .tries; floor = f }
+      ≡ layoutReplied (panelsFor ls run limit)
   none-replied h = rw h at from-tries

@@ -34,7 +34,8 @@ pub judge-smaller : (kept : Kept) (total run place : ℕ) → run ≤ total → 
 judge-smaller kept total run place h l k = rw (le-leb run total h) (go (kept .found) l)
   where
     go : (t : Bool) → (t ≡ true → total - run < kept .overrun)
-        → found (total - run) (layoutAt k place) ≡ better (if t then found (kept .overrun) (layoutAt k (kept .place)) else none) (found (total - run) (layoutAt k place))
+        → found (total - run) (layoutAt k place)
+        ≡ better (if t then found (kept .overrun) (layoutAt k (kept .place)) else none) (found (total - run) (layoutAt k place))
     go true m = rw (lt-leb (kept .overrun) (total - run) (m refl))
     go false m = refl
 

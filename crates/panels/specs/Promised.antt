@@ -79,7 +79,8 @@ FloorOf lengths run distance = LeastMultiple (gcd lengths) run (run + distance)
 -- What is promised of the reply p of a call that is not refused.
 pub record PanelsGiven (lengths : List ℕ) (run limit : ℕ) (p : Panels) : Type 0 where
   -- "Tries made are the lesser of the limit and the layouts there are": 16 counts of each length. They are the length of the prefix that was tried.
-  pub tries-made : (p .tries ≡ length (tried lengths limit)) × (p .tries ≡ min limit (length (layouts (length lengths)))) × (length (layouts (length lengths)) ≡ 16 ^ length lengths)
+  pub tries-made : (p .tries ≡ length (tried lengths limit)) × (p .tries ≡ min limit (length (layouts (length lengths))))
+      × (length (layouts (length lengths)) ≡ 16 ^ length lengths)
   -- "The smallest overrun among those tried, its first layout."
   pub smallest : (o : ℕ) (counts : List ℕ) → p .best ≡ found o counts → FirstSmallest lengths run (tried lengths limit) o counts
   pub is-layout : (o : ℕ) (counts : List ℕ) → p .best ≡ found o counts → IsLayout lengths counts
@@ -89,10 +90,12 @@ pub record PanelsGiven (lengths : List ℕ) (run limit : ℕ) (p : Panels) : Typ
   pub floor-is : FloorOf lengths run (p .floor)
   pub floor-under : (counts : List ℕ) → spec.covers lengths run counts ≡ true → p .floor ≤ spec.overrun lengths run counts
   -- "All tries give the least": with every layout tried, over all layouts.
-  pub all-least : length (layouts (length lengths)) ≤ limit → (o : ℕ) (counts : List ℕ) → p .best ≡ found o counts → FirstSmallest lengths run (layouts (length lengths)) o counts
+  pub all-least : length (layouts (length lengths)) ≤ limit → (o : ℕ) (counts : List ℕ) → p .best ≡ found o counts
+      → FirstSmallest lengths run (layouts (length lengths)) o counts
   pub all-none : length (layouts (length lengths)) ≤ limit → p .best ≡ none → NoneCovers lengths run (layouts (length lengths))
   -- The same of whatever is a layout.
-  pub layout-least : length (layouts (length lengths)) ≤ limit → (o : ℕ) (counts : List ℕ) → p .best ≡ found o counts → (l : List ℕ) → IsLayout lengths l → spec.covers lengths run l ≡ true → o ≤ spec.overrun lengths run l
+  pub layout-least : length (layouts (length lengths)) ≤ limit → (o : ℕ) (counts : List ℕ) → p .best ≡ found o counts → (l : List ℕ) → IsLayout lengths l
+      → spec.covers lengths run l ≡ true → o ≤ spec.overrun lengths run l
   pub layout-none : length (layouts (length lengths)) ≤ limit → p .best ≡ none → (l : List ℕ) → IsLayout lengths l → spec.covers lengths run l ≡ false
 
 abbrev pub Panels-given : Type 0
@@ -100,11 +103,13 @@ Panels-given = (lengths : List ℕ) (run limit : ℕ) (p : Panels) → panelsFor
 
 -- "More tries never give a worse overrun": of two calls alike but in their limits.
 abbrev pub More-tries : Type 0
-More-tries = (lengths : List ℕ) (run limit more : ℕ) (p q : Panels) → panelsFor lengths run limit ≡ accepted p → panelsFor lengths run more ≡ accepted q → limit ≤ more → NoWorse (q .best) (p .best)
+More-tries = (lengths : List ℕ) (run limit more : ℕ) (p q : Panels) → panelsFor lengths run limit ≡ accepted p → panelsFor lengths run more ≡ accepted q
+    → limit ≤ more → NoWorse (q .best) (p .best)
 
 -- "0 allowed": a run of length 0 is covered by no panels, with nothing over.
 abbrev pub Run-zero : Type 0
-Run-zero = (lengths : List ℕ) (limit : ℕ) (p : Panels) → panelsFor lengths 0 limit ≡ accepted p → (p .best ≡ found 0 (replicate (length lengths) 0)) × (p .floor ≡ 0)
+Run-zero =
+    (lengths : List ℕ) (limit : ℕ) (p : Panels) → panelsFor lengths 0 limit ≡ accepted p → (p .best ≡ found 0 (replicate (length lengths) 0)) × (p .floor ≡ 0)
 
 -- Worked: these lengths for a run of 21 (laws five-tries, all-tries, none-covers).
 abbrev pub workedLengths : List ℕ

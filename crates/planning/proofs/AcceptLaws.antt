@@ -42,7 +42,8 @@ abbrev with-limit : (G : ℕ) → Cuts → Answer AcceptedSide
 with-limit G c = accepted (record { cuts = c; continuity = G })
 
 -- What follows a header has that header.
-own-header : (h : Header) (given : List Hazard) (k : ℕ) (got : List Hazard) (s : List ℕ) (at : ℕ) (j : Job) → hazardsFrom h given k got s at ≡ accepted j → j .header ≡ h
+own-header : (h : Header) (given : List Hazard) (k : ℕ) (got : List Hazard) (s : List ℕ) (at : ℕ) (j : Job) → hazardsFrom h given k got s at ≡ accepted j
+    → j .header ≡ h
 unfolding hazardsFrom
 own-header h given zero got s at j e =
     let b = bound (unless-refuse (leb (length s) at) (Row.LeftOver at)) _ j e in
@@ -65,13 +66,16 @@ module _ (s : List ℕ) {x : HeaderReading} (read : headerAt s ≡ accepted x) w
   unfolding sideOf testedEnvelopes
   side-from side = rw accept-from (go behind refl)
     where
-      tests : (j : Job) → j .header ≡ x .header → (t : Answer (Unit {0})) → ((t >>= λ _. accepted j) >>= λ k. with-limit (k .header .continuity) (cutsOf (k .header) side (k .hazards)))
+      tests : (j : Job) → j .header ≡ x .header → (t : Answer (Unit {0}))
+          → ((t >>= λ _. accepted j) >>= λ k. with-limit (k .header .continuity) (cutsOf (k .header) side (k .hazards)))
           ≡ ((t >>= λ _. accepted (cutsOf (j .header) side (j .hazards))) >>= with-limit (x .header .continuity))
       tests j own (accepted u) = ap (λ (h : Header). with-limit (h .continuity) (cutsOf (j .header) side (j .hazards))) own
       tests j own (refused k v) = refl
 
-      go : (a : Answer Job) → behind ≡ a → ((a >>= λ j. testHazards (j .header) 0 (j .hazards) >>= λ _. accepted j) >>= λ k. with-limit (k .header .continuity) (cutsOf (k .header) side (k .hazards)))
-          ≡ ((a >>= λ j. testHazards (j .header) 0 (j .hazards) >>= λ _. accepted (cutsOf (j .header) side (j .hazards))) >>= with-limit (x .header .continuity))
+      go : (a : Answer Job) → behind ≡ a → ((a >>= λ j. testHazards (j .header) 0 (j .hazards) >>= λ _. accepted j)
+          >>= λ k. with-limit (k .header .continuity) (cutsOf (k .header) side (k .hazards)))
+          ≡ ((a >>= λ j. testHazards (j .header) 0 (j .hazards) >>= λ _. accepted (cutsOf (j .header) side (j .hazards)))
+          >>= with-limit (x .header .continuity))
       go (accepted j) e = tests j (own-header (x .header) [] (x .header .count) [] s (x .next) j e) (testHazards (j .header) 0 (j .hazards))
       go (refused k v) e = refl
 
@@ -111,11 +115,13 @@ module _ (s : List ℕ) {x : HeaderReading} (read : headerAt s ≡ accepted x) w
     unfolding testedEnvelopes
     walk-refuses r e = accept-from ∙ go behind (sym answer ∙ ap (λ (p : Outcome). outcome p c) e)
       where
-        tests : (j : Job) (t : Answer (Unit {0})) → (t >>= λ _. accepted (cutsOf (j .header) side (j .hazards))) ≡ refusal r → (t >>= λ _. accepted j) ≡ refusal r
+        tests : (j : Job) (t : Answer (Unit {0})) → (t >>= λ _. accepted (cutsOf (j .header) side (j .hazards))) ≡ refusal r
+            → (t >>= λ _. accepted j) ≡ refusal r
         tests j (accepted u) q = impossible cc
         tests j (refused k v) q = cc
 
-        go : (a : Answer Job) → (a >>= λ j. testHazards (j .header) 0 (j .hazards) >>= λ _. accepted (cutsOf (j .header) side (j .hazards))) ≡ refusal r → (a >>= λ j. testHazards (j .header) 0 (j .hazards) >>= λ _. accepted j) ≡ refusal r
+        go : (a : Answer Job) → (a >>= λ j. testHazards (j .header) 0 (j .hazards) >>= λ _. accepted (cutsOf (j .header) side (j .hazards))) ≡ refusal r
+            → (a >>= λ j. testHazards (j .header) 0 (j .hazards) >>= λ _. accepted j) ≡ refusal r
         go (accepted j) q = tests j (testHazards (j .header) 0 (j .hazards)) q
         go (refused k v) q = cc
 

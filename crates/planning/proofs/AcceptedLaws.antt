@@ -29,7 +29,8 @@ hazard-passes h i z p =
     rw five
 
 -- The tests go on behind hazards that pass.
-pub hazards-pass : (h : Header) (i : ℕ) (zs rest : List Hazard) → ((z : Hazard) → List·Memᴰ z zs → Passed h z) → testHazards h i (zs ++ rest) ≡ testHazards h (i + length zs) rest
+pub hazards-pass : (h : Header) (i : ℕ) (zs rest : List Hazard) → ((z : Hazard) → List·Memᴰ z zs → Passed h z)
+    → testHazards h i (zs ++ rest) ≡ testHazards h (i + length zs) rest
 unfolding testHazards
 hazards-pass h i [] rest p = ap (λ (k : ℕ). testHazards h k rest) (omega arith)
 hazards-pass h i (z ∷ zs) rest p =

@@ -24,7 +24,8 @@ is-adjacent h side l = go (ℕ-discrete side 0) (ℕ-discrete (h .opposite) 0)
     go : Dec (side ≡ 0) → Dec (h .opposite ≡ 0) → Adjacent h side (adjacentTraffic h side)
     go (yes a) b = first (or-left _ (eq-eqb side 0 a))
     go (no a) (yes b) = first (or-right (eqb side 0) (eq-eqb (h .opposite) 0 b))
-    go (no a) (no b) = rw (ne-eqb side 0 a, ne-eqb (h .opposite) 0 b) (record { there = lt-ltb 0 (h .opposite) (omega arith); beside = eq-eqb side 1 (omega arith) })
+    go (no a) (no b) =
+        rw (ne-eqb side 0 a, ne-eqb (h .opposite) 0 b) (record { there = lt-ltb 0 (h .opposite) (omega arith); beside = eq-eqb side 1 (omega arith) })
 
 -- "Adjacent traffic reaches the hazard if n < C."
 pub adjacent-reaches : (h : Header) (z : Hazard) → z .side ≤ 1 → reaches h z (adjacentTraffic h (z .side)) ≡ ltb (z .near) (h .zone)

@@ -92,7 +92,8 @@ module _ (s : List ℕ) (i : ℕ) where
     asked-step : asked ≡ (indexedHazard s i >>= λ a. unless-refuse (adjacentReaches (a .header) (a .hazard)) Row.Hazard >>= λ _. then (a .header) (a .hazard))
     unfolding approachedHazard indexedHazard
     asked-step =
-        bind-same (acceptJob s) _ _ (λ j _. bind-assoc (there j) _ _ ∙ bind-same (there j) _ _ (λ _ _. bind-assoc (reach j) _ _) ∙ sym (bind-assoc (there j) _ _))
+        bind-same (acceptJob s) _ _ (λ j _. bind-assoc (there j) _ _ ∙ bind-same (there j) _ _ (λ _ _. bind-assoc (reach j) _ _)
+        ∙ sym (bind-assoc (there j) _ _))
         ∙ sym (bind-assoc (acceptJob s) _ _)
       where
         there : Job → Answer (Unit {0})

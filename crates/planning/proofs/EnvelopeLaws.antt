@@ -26,7 +26,8 @@ use Rattle.runs.specs.declared.Stretch.{Stretch}
 use Rattle.runs.specs.Level.{Has, Proper}
 use Rattle.runs.specs.RunList.{lastStation}
 use Rattle.runs.proofs.LevelLaws.{Levelled, EndsBy}
-use Rattle.planning.specs.Envelope.{Traffic, forward, opposite, runout, reaches, reached, reachOf, offsetOf, envelope, envelopes, cutToRoad, cutEnvelope, sideEnvelopes, OnRoad, standsNear, testHazard, testHazards, acceptJob}
+use Rattle.planning.specs.Envelope.{Traffic, forward, opposite, runout, reaches, reached, reachOf, offsetOf, envelope, envelopes, cutToRoad, cutEnvelope}
+use Rattle.planning.specs.Envelope.{sideEnvelopes, OnRoad, standsNear, testHazard, testHazards, acceptJob}
 use Rattle.planning.specs.Reply.{Cuts, cutsOf, testedEnvelopes}
 use Rattle.planning.specs.Overhang.{SideHazard}
 use Rattle.planning.specs.Rows.{Passed, AcceptedFits}
@@ -59,7 +60,10 @@ accepted-fits s j e =
 -- The cut envelope has exactly the envelope's millimetres that are of the road.
 pub cut-has : (h : Header) (z : Hazard) (t : ℕ) → Has (cutEnvelope h z) t ↔ (OnRoad h t × Has (envelope h z) t)
 unfolding cutEnvelope cutToRoad
-cut-has h z t = (λ k. ((omega (arith, k .0), omega (arith, k .1)), (omega (arith, k .0), omega (arith, k .1))), λ k. (omega (arith, k .0 .0, k .1 .0), omega (arith, k .0 .1, k .1 .1)))
+cut-has h z t = (
+  λ k. ((omega (arith, k .0), omega (arith, k .1)), (omega (arith, k .0), omega (arith, k .1))),
+  λ k. (omega (arith, k .0 .0, k .1 .0), omega (arith, k .0 .1, k .1 .1)),
+)
 
 -- It lies on the road and has a millimetre.
 pub record LiesOnRoad (h : Header) (e : Stretch) : Type 0 where
@@ -69,7 +73,8 @@ pub record LiesOnRoad (h : Header) (e : Stretch) : Type 0 where
 
 cut-lies : (h : Header) (z : Hazard) → HazardFits h z → LiesOnRoad h (cutEnvelope h z)
 unfolding cutEnvelope cutToRoad envelope
-cut-lies h z f = let bounds = hazard-bounds h z f in record { begins = omega arith; long = omega (arith, bounds .long, bounds .begins, bounds .ends); ends = omega arith }
+cut-lies h z f = let bounds = hazard-bounds h z f in
+    record { begins = omega arith; long = omega (arith, bounds .long, bounds .begins, bounds .ends); ends = omega arith }
 
 -- The envelopes of a side, not cut, as members.
 record FromHazard (h : Header) (side : ℕ) (zs : List Hazard) (e : Stretch) : Type 0 where
@@ -87,21 +92,32 @@ from-hazard h side (z ∷ zs) e m = go (eqb (z .side) side && reached h z) refl 
     later : FromHazard h side zs e → FromHazard h side (z ∷ zs) e
     later w = record { hazard = w .hazard; member = List·Memᴰ·tail (w .member); on-side = w .on-side; reach = w .reach; is = w .is }
 
-    here : (eqb (z .side) side && reached h z) ≡ true → (e ≡ envelope h z) ⊎ List·Memᴰ e (envelopes h side zs) → (List·Memᴰ e (envelopes h side zs) → FromHazard h side zs e) → FromHazard h side (z ∷ zs) e
-    here t (inl q) r = record { hazard = z; member = List·Memᴰ·head refl; on-side = eqb-true _ _ (and-left _ (reached h z) t); reach = and-right (eqb (z .side) side) _ t; is = q }
+    here : (eqb (z .side) side && reached h z) ≡ true → (e ≡ envelope h z) ⊎ List·Memᴰ e (envelopes h side zs)
+        → (List·Memᴰ e (envelopes h side zs) → FromHazard h side zs e) → FromHazard h side (z ∷ zs) e
+    here t (inl q) r = record {
+      hazard = z;
+      member = List·Memᴰ·head refl;
+      on-side = eqb-true _ _ (and-left _ (reached h z) t);
+      reach = and-right (eqb (z .side) side) _ t;
+      is = q;
+    }
     here t (inr k) r = later (r k)
 
-    go : (b : Bool) → (eqb (z .side) side && reached h z) ≡ b → List·Memᴰ e (if b then envelope h z ∷ envelopes h side zs else envelopes h side zs) → (List·Memᴰ e (envelopes h side zs) → FromHazard h side zs e) → FromHazard h side (z ∷ zs) e
+    go : (b : Bool) → (eqb (z .side) side && reached h z) ≡ b → List·Memᴰ e (if b then envelope h z ∷ envelopes h side zs else envelopes h side zs)
+        → (List·Memᴰ e (envelopes h side zs) → FromHazard h side zs e) → FromHazard h side (z ∷ zs) e
     go true t k r = here t (List·Memᴰ·cases-cons k) r
     go false t k r = later (r k)
 
-to-envelope : (h : Header) (side : ℕ) {z : Hazard} {zs : List Hazard} → List·Memᴰ z zs → z .side ≡ side → reached h z ≡ true → List·Memᴰ (envelope h z) (envelopes h side zs)
+to-envelope : (h : Header) (side : ℕ) {z : Hazard} {zs : List Hazard} → List·Memᴰ z zs → z .side ≡ side → reached h z ≡ true
+    → List·Memᴰ (envelope h z) (envelopes h side zs)
 unfolding envelopes
 to-envelope h side {z} (List·Memᴰ·head {x = x} {xs = xs} q) on r =
-    rw q (rw (let t : (eqb (x .side) side && reached h x) ≡ true = and-intro (eq-eqb _ _ (ap (λ (y : Hazard). y .side) (sym q) ∙ on)) (rw q at r) in t) (List·Memᴰ·head refl))
+    rw q (rw (let t : (eqb (x .side) side && reached h x) ≡ true = and-intro (eq-eqb _ _ (ap (λ (y : Hazard). y .side) (sym q) ∙ on)) (rw q at r) in t)
+    (List·Memᴰ·head refl))
 to-envelope h side {z} (List·Memᴰ·tail {x = x} {xs = xs} m) on r = go (eqb (x .side) side && reached h x) (to-envelope h side m on r)
   where
-    go : (b : Bool) → List·Memᴰ (envelope h z) (envelopes h side xs) → List·Memᴰ (envelope h z) (if b then envelope h x ∷ envelopes h side xs else envelopes h side xs)
+    go : (b : Bool) → List·Memᴰ (envelope h z) (envelopes h side xs)
+        → List·Memᴰ (envelope h z) (if b then envelope h x ∷ envelopes h side xs else envelopes h side xs)
     go true k = List·Memᴰ·tail k
     go false k = k
 
@@ -116,7 +132,11 @@ unfolding cutEnvelope
 from-cut j side e m =
     let p = Memᴰ·of-map (cutToRoad (j .header)) (envelopes (j .header) side (j .hazards)) m in
     let w = from-hazard (j .header) side (j .hazards) (p .0) (p .1) in
-    record { hazard = w .hazard; own = record { member = w .member; on-side = w .on-side; reach = w .reach }; is = sym (p .2) ∙ ap (cutToRoad (j .header)) (w .is) }
+    record {
+      hazard = w .hazard;
+      own = record { member = w .member; on-side = w .on-side; reach = w .reach };
+      is = sym (p .2) ∙ ap (cutToRoad (j .header)) (w .is);
+    }
 
 pub to-cut : (j : Job) (side : ℕ) {z : Hazard} → SideHazard j side z → List·Memᴰ (cutEnvelope (j .header) z) (sideEnvelopes j side)
 unfolding cutEnvelope
@@ -127,7 +147,8 @@ unfolding envelopes
 envelopes-length h side [] = omega arith
 envelopes-length h side (z ∷ zs) = go (eqb (z .side) side && reached h z) (envelopes-length h side zs)
   where
-    go : (b : Bool) → length (envelopes h side zs) ≤ length zs → length (if b then envelope h z ∷ envelopes h side zs else envelopes h side zs) ≤ suc (length zs)
+    go : (b : Bool) → length (envelopes h side zs) ≤ length zs
+        → length (if b then envelope h z ∷ envelopes h side zs else envelopes h side zs) ≤ suc (length zs)
     go true r = omega arith
     go false r = omega arith
 
@@ -151,7 +172,8 @@ module _ (j : Job) (side : ℕ) (fits : AcceptedFits j) where
 
   pub side-count : length (sideEnvelopes j side) ≤ 256
   side-count =
-      let same : length (sideEnvelopes j side) ≡ length (envelopes (j .header) side (j .hazards)) = length-map (envelopes (j .header) side (j .hazards)) (cutToRoad (j .header)) in
+      let same : length (sideEnvelopes j side) ≡ length (envelopes (j .header) side (j .hazards)) =
+      length-map (envelopes (j .header) side (j .hazards)) (cutToRoad (j .header)) in
       omega (arith, same, envelopes-length (j .header) side (j .hazards), fits .fits .hazards .count, header-bounds (j .header) (fits .fits .header) .count)
 
 -- A traffic that reaches a hazard of an accepted job asks for a length in the formula's domain.
@@ -164,7 +186,8 @@ module _ (j : Job) (fits : AcceptedFits j) (z : Hazard) (m : List·Memᴰ z (j .
       any forward q = or-left _ q
       any opposite q = or-right (reaches (j .header) z forward) q
 
-  pub domain-of : Domain (j .header .along) (j .header .across) (j .header .straight) (runout (j .header) t) (reachOf (j .header) z t) (offsetOf (j .header) z t)
+  pub domain-of : Domain (j .header .along) (j .header .across) (j .header .straight) (runout (j .header) t) (reachOf (j .header) z t)
+      (offsetOf (j .header) z t)
   domain-of = reaching-domain (j .header) z (fits .fits .header) (fits .fits .hazards .each z m) clear t r
 
 -- The envelopes that a tested job gives fit the builder of runs.
@@ -181,4 +204,9 @@ tested-fit j side c f e =
     let whole : cutsOf (j .header) side (j .hazards) ≡ c = cc in
     let same : sideEnvelopes j side ≡ c .envelopes = ap (λ (x : Cuts). x .envelopes) whole in
     let fits : AcceptedFits j = record { fits = f; passed = hazards-passed (j .header) 0 (j .hazards) (b .first) (b .taken) } in
-    subst EnvelopesFit same (record { few = side-count j side fits; proper = side-proper j side fits; levelled = side-levelled j side fits; ends = side-ends j side fits })
+    subst EnvelopesFit same (record {
+      few = side-count j side fits;
+      proper = side-proper j side fits;
+      levelled = side-levelled j side fits;
+      ends = side-ends j side fits;
+    })

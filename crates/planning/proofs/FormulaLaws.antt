@@ -18,7 +18,8 @@ use Rattle.job.specs.Job.{Job}
 use Rattle.job.proofs.RangeLaws.{header-bounds, hazard-bounds}
 use Rattle.runs.specs.Level.{Has}
 use Rattle.runs.proofs.LeastLaws.{required-covers}
-use Rattle.planning.specs.Envelope.{Traffic, forward, opposite, runout, reaches, reached, reachOf, offsetOf, lengthening, envelope, cutToRoad, cutEnvelope, OnRoad, Upstream, BelowApproach, Asked, beside, upstream, sideEnvelopes}
+use Rattle.planning.specs.Envelope.{Traffic, forward, opposite, runout, reaches, reached, reachOf, offsetOf, lengthening, envelope, cutToRoad}
+use Rattle.planning.specs.Envelope.{cutEnvelope, OnRoad, Upstream, BelowApproach, Asked, beside, upstream, sideEnvelopes}
 use Rattle.planning.specs.Overhang.{SideHazard}
 use Rattle.planning.specs.Required.{jobLevel}
 use Rattle.planning.specs.Rows.{AcceptedFits}
@@ -33,16 +34,22 @@ module _ (j : Job) (fits : AcceptedFits j) (z : Hazard) (m : List·Memᴰ z (j .
   -- A distance below the approach length in whole panels is below the lengthening, and no other is.
   nearer : (t : Traffic) → reaches (j .header) z t ≡ true → (d : ℕ) → BelowApproach (j .header) z t d → d < lengthening (j .header) z t
   unfolding lengthening
-  nearer t r d below = rw r (raised-length-below _ _ _ _ _ _ _ (header-bounds (j .header) (fits .fits .header) .panel-low) (divisor-some _ _ _ _ _ _ (domain-of j fits z m t r)) d .1 below)
+  nearer t r d below = rw r (raised-length-below _ _ _ _ _ _ _ (header-bounds (j .header) (fits .fits .header) .panel-low)
+      (divisor-some _ _ _ _ _ _ (domain-of j fits z m t r)) d .1 below)
 
   lengthened : (t : Traffic) (d : ℕ) → d < lengthening (j .header) z t → (reaches (j .header) z t ≡ true) × BelowApproach (j .header) z t d
   unfolding lengthening
   lengthened t d l = go (reaches (j .header) z t) refl l
     where
       go : (b : Bool) → reaches (j .header) z t ≡ b
-          → d < (if b then raisedLength (j .header .panel) (j .header .along) (j .header .across) (j .header .straight) (runout (j .header) t) (reachOf (j .header) z t) (offsetOf (j .header) z t) else 0)
+          → d < (if b then raisedLength (j .header .panel) (j .header .along) (j .header .across) (j .header .straight) (runout (j .header) t)
+          (reachOf (j .header) z t) (offsetOf (j .header) z t) else 0)
           → (reaches (j .header) z t ≡ true) × BelowApproach (j .header) z t d
-      go true r k = (r, raised-length-below _ _ _ _ _ _ _ (header-bounds (j .header) (fits .fits .header) .panel-low) (divisor-some _ _ _ _ _ _ (domain-of j fits z m t r)) d .0 k)
+      go true r k = (
+        r,
+        raised-length-below _ _ _ _ _ _ _ (header-bounds (j .header) (fits .fits .header) .panel-low) (divisor-some _ _ _ _ _ _ (domain-of j fits z m t r)) d .0
+            k,
+      )
       go false r k = absurd (omega arith)
 
   -- A station upstream by less than the lengthening is in the envelope.
@@ -66,7 +73,8 @@ module _ (j : Job) (fits : AcceptedFits j) (z : Hazard) (m : List·Memᴰ z (j .
       from (upstream traffic r d u l) = upstream-has traffic d t u (nearer traffic r d l)
 
   -- There, on the road, the hazard's level or a higher one is required.
-  pub formula-level : (traffic : Traffic) → reaches (j .header) z traffic ≡ true → (d t : ℕ) → Upstream traffic z d t → BelowApproach (j .header) z traffic d → OnRoad (j .header) t → z .level ≤ jobLevel j (z .side) t
+  pub formula-level : (traffic : Traffic) → reaches (j .header) z traffic ≡ true → (d t : ℕ) → Upstream traffic z d t → BelowApproach (j .header) z traffic d
+      → OnRoad (j .header) t → z .level ≤ jobLevel j (z .side) t
   unfolding jobLevel cutEnvelope cutToRoad envelope
   formula-level traffic r d t u l on =
       let own : SideHazard j (z .side) z = record { member = m; on-side = refl; reach = is-reached traffic r } in

@@ -53,7 +53,8 @@ overhang-after h z d = (λ l. omega arith, λ l. omega arith)
 -- The greatest
 
 -- At one end.
-module _ (h : Header) (side : ℕ) (end : Overhangs → ℕ) (nothing : end noOverhang ≡ 0) (picks : (a b : Overhangs) → end (greater a b) ≡ max (end a) (end b)) where
+module _ (h : Header) (side : ℕ) (end : Overhangs → ℕ) (nothing : end noOverhang ≡ 0)
+    (picks : (a b : Overhangs) → end (greater a b) ≡ max (end a) (end b)) where
   abbrev Job·of : List Hazard → Job
   Job·of zs = record { header = h; hazards = zs }
 
@@ -61,7 +62,8 @@ module _ (h : Header) (side : ℕ) (end : Overhangs → ℕ) (nothing : end noOv
   later s = record { member = List·Memᴰ·tail (s .member); on-side = s .on-side; reach = s .reach }
 
   -- One hazard more.
-  with-one : (z : Hazard) (zs : List Hazard) (on : eqb (z .side) side && reached h z ≡ true) (r : Overhangs) → Greatest (Job·of zs) side end (end r) → Greatest (Job·of (z ∷ zs)) side end (end (greater (overhang h z) r))
+  with-one : (z : Hazard) (zs : List Hazard) (on : eqb (z .side) side && reached h z ≡ true) (r : Overhangs) → Greatest (Job·of zs) side end (end r)
+      → Greatest (Job·of (z ∷ zs)) side end (end (greater (overhang h z) r))
   with-one z zs on r g = record { none-greater = λ x s. below x s (List·Memᴰ·cases-cons (s .member)); attained = pick (decLe (end r) (end (overhang h z))) }
     where
       below : (x : Hazard) → SideHazard (Job·of (z ∷ zs)) side x → (x ≡ z) ⊎ List·Memᴰ x zs → end (overhang h x) ≤ end (greater (overhang h z) r)
@@ -79,8 +81,10 @@ module _ (h : Header) (side : ℕ) (end : Overhangs → ℕ) (nothing : end noOv
           let w = g .attained (omega (arith, picks (overhang h z) r)) in
           (w .0, later (w .1), omega (arith, picks (overhang h z) r, w .2))
 
-  without-one : (z : Hazard) (zs : List Hazard) (off : eqb (z .side) side && reached h z ≡ false) (n : ℕ) → Greatest (Job·of zs) side end n → Greatest (Job·of (z ∷ zs)) side end n
-  without-one z zs off n g = record { none-greater = λ x s. below x s (List·Memᴰ·cases-cons (s .member)); attained = λ some. let w = g .attained some in (w .0, later (w .1), w .2) }
+  without-one : (z : Hazard) (zs : List Hazard) (off : eqb (z .side) side && reached h z ≡ false) (n : ℕ) → Greatest (Job·of zs) side end n
+      → Greatest (Job·of (z ∷ zs)) side end n
+  without-one z zs off n g =
+      record { none-greater = λ x s. below x s (List·Memᴰ·cases-cons (s .member)); attained = λ some. let w = g .attained some in (w .0, later (w .1), w .2) }
     where
       below : (x : Hazard) → SideHazard (Job·of (z ∷ zs)) side x → (x ≡ z) ⊎ List·Memᴰ x zs → end (overhang h x) ≤ n
       below x s (inl q) = absurd (false≢true (sym off ∙ and-intro (eq-eqb _ _ (ap (λ (y : Hazard). y .side) (sym q) ∙ s .on-side)) (rw q at (s .reach))))
@@ -108,7 +112,8 @@ greatest-after j side = greatest (j .header) side (λ (o : Overhangs). o .after)
 -- Two jobs
 
 -- What is greatest depends on which hazards stand, and not on their order.
-pub greatest-only : (j k : Job) (side : ℕ) (end : Overhangs → ℕ) {n m : ℕ} → ((z : Hazard) → SideHazard j side z → SideHazard k side z × (end (overhang (j .header) z) ≡ end (overhang (k .header) z)))
+pub greatest-only : (j k : Job) (side : ℕ) (end : Overhangs → ℕ) {n m : ℕ}
+    → ((z : Hazard) → SideHazard j side z → SideHazard k side z × (end (overhang (j .header) z) ≡ end (overhang (k .header) z)))
     → Greatest j side end n → Greatest k side end m → n ≤ m
 greatest-only j k side end {n} {m} more g f = go (decLe n 0)
   where

@@ -38,7 +38,8 @@ use Rattle.planning.proofs.TestedLaws.{own-cuts, no-cuts}
 
 -- The header with the hazard count 1
 
-last-one : (h : Header) → inRanges nextInHeader (sharedNumbers h) (lastNumbers h) ≡ true → inRanges nextInHeader (sharedNumbers h) (lastNumbers (counted h 1)) ≡ true
+last-one : (h : Header) → inRanges nextInHeader (sharedNumbers h) (lastNumbers h) ≡ true
+    → inRanges nextInHeader (sharedNumbers h) (lastNumbers (counted h 1)) ≡ true
 unfolding inRanges headerRanges sharedRanges
 last-one h e = go (ℕ-discrete (h .kind) 2)
   where
@@ -79,13 +80,15 @@ module _ (keys ends : List ℕ) (n : ℕ) (keyed : Keyed keys ends n) where
   unfolding keyedEnvelopes
   none-keyed e = rw e
 
-  one-keyed : length keys ≡ 1 → n ≢ 0 → keyedEnvelopes keys ends n ≡ record { start = getD keys 0 0 / 2048; end = getD ends 0 0; level = getD keys 0 0 % 8 } ∷ []
+  one-keyed : length keys ≡ 1 → n ≢ 0 → keyedEnvelopes keys ends n ≡ record { start = getD keys 0 0 / 2048; end = getD ends 0 0; level = getD keys 0 0 % 8 }
+      ∷ []
   unfolding keyedEnvelopes
   one-keyed size some =
       let one : n ≡ 1 = omega (arith, keyed .keys-there) in
       rw one (go keys size (keyed .own 0 (omega arith)))
     where
-      go : (l : List ℕ) → length l ≡ 1 → getD l 0 0 / 8 % 256 ≡ 0 → keyedEnvelopes l ends 1 ≡ record { start = getD l 0 0 / 2048; end = getD ends 0 0; level = getD l 0 0 % 8 } ∷ []
+      go : (l : List ℕ) → length l ≡ 1 → getD l 0 0 / 8 % 256 ≡ 0
+          → keyedEnvelopes l ends 1 ≡ record { start = getD l 0 0 / 2048; end = getD ends 0 0; level = getD l 0 0 % 8 } ∷ []
       go [] e own = absurd (omega arith)
       go (k ∷ []) e own = ap (λ (i : ℕ). record { start = k / 2048; end = getD ends i 0; level = k % 8 } ∷ []) own
       go (k ∷ l ∷ ks) e own = absurd (omega arith)
@@ -104,11 +107,14 @@ module _ (h : Header) (z : Hazard) (zf : HazardFits h z) {rest : ℕ} (q : rest 
       let below : packed (named 0 z) ≡ (z .near + z .far * 65536 + z .side * 4294967296) + z .level * 1099511627776 = omega arith in
       let near : packed (named 0 z) % 65536 ≡ z .near = ap (λ (n : ℕ). n % 65536) above ∙ lower _ _ 65536 (omega (arith, b .offsets, b .far-top)) in
       let far : packed (named 0 z) / 65536 % 65536 ≡ z .far =
-      ap (λ (n : ℕ). n / 65536 % 65536) above ∙ ap (λ (n : ℕ). n % 65536) (upper _ _ 65536 (omega (arith, b .offsets, b .far-top))) ∙ lower _ _ 65536 (omega (arith, b .far-top)) in
+      ap (λ (n : ℕ). n / 65536 % 65536) above ∙ ap (λ (n : ℕ). n % 65536) (upper _ _ 65536 (omega (arith, b .offsets, b .far-top)))
+      ∙ lower _ _ 65536 (omega (arith, b .far-top)) in
       let side : packed (named 0 z) / 4294967296 % 256 ≡ z .side =
-      ap (λ (n : ℕ). n / 4294967296 % 256) beside ∙ ap (λ (n : ℕ). n % 256) (upper _ _ 4294967296 (omega (arith, b .offsets, b .far-top))) ∙ lower _ _ 256 (omega (arith, b .side)) in
+      ap (λ (n : ℕ). n / 4294967296 % 256) beside ∙ ap (λ (n : ℕ). n % 256) (upper _ _ 4294967296 (omega (arith, b .offsets, b .far-top)))
+      ∙ lower _ _ 256 (omega (arith, b .side)) in
       let level : packed (named 0 z) / 1099511627776 % 256 ≡ z .level =
-      ap (λ (n : ℕ). n / 1099511627776 % 256) below ∙ ap (λ (n : ℕ). n % 256) (upper _ _ 1099511627776 (omega (arith, b .offsets, b .far-top, b .side))) ∙ mod-eq-of-lt (omega (arith, b .level-top)) in
+      ap (λ (n : ℕ). n / 1099511627776 % 256) below ∙ ap (λ (n : ℕ). n % 256) (upper _ _ 1099511627776 (omega (arith, b .offsets, b .far-top, b .side)))
+      ∙ mod-eq-of-lt (omega (arith, b .level-top)) in
       λ i. record { start = z .start; end = z .end; near = near i; far = far i; side = side i; level = level i }
 
   alone : givenHazards numbers ≡ z ∷ []
@@ -126,7 +132,8 @@ module _ (h : Header) (z : Hazard) (zf : HazardFits h z) {rest : ℕ} (q : rest 
   walk-places keys ends noted k e = record { for-keys = λ _. omega arith; for-ends = λ _. omega arith; for-hazard = λ l. absurd (omega arith) }
 
   -- What it takes
-  module _ (passes : Passed h z) (keys ends noted noted′ : List ℕ) (r : Walked) (w : Walks (counted h 1) (givenHazards numbers) (z .side) 256 [] 0 noted keys ends noted′ r) where
+  module _ (passes : Passed h z) (keys ends noted noted′ : List ℕ) (r : Walked)
+      (w : Walks (counted h 1) (givenHazards numbers) (z .side) 256 [] 0 noted keys ends noted′ r) where
     answers : walkedAnswer keys ends r ≡ accepted (cutsOf (counted h 1) (z .side) (z ∷ []))
     unfolding hazardsFrom testedEnvelopes testHazards
     answers = w .answer ∙ rw (alone, hazard-passes (counted h 1) 0 z (alone-passes h z passes))
@@ -138,13 +145,16 @@ module _ (h : Header) (z : Hazard) (zf : HazardFits h z) {rest : ℕ} (q : rest 
         go Done e = cc
         go (Refused x) e = impossible cc
 
-    takes-own : reached (counted h 1) z ≡ true → cutsTaken keys ends (r .taken) ≡ record { envelopes = cutEnvelope (counted h 1) z ∷ []; overhangs = overhang (counted h 1) z }
+    takes-own : reached (counted h 1) z ≡ true
+        → cutsTaken keys ends (r .taken) ≡ record { envelopes = cutEnvelope (counted h 1) z ∷ []; overhangs = overhang (counted h 1) z }
     takes-own e = takes ∙ own-cuts (counted h 1) (z .side) z refl e
 
     takes-none : reached (counted h 1) z ≡ false → cutsTaken keys ends (r .taken) ≡ noCuts
     takes-none e = takes ∙ no-cuts (counted h 1) (z .side) z (rw e (and-false (eqb (z .side) (z .side))))
 
-    told : (reached (counted h 1) z ≡ true) → _≡_ {A = Own} (record { found = true; start = cutEnvelope (counted h 1) z .start; end = cutEnvelope (counted h 1) z .end; overhangs = overhang (counted h 1) z }) (ownEnvelope (counted h 1) z)
+    told : (reached (counted h 1) z ≡ true) → _≡_ {A = Own}
+        (record { found = true; start = cutEnvelope (counted h 1) z .start; end = cutEnvelope (counted h 1) z .end; overhangs = overhang (counted h 1) z })
+        (ownEnvelope (counted h 1) z)
     unfolding ownEnvelope
     told e = rw e
 
@@ -152,23 +162,30 @@ module _ (h : Header) (z : Hazard) (zf : HazardFits h z) {rest : ℕ} (q : rest 
     unfolding ownEnvelope
     told-none e = rw e
 
-    pub walk-found : length keys ≡ 1 → r .taken .count ≢ 0 → _≡_ {A = Own} (record { found = true; start = getD keys 0 0 / 2048; end = getD ends 0 0; overhangs = r .taken .overhangs }) (ownEnvelope h z)
+    pub walk-found : length keys ≡ 1 → r .taken .count ≢ 0
+        → _≡_ {A = Own} (record { found = true; start = getD keys 0 0 / 2048; end = getD ends 0 0; overhangs = r .taken .overhangs }) (ownEnvelope h z)
     walk-found size some = go (decided (reached (counted h 1) z)) ∙ alone-envelope h z
       where
-        go : (reached (counted h 1) z ≡ true) ⊎ (reached (counted h 1) z ≡ false) → _≡_ {A = Own} (record { found = true; start = getD keys 0 0 / 2048; end = getD ends 0 0; overhangs = r .taken .overhangs }) (ownEnvelope (counted h 1) z)
+        go : (reached (counted h 1) z ≡ true) ⊎ (reached (counted h 1) z ≡ false)
+            → _≡_ {A = Own} (record { found = true; start = getD keys 0 0 / 2048; end = getD ends 0 0; overhangs = r .taken .overhangs })
+            (ownEnvelope (counted h 1) z)
         go (inl e) =
             let cuts = takes-own e in
-            let one : _≡_ {A = List Stretch} (record { start = getD keys 0 0 / 2048; end = getD ends 0 0; level = getD keys 0 0 % 8 } ∷ []) (cutEnvelope (counted h 1) z ∷ []) =
+            let one : _≡_ {A = List Stretch} (record { start = getD keys 0 0 / 2048; end = getD ends 0 0; level = getD keys 0 0 % 8 } ∷ [])
+            (cutEnvelope (counted h 1) z ∷ []) =
             sym (one-keyed keys ends (r .taken .count) (w .keyed) size some) ∙ ap (λ (c : Cuts). c .envelopes) cuts in
-            let stretch : _≡_ {A = Stretch} (record { start = getD keys 0 0 / 2048; end = getD ends 0 0; level = getD keys 0 0 % 8 }) (cutEnvelope (counted h 1) z) = cc in
+            let stretch : _≡_ {A = Stretch} (record { start = getD keys 0 0 / 2048; end = getD ends 0 0; level = getD keys 0 0 % 8 })
+            (cutEnvelope (counted h 1) z) = cc in
             (λ i. record { found = true; start = stretch i .start; end = stretch i .end; overhangs = ap (λ (c : Cuts). c .overhangs) cuts i }) ∙ told e
-        go (inr e) = impossible (let one : _≡_ {A = List Stretch} (record { start = getD keys 0 0 / 2048; end = getD ends 0 0; level = getD keys 0 0 % 8 } ∷ []) [] =
+        go (inr e) =
+            impossible (let one : _≡_ {A = List Stretch} (record { start = getD keys 0 0 / 2048; end = getD ends 0 0; level = getD keys 0 0 % 8 } ∷ []) [] =
             sym (one-keyed keys ends (r .taken .count) (w .keyed) size some) ∙ ap (λ (c : Cuts). c .envelopes) (takes-none e) in cc)
 
     pub walk-missing : r .taken .count ≡ 0 → _≡_ {A = Own} (record { found = false; start = 0; end = 0; overhangs = r .taken .overhangs }) (ownEnvelope h z)
     walk-missing none = go (decided (reached (counted h 1) z)) ∙ alone-envelope h z
       where
-        go : (reached (counted h 1) z ≡ true) ⊎ (reached (counted h 1) z ≡ false) → _≡_ {A = Own} (record { found = false; start = 0; end = 0; overhangs = r .taken .overhangs }) (ownEnvelope (counted h 1) z)
+        go : (reached (counted h 1) z ≡ true) ⊎ (reached (counted h 1) z ≡ false)
+            → _≡_ {A = Own} (record { found = false; start = 0; end = 0; overhangs = r .taken .overhangs }) (ownEnvelope (counted h 1) z)
         go (inl e) = impossible (let one : _≡_ {A = List Stretch} [] (cutEnvelope (counted h 1) z ∷ []) =
             sym (none-keyed keys ends (r .taken .count) (w .keyed) none) ∙ ap (λ (c : Cuts). c .envelopes) (takes-own e) in cc)
         go (inr e) = (λ i. record { found = false; start = 0; end = 0; overhangs = ap (λ (c : Cuts). c .overhangs) (takes-none e) i }) ∙ told-none e

@@ -43,7 +43,8 @@ in-zone : (h : Header) (z : Hazard) (t : Traffic) → reaches h z t ≡ true →
 unfolding reaches
 in-zone h z t r = ltb-true (z .near + farther h (z .side) t) (h .zone) (and-right (present h t) _ r)
 
-adjacent-reaches : (h : Header) (z : Hazard) (t : Traffic) → present h t ≡ true → adjacent h (z .side) t ≡ true → ltb (z .near) (h .zone) ≡ true → reaches h z t ≡ true
+adjacent-reaches : (h : Header) (z : Hazard) (t : Traffic) → present h t ≡ true → adjacent h (z .side) t ≡ true → ltb (z .near) (h .zone) ≡ true
+    → reaches h z t ≡ true
 adjacent-reaches h z t p a l = rw (reaches-adjacent h z t a .0) (and-intro p l)
 
 -- A hazard is reached exactly if n < C: far traffic reaches only where adjacent traffic does.
@@ -64,7 +65,8 @@ reached-near h z s = same-test (reached h z) (ltb (z .near) (h .zone)) to from
         go : Dec (z .side ≡ 0) → Dec (h .opposite ≡ 0) → (reaches h z forward || reaches h z opposite) ≡ true
         go (yes a) b = or-left _ (adjacent-reaches h z forward refl (or-left _ (eq-eqb _ _ a)) l)
         go (no a) (yes b) = or-left _ (adjacent-reaches h z forward refl (or-right (eqb (z .side) 0) (eq-eqb _ _ b)) l)
-        go (no a) (no b) = or-right (reaches h z forward) (adjacent-reaches h z opposite (lt-ltb 0 (h .opposite) (omega arith)) (eq-eqb (z .side) 1 (omega arith)) l)
+        go (no a) (no b) =
+            or-right (reaches h z forward) (adjacent-reaches h z opposite (lt-ltb 0 (h .opposite) (omega arith)) (eq-eqb (z .side) 1 (omega arith)) l)
 
 -- The approach length of a traffic
 
@@ -105,12 +107,14 @@ module _ (h : Header) (z : Hazard) (hf : HeaderFits h) (zf : HazardFits h z) (cl
       }
 
   -- Its lengthening is the length that the approach crate promises.
-  pub reaching-length : reaches h z t ≡ true → raisedLength (h .panel) (h .along) (h .across) (h .straight) (runout h t) (reachOf h z t) (offsetOf h z t) ≡ lengthening h z t
+  pub reaching-length : reaches h z t ≡ true
+      → raisedLength (h .panel) (h .along) (h .across) (h .straight) (runout h t) (reachOf h z t) (offsetOf h z t) ≡ lengthening h z t
   unfolding lengthening
   reaching-length r = rw r
 
   -- "Each approach length is raised to the least multiple of it that is not smaller."
-  pub reaching-raised : reaches h z t ≡ true → LeastMultiple (h .panel) (approachLength (h .along) (h .across) (h .straight) (runout h t) (reachOf h z t) (offsetOf h z t)) (lengthening h z t)
+  pub reaching-raised : reaches h z t ≡ true
+      → LeastMultiple (h .panel) (approachLength (h .along) (h .across) (h .straight) (runout h t) (reachOf h z t) (offsetOf h z t)) (lengthening h z t)
   unfolding lengthening raisedLength
   reaching-raised r = rw r (raised-least _ _ (header-bounds h hf .panel-low))
 
@@ -124,7 +128,8 @@ module _ (h : Header) (z : Hazard) (hf : HeaderFits h) (zf : HazardFits h z) (cl
       go false d = omega arith
 
   -- The length asked for with a traffic's own numbers.
-  module _ {L w R : ℕ} (p : L ≡ runout h t) (q : w ≡ farther h (z .side) t) (e : R ≡ min (z .far + w) (h .zone)) (some : 0 < L) (near : z .near + w < h .zone) where
+  module _ {L w R : ℕ} (p : L ≡ runout h t) (q : w ≡ farther h (z .side) t) (e : R ≡ min (z .far + w) (h .zone)) (some : 0 < L)
+      (near : z .near + w < h .zone) where
     asked-reaches : reaches h z t ≡ true
     unfolding reaches
     asked-reaches = and-intro (present-runout h hf t ∙ lt-ltb 0 (runout h t) (omega arith)) (lt-ltb (z .near + farther h (z .side) t) (h .zone) (omega arith))

@@ -17,7 +17,8 @@ use Rattle.runs.specs.Level.{Has}
 use Rattle.runs.specs.RunList.{IsRun}
 use Rattle.runs.proofs.RunsOfLaws.{member→run}
 use Rattle.runs.proofs.LevelLaws.{Joined, covered, bridged, level→joined}
-use Rattle.planning.specs.Envelope.{forward, opposite, reached, lengthening, envelope, envelopes, cutToRoad, sideEnvelopes, overhang, noOverhang, greater, overhangs, sideOverhangs, OnRoad, StaysOnRoad}
+use Rattle.planning.specs.Envelope.{forward, opposite, reached, lengthening, envelope, envelopes, cutToRoad, sideEnvelopes, overhang, noOverhang, greater}
+use Rattle.planning.specs.Envelope.{overhangs, sideOverhangs, OnRoad, StaysOnRoad}
 use Rattle.planning.specs.Required.{jobLevel, jobRuns}
 use Rattle.planning.specs.Rows.{AcceptedFits}
 use Rattle.planning.proofs.EnvelopeLaws.{side-lies}
@@ -40,10 +41,12 @@ level-off-road j side fits t off = go (decLe (jobLevel j side t) 0)
     go (no l) = absurd (off (on-road (level→joined (sideEnvelopes j side) (j .header .continuity) t 1 (omega arith) (omega arith))))
 
 -- So its runs lie on the road.
-pub runs-on-road : (j : Job) (side : ℕ) → AcceptedFits j → (r : Stretch) → List·Memᴰ r (jobRuns j side) → (j .header .begin ≤ r .start) × (r .end ≤ j .header .end)
+pub runs-on-road : (j : Job) (side : ℕ) → AcceptedFits j → (r : Stretch) → List·Memᴰ r (jobRuns j side)
+    → (j .header .begin ≤ r .start) × (r .end ≤ j .header .end)
 runs-on-road j side fits r m =
     let first = on (r .start) (omega arith, run .long) (decLe (j .header .begin) (r .start)) (decLe (j .header .end) (r .start)) in
-    let last = on (r .end - 1) (omega (arith, run .long), omega (arith, run .long)) (decLe (j .header .begin) (r .end - 1)) (decLe (j .header .end) (r .end - 1)) in
+    let last =
+    on (r .end - 1) (omega (arith, run .long), omega (arith, run .long)) (decLe (j .header .begin) (r .end - 1)) (decLe (j .header .end) (r .end - 1)) in
     (first .0, omega (arith, last .1))
   where
     run : IsRun (jobLevel j side) r
@@ -85,7 +88,8 @@ module _ (h : Header) (side : ℕ) where
   all-uncut (z ∷ zs) s = go (eqb (z .side) side && reached h z) refl (all-uncut zs (λ x m. s x (List·Memᴰ·tail m)))
     where
       go : (b : Bool) → (eqb (z .side) side && reached h z) ≡ b → map (cutToRoad h) (envelopes h side zs) ≡ envelopes h side zs
-          → map (cutToRoad h) (if b then envelope h z ∷ envelopes h side zs else envelopes h side zs) ≡ (if b then envelope h z ∷ envelopes h side zs else envelopes h side zs)
+          → map (cutToRoad h) (if b then envelope h z ∷ envelopes h side zs else envelopes h side zs)
+          ≡ (if b then envelope h z ∷ envelopes h side zs else envelopes h side zs)
       go true on r =
           let own = uncut h z (and-right (eqb (z .side) side) _ on) (s z (List·Memᴰ·head refl)) in
           λ i. own i ∷ r i
@@ -96,7 +100,8 @@ module _ (h : Header) (side : ℕ) where
   none-overhangs [] s = refl
   none-overhangs (z ∷ zs) s = go (eqb (z .side) side && reached h z) refl (none-overhangs zs (λ x m. s x (List·Memᴰ·tail m)))
     where
-      go : (b : Bool) → (eqb (z .side) side && reached h z) ≡ b → overhangs h side zs ≡ noOverhang → (if b then greater (overhang h z) (overhangs h side zs) else overhangs h side zs) ≡ noOverhang
+      go : (b : Bool) → (eqb (z .side) side && reached h z) ≡ b → overhangs h side zs ≡ noOverhang
+          → (if b then greater (overhang h z) (overhangs h side zs) else overhangs h side zs) ≡ noOverhang
       go true on r = rw (no-overhang h z (and-right (eqb (z .side) side) _ on) (s z (List·Memᴰ·head refl)), r)
       go false off r = r
 

@@ -31,7 +31,8 @@ test-exactly : (h : Header) (i n v : ℕ) (z : Hazard) → (testHazard h i z ≡
 unfolding testHazard standsNear
 test-exactly h i n v z = (λ e. to _ _ refl refl e, λ w. back (w .2) ∙ ap₂ refused (sym (w .0)) (sym (w .1)))
   where
-    to : (r near : Bool) → reached h z ≡ r → ltb (z .near) (h .offset + h .deflection) ≡ near → unless-refuse (not (r && near)) (Row.NearBarrier i) ≡ refused n v → (n ≡ 5) × (v ≡ i) × Near h z
+    to : (r near : Bool) → reached h z ≡ r → ltb (z .near) (h .offset + h .deflection) ≡ near
+        → unless-refuse (not (r && near)) (Row.NearBarrier i) ≡ refused n v → (n ≡ 5) × (v ≡ i) × Near h z
     to true true p q e = ((cc), (cc), record { reach = p; near = ltb-true _ _ q })
     to true false p q e = impossible cc
     to false near p q e = impossible cc
@@ -45,7 +46,8 @@ first-refused : (h : Header) (zs : List Hazard) (i v : ℕ) → FirstNear h zs v
 unfolding testHazards
 first-refused h zs i v f =
     rw (f .split)
-    (hazards-pass h i (f .before) (f .hazard ∷ f .after) (f .passed) ∙ rw (test-exactly h (i + length (f .before)) 5 (i + v) (f .hazard) .1 (refl, ap (λ (k : ℕ). i + k) (f .place), f .fault)))
+    (hazards-pass h i (f .before) (f .hazard ∷ f .after) (f .passed)
+    ∙ rw (test-exactly h (i + length (f .before)) 5 (i + v) (f .hazard) .1 (refl, ap (λ (k : ℕ). i + k) (f .place), f .fault)))
 
 refused-first : (h : Header) (zs : List Hazard) (i n v : ℕ) → testHazards h i zs ≡ refused n v → (n ≡ 5) × ((k : ℕ) × (v ≡ i + k) × FirstNear h zs k)
 unfolding testHazards
@@ -71,11 +73,18 @@ refused-first h (z ∷ zs) i n v e = go (testHazard h i z) refl e (refused-first
     )
 
     go : (a : Answer (Unit {0})) → testHazard h i z ≡ a → (a >>= λ _. testHazards h (i + 1) zs) ≡ refused n v
-        → (testHazards h (i + 1) zs ≡ refused n v → (n ≡ 5) × ((k : ℕ) × (v ≡ i + 1 + k) × FirstNear h zs k)) → (n ≡ 5) × ((k : ℕ) × (v ≡ i + k) × FirstNear h (z ∷ zs) k)
+        → (testHazards h (i + 1) zs ≡ refused n v → (n ≡ 5) × ((k : ℕ) × (v ≡ i + 1 + k) × FirstNear h zs k))
+        → (n ≡ 5) × ((k : ℕ) × (v ≡ i + k) × FirstNear h (z ∷ zs) k)
     go (accepted u) p q rest = later (hazard-passed h i z u p) (rest q)
     go (refused m w) p q rest =
-        let t = test-exactly h i n v z .0 (p ∙ q) in
-        (t .0, (0, omega (arith, t .1), record { before = []; hazard = z; after = zs; split = refl; passed = λ y m. absurd (List·Memᴰ·not-nil m); fault = t .2; place = refl }))
+        let t = test-exactly h i n v z .0 (p ∙ q) in (
+          t .0,
+          (
+            0,
+            omega (arith, t .1),
+            record { before = []; hazard = z; after = zs; split = refl; passed = λ y m. absurd (List·Memᴰ·not-nil m); fault = t .2; place = refl },
+          ),
+        )
 
 -- The job
 
@@ -88,7 +97,8 @@ module _ (s : List ℕ) where
       tests j (accepted u) e = impossible cc
       tests j (refused m w) e = ap₂ refused (cc) (cc)
 
-      to : (a : Answer Job) → readJob s ≡ a → (a >>= λ j. testHazards (j .header) 0 (j .hazards) >>= λ _. accepted j) ≡ refused n v → (readJob s ≡ refused n v) ⊎ ((n ≡ 5) × FirstNearOf s v)
+      to : (a : Answer Job) → readJob s ≡ a → (a >>= λ j. testHazards (j .header) 0 (j .hazards) >>= λ _. accepted j) ≡ refused n v
+          → (readJob s ≡ refused n v) ⊎ ((n ≡ 5) × FirstNearOf s v)
       to (accepted j) p e =
           let (five, (k, at, f)) = refused-first (j .header) (j .hazards) 0 n v (tests j (testHazards (j .header) 0 (j .hazards)) e) in
           inr (five, (j, p, subst (FirstNear (j .header) (j .hazards)) (let w : k ≡ v = omega arith in w) f))

@@ -11,15 +11,18 @@ use Rattle.base.specs.Answer.{accepted, refused}
 use Rattle.job.specs.declared.Header.{Header}
 use Rattle.job.specs.declared.Hazard.{Hazard}
 use Rattle.planning.specs.declared.envelope.CutEnvelope.{CutEnvelope}
-use Rattle.planning.specs.Envelope.{forward, opposite, reached, lengthening, envelope, envelopes, cutToRoad, cutEnvelope, overhang, overhangs, standsNear, testHazard}
+use Rattle.planning.specs.Envelope.{forward, opposite, reached, lengthening, envelope, envelopes, cutToRoad, cutEnvelope, overhang, overhangs, standsNear}
+use Rattle.planning.specs.Envelope.{testHazard}
 use Rattle.planning.specs.Reply.{noCuts, cutsOf, testedHazard}
 use Rattle.planning.proofs.ReachLaws.{reached-near}
 use Rattle.planning.proofs.OverhangLaws.{greater-none}
 
 -- What one hazard gives to a side.
-pub own-cuts : (h : Header) (side : ℕ) (z : Hazard) → z .side ≡ side → reached h z ≡ true → cutsOf h side (z ∷ []) ≡ record { envelopes = cutEnvelope h z ∷ []; overhangs = overhang h z }
+pub own-cuts : (h : Header) (side : ℕ) (z : Hazard) → z .side ≡ side → reached h z ≡ true
+    → cutsOf h side (z ∷ []) ≡ record { envelopes = cutEnvelope h z ∷ []; overhangs = overhang h z }
 unfolding envelopes overhangs cutEnvelope
-own-cuts h side z on r = rw (eq-eqb (z .side) side on, r) (λ i. record { envelopes = cutToRoad h (envelope h z) ∷ []; overhangs = greater-none (overhang h z) i })
+own-cuts h side z on r =
+    rw (eq-eqb (z .side) side on, r) (λ i. record { envelopes = cutToRoad h (envelope h z) ∷ []; overhangs = greater-none (overhang h z) i })
 
 pub no-cuts : (h : Header) (side : ℕ) (z : Hazard) → (eqb (z .side) side && reached h z) ≡ false → cutsOf h side (z ∷ []) ≡ noCuts
 unfolding envelopes overhangs
@@ -33,7 +36,8 @@ module _ (h : Header) (z : Hazard) (side : z .side ≤ 1) where
 
   -- A reached hazard that passes it stands clear of the barrier.
   pub stands-clear : standsNear h z ≡ false → z .near < h .zone → h .offset + h .deflection ≤ z .near
-  stands-clear e l = ltb-false _ _ (let w : ltb (z .near) (h .zone) && ltb (z .near) (h .offset + h .deflection) ≡ false = near-numbers ∙ e in rw (lt-ltb (z .near) (h .zone) l) at w)
+  stands-clear e l = ltb-false _ _ (let w : ltb (z .near) (h .zone) && ltb (z .near) (h .offset + h .deflection) ≡ false = near-numbers ∙ e in
+      rw (lt-ltb (z .near) (h .zone) l) at w)
 
   module _ (asked i : ℕ) where
     -- 5
@@ -48,14 +52,17 @@ module _ (h : Header) (z : Hazard) (side : z .side ≤ 1) where
 
       -- Nobody reaches it, or it stands on the other side.
       pub tested-unreached : h .zone ≤ z .near → accepted noCuts ≡ testedHazard h asked i z
-      tested-unreached l = let e : reached h z ≡ false = rw (reached-near h z side) (le-ltb (z .near) (h .zone) l) in rw (tested-clear, no-cuts h asked z (rw e (and-false (eqb (z .side) asked))))
+      tested-unreached l = let e : reached h z ≡ false = rw (reached-near h z side) (le-ltb (z .near) (h .zone) l) in
+          rw (tested-clear, no-cuts h asked z (rw e (and-false (eqb (z .side) asked))))
 
       pub tested-other : (z .side ≡ asked → ⊥) → accepted noCuts ≡ testedHazard h asked i z
       tested-other off = rw (tested-clear, no-cuts h asked z (rw (ne-eqb (z .side) asked off)))
 
       -- Its envelope, cut.
-      pub tested-envelope : z .near < h .zone → z .side ≡ asked → accepted (record { envelopes = cutEnvelope h z ∷ []; overhangs = overhang h z }) ≡ testedHazard h asked i z
-      tested-envelope l on = let e : reached h z ≡ true = rw (reached-near h z side) (lt-ltb (z .near) (h .zone) l) in rw (tested-clear, own-cuts h asked z on e)
+      pub tested-envelope : z .near < h .zone → z .side ≡ asked
+          → accepted (record { envelopes = cutEnvelope h z ∷ []; overhangs = overhang h z }) ≡ testedHazard h asked i z
+      tested-envelope l on = let e : reached h z ≡ true = rw (reached-near h z side) (lt-ltb (z .near) (h .zone) l) in
+          rw (tested-clear, own-cuts h asked z on e)
 
 -- The cut ends by sums: what hangs over is taken off again.
 module _ (h : Header) (z : Hazard) {before behind early late : ℕ} (p : before ≡ lengthening h z forward) (q : behind ≡ lengthening h z opposite)
@@ -73,7 +80,13 @@ module _ (h : Header) (z : Hazard) {before behind early late : ℕ} (p : before 
   late-is = omega (arith, b, q)
 
   pub cut-by-sums : _≡_ {A = CutEnvelope}
-      (record { stretch = record { start = z .start + early - before; end = z .end + behind - late; level = z .level }; overhangs = record { before = early; after = late } })
+      (record {
+        stretch = record { start = z .start + early - before; end = z .end + behind - late; level = z .level };
+        overhangs = record { before = early; after = late };
+      })
       (record { stretch = cutEnvelope h z; overhangs = overhang h z })
   unfolding cutEnvelope cutToRoad envelope overhang
-  cut-by-sums = λ i. record { stretch = record { start = cut-start i; end = cut-end i; level = z .level }; overhangs = record { before = early-is i; after = late-is i } }
+  cut-by-sums = λ i. record {
+    stretch = record { start = cut-start i; end = cut-end i; level = z .level };
+    overhangs = record { before = early-is i; after = late-is i };
+  }

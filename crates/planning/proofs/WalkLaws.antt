@@ -33,7 +33,8 @@ use Rattle.runs.proofs.KeyLaws.{keyed-none, keyed-more, more-keyed}
 use Rattle.runs.proofs.StoredLaws.{noStretch}
 use Rattle.planning.specs.declared.Overhangs.{Overhangs}
 use Rattle.planning.specs.declared.walk.Taken.{Taken}
-use Rattle.planning.specs.Envelope.{reached, envelope, envelopes, cutToRoad, overhang, noOverhang, greater, overhangs, standsNear, testHazard, testHazards}
+use Rattle.planning.specs.Envelope.{reached, envelope, envelopes, cutToRoad, overhang, noOverhang, greater, overhangs, standsNear, testHazard}
+use Rattle.planning.specs.Envelope.{testHazards}
 use Rattle.planning.specs.Reply.{Cuts, noCuts, cutsOf, _followedBy_, testedHazard, testedEnvelopes}
 use Rattle.planning.specs.Walk.{PlacesFor, nothingTaken, cutsTaken, takenAnswer, Takes, walkedAnswer, Walks}
 use Rattle.planning.proofs.OverhangLaws.{greater-assoc, greater-none, none-greater}
@@ -41,7 +42,10 @@ use Rattle.planning.proofs.OverhangLaws.{greater-assoc, greater-none, n
 -- Hazards, and one behind them
 
 then-assoc : (a b c : Cuts) → (a followedBy (b followedBy c)) ≡ ((a followedBy b) followedBy c)
-then-assoc a b c = λ i. record { envelopes = sym (append-assoc (a .envelopes) (b .envelopes) (c .envelopes)) i; overhangs = greater-assoc (a .overhangs) (b .overhangs) (c .overhangs) i }
+then-assoc a b c = λ i. record {
+  envelopes = sym (append-assoc (a .envelopes) (b .envelopes) (c .envelopes)) i;
+  overhangs = greater-assoc (a .overhangs) (b .overhangs) (c .overhangs) i;
+}
 
 then-none : (a : Cuts) → (a followedBy noCuts) ≡ a
 then-none a = λ i. record { envelopes = append-nil (a .envelopes) i; overhangs = greater-none (a .overhangs) i }
@@ -58,7 +62,10 @@ own-first h side z left = go (eqb (z .side) side && reached h z)
     of b es o = record { envelopes = map (cutToRoad h) (if b then envelope h z ∷ es else es); overhangs = if b then greater (overhang h z) o else o }
 
     go : (b : Bool) → of b (envelopes h side left) (overhangs h side left) ≡ (of b [] noOverhang followedBy cutsOf h side left)
-    go true = λ i. record { envelopes = cutToRoad h (envelope h z) ∷ map (cutToRoad h) (envelopes h side left); overhangs = greater (sym (greater-none (overhang h z)) i) (overhangs h side left) }
+    go true = λ i. record {
+      envelopes = cutToRoad h (envelope h z) ∷ map (cutToRoad h) (envelopes h side left);
+      overhangs = greater (sym (greater-none (overhang h z)) i) (overhangs h side left);
+    }
     go false = sym (none-then (cutsOf h side left))
 
 cuts-last : (h : Header) (side : ℕ) (zs : List Hazard) (z : Hazard) → cutsOf h side (zs ++ z ∷ []) ≡ (cutsOf h side zs followedBy cutsOf h side (z ∷ []))
@@ -70,7 +77,8 @@ cuts-last h side (y ∷ zs) z =
     ∙ then-assoc (cutsOf h side (y ∷ [])) (cutsOf h side zs) (cutsOf h side (z ∷ []))
     ∙ ap (λ (c : Cuts). c followedBy cutsOf h side (z ∷ [])) (sym (own-first h side y zs))
 
-tests-last : (h : Header) (i : ℕ) (zs : List Hazard) (z : Hazard) → testHazards h i (zs ++ z ∷ []) ≡ (testHazards h i zs >>= λ _. testHazard h (i + length zs) z)
+tests-last : (h : Header) (i : ℕ) (zs : List Hazard) (z : Hazard)
+    → testHazards h i (zs ++ z ∷ []) ≡ (testHazards h i zs >>= λ _. testHazard h (i + length zs) z)
 unfolding testHazards
 tests-last h i [] z = go (testHazard h i z) ∙ ap (λ (k : ℕ). testHazard h k z) (omega arith)
   where
@@ -82,7 +90,8 @@ tests-last h i (y ∷ zs) z =
     ∙ sym (bind-assoc (testHazard h i y) (λ _. testHazards h (i + 1) zs) (λ _. testHazard h (i + length (y ∷ zs)) z))
 
 tested-last : (h : Header) (side : ℕ) (zs : List Hazard) (z : Hazard)
-    → testedEnvelopes (record { header = h; hazards = zs ++ z ∷ [] }) side ≡ (testedEnvelopes (record { header = h; hazards = zs }) side >>= λ c. testedHazard h side (length zs) z >>= λ own. accepted (c followedBy own))
+    → testedEnvelopes (record { header = h; hazards = zs ++ z ∷ [] }) side
+    ≡ (testedEnvelopes (record { header = h; hazards = zs }) side >>= λ c. testedHazard h side (length zs) z >>= λ own. accepted (c followedBy own))
 unfolding testedEnvelopes testedHazard
 tested-last h side zs z = rw (tests-last h 0 zs z, zero-add (length zs), cuts-last h side zs z) (go (testHazards h 0 zs) (testHazard h (length zs) z))
   where
@@ -93,20 +102,24 @@ tested-last h side zs z = rw (tests-last h 0 zs z, zero-add (length zs), cuts-la
     go (refused k v) b = refl
 
 -- The envelope that a hazard gives has no higher level than the hazard.
-pub level-given : (h : Header) (side i : ℕ) (z : Hazard) (e : Stretch) (o : Overhangs) → accepted (record { envelopes = e ∷ []; overhangs = o }) ≡ testedHazard h side i z → e .level ≤ z .level
+pub level-given : (h : Header) (side i : ℕ) (z : Hazard) (e : Stretch) (o : Overhangs)
+    → accepted (record { envelopes = e ∷ []; overhangs = o }) ≡ testedHazard h side i z → e .level ≤ z .level
 unfolding testedHazard envelopes cutToRoad envelope
 level-given h side i z e o p = omega (arith, ap first p, go (testHazard h i z) (eqb (z .side) side && reached h z))
   where
     first : Answer Cuts → ℕ
     first a = getD (acceptedOr noCuts a .envelopes) 0 noStretch .level
 
-    go : (test : Answer (Unit {0})) (b : Bool) → first (test >>= λ _. accepted (record { envelopes = map (cutToRoad h) (if b then envelope h z ∷ [] else []); overhangs = overhangs h side (z ∷ []) })) ≤ z .level
+    go : (test : Answer (Unit {0})) (b : Bool)
+        → first (test >>= λ _. accepted (record { envelopes = map (cutToRoad h) (if b then envelope h z ∷ [] else []); overhangs = overhangs h side (z ∷ []) }))
+        ≤ z .level
     go (accepted u) true = omega arith
     go (accepted u) false = omega arith
     go (refused k v) b = omega arith
 
 -- It begins by the last station.
-pub start-given : (h : Header) (side i : ℕ) (z : Hazard) (e : Stretch) (o : Overhangs) → accepted (record { envelopes = e ∷ []; overhangs = o }) ≡ testedHazard h side i z
+pub start-given : (h : Header) (side i : ℕ) (z : Hazard) (e : Stretch) (o : Overhangs)
+    → accepted (record { envelopes = e ∷ []; overhangs = o }) ≡ testedHazard h side i z
     → h .begin ≤ lastStation → z .start ≤ lastStation → e .start ≤ lastStation
 unfolding testedHazard envelopes cutToRoad envelope
 start-given h side i z e o p road own = omega (arith, ap first p, go (testHazard h i z) (eqb (z .side) side && reached h z))
@@ -114,13 +127,16 @@ start-given h side i z e o p road own = omega (arith, ap first p, go (testHazard
     first : Answer Cuts → ℕ
     first a = getD (acceptedOr noCuts a .envelopes) 0 noStretch .start
 
-    go : (test : Answer (Unit {0})) (b : Bool) → first (test >>= λ _. accepted (record { envelopes = map (cutToRoad h) (if b then envelope h z ∷ [] else []); overhangs = overhangs h side (z ∷ []) })) ≤ lastStation
+    go : (test : Answer (Unit {0})) (b : Bool)
+        → first (test >>= λ _. accepted (record { envelopes = map (cutToRoad h) (if b then envelope h z ∷ [] else []); overhangs = overhangs h side (z ∷ []) }))
+        ≤ lastStation
     go (accepted u) true = omega arith
     go (accepted u) false = omega arith
     go (refused k v) b = omega arith
 
 -- It stands on the side.
-pub on-side : (h : Header) (side i : ℕ) (z : Hazard) (e : Stretch) (o : Overhangs) → accepted (record { envelopes = e ∷ []; overhangs = o }) ≡ testedHazard h side i z → z .side ≡ side
+pub on-side : (h : Header) (side i : ℕ) (z : Hazard) (e : Stretch) (o : Overhangs)
+    → accepted (record { envelopes = e ∷ []; overhangs = o }) ≡ testedHazard h side i z → z .side ≡ side
 unfolding testedHazard envelopes
 on-side h side i z e o p = go (testHazard h i z) (eqb (z .side) side) refl (ap number p)
   where
@@ -128,7 +144,10 @@ on-side h side i z e o p = go (testHazard h i z) (eqb (z .side) side) refl (ap n
     number a = length (acceptedOr noCuts a .envelopes)
 
     go : (test : Answer (Unit {0})) (b : Bool) → eqb (z .side) side ≡ b
-        → 1 ≡ number (test >>= λ _. accepted (record { envelopes = map (cutToRoad h) (if b && reached h z then envelope h z ∷ [] else []); overhangs = overhangs h side (z ∷ []) })) → z .side ≡ side
+        → 1 ≡ number (test >>= λ _. accepted (record {
+          envelopes = map (cutToRoad h) (if b && reached h z then envelope h z ∷ [] else []);
+          overhangs = overhangs h side (z ∷ []);
+        })) → z .side ≡ side
     go test true q n = eqb-true (z .side) side q
     go (accepted u) false q n = absurd (omega arith)
     go (refused k v) false q n = absurd (omega arith)
@@ -138,31 +157,38 @@ test-five : (h : Header) (side i : ℕ) (z : Hazard) (x : Refusal) → refusal x
 unfolding testedHazard testHazard
 test-five h side i z x p = go (standsNear h z) p
   where
-    go : (b : Bool) → refusal x ≡ (unless-refuse (not b) (Row.NearBarrier i) >>= λ _. accepted (cutsOf h side (z ∷ []))) → (unless-refuse (not b) (Row.NearBarrier i) >>= λ _. accepted (cutsOf h side (z ∷ []))) ≡ refused 5 i
+    go : (b : Bool) → refusal x ≡ (unless-refuse (not b) (Row.NearBarrier i) >>= λ _. accepted (cutsOf h side (z ∷ [])))
+        → (unless-refuse (not b) (Row.NearBarrier i) >>= λ _. accepted (cutsOf h side (z ∷ []))) ≡ refused 5 i
     go true q = refl
     go false q = impossible cc
 
 -- One hazard more
 
-module _ (h : Header) (side asked index : ℕ) (z : Hazard) (keys ends noted : List ℕ) (t : Taken) (keyed : Keyed keys ends (t .count)) (near : t .near ≤ 256) where
-  pub envelope-taken : (e : Stretch) (o new : Overhangs) → accepted (record { envelopes = e ∷ []; overhangs = o }) ≡ testedHazard h side index z → new ≡ greater (t .overhangs) o
+module _ (h : Header) (side asked index : ℕ) (z : Hazard) (keys ends noted : List ℕ) (t : Taken) (keyed : Keyed keys ends (t .count))
+    (near : t .near ≤ 256) where
+  pub envelope-taken : (e : Stretch) (o new : Overhangs) → accepted (record { envelopes = e ∷ []; overhangs = o }) ≡ testedHazard h side index z
+      → new ≡ greater (t .overhangs) o
       → z .side ≤ 1 → t .count < 256 → t .count < length keys → t .count < length ends → e .level < 8
-      → Takes h side asked index z keys ends noted t (set keys (t .count) (keyOf (e .start) (e .level) (t .count))) (set ends (t .count) (e .end)) noted (record { count = t .count + 1; near = t .near; overhangs = new })
+      → Takes h side asked index z keys ends noted t (set keys (t .count) (keyOf (e .start) (e .level) (t .count))) (set ends (t .count) (e .end)) noted
+      (record { count = t .count + 1; near = t .near; overhangs = new })
   envelope-taken e o new p q low few room end-room small =
       record {
-        answer = rw (sym p, q, keyed-more keys ends (t .count) keyed e few room end-room small) (go (unless-refuse (leb 256 (t .near)) (Row.NearBarrier (t .near))));
+        answer = rw (sym p, q, keyed-more keys ends (t .count) keyed e few room end-room small)
+            (go (unless-refuse (leb 256 (t .near)) (Row.NearBarrier (t .near))));
         keyed = more-keyed keys ends (t .count) keyed e few room end-room small;
         few = omega arith;
         near = near;
         note = λ none high. absurd (omega (arith, on-side h side index z e o p));
       }
     where
-      go : (a : Answer (Unit {0})) → (a >>= λ _. accepted (record { envelopes = keyedEnvelopes keys ends (t .count) ++ e ∷ []; overhangs = greater (t .overhangs) o }))
+      go : (a : Answer (Unit {0})) → (a >>= λ _. accepted
+          (record { envelopes = keyedEnvelopes keys ends (t .count) ++ e ∷ []; overhangs = greater (t .overhangs) o }))
           ≡ ((a >>= λ _. accepted (cutsTaken keys ends t)) >>= λ c. accepted (c followedBy record { envelopes = e ∷ []; overhangs = o }))
       go (accepted u) = refl
       go (refused k v) = refl
 
-  pub none-taken : (noted′ : List ℕ) → accepted noCuts ≡ testedHazard h side index z → (2 ≤ side → hazardOf noted′ ≡ (if eqb index asked then z else hazardOf noted))
+  pub none-taken : (noted′ : List ℕ) → accepted noCuts ≡ testedHazard h side index z
+      → (2 ≤ side → hazardOf noted′ ≡ (if eqb index asked then z else hazardOf noted))
       → Takes h side asked index z keys ends noted t keys ends noted′ t
   none-taken noted′ p noting =
       record {
@@ -187,7 +213,8 @@ module _ (h : Header) (side asked index : ℕ) (z : Hazard) (keys ends noted : L
       note = λ none high. absurd (omega arith);
     }
 
-    pub five-first : 256 ≤ t .near → index < 256 → Takes h side asked index z keys ends noted t keys ends noted (record { count = t .count; near = index; overhangs = t .overhangs })
+    pub five-first : 256 ≤ t .near → index < 256
+        → Takes h side asked index z keys ends noted t keys ends noted (record { count = t .count; near = index; overhangs = t .overhangs })
     five-first l i = record {
       answer = simp (le-leb 256 (t .near) l, lt-leb 256 index i, test-five h side index z x p);
       keyed = keyed;
@@ -197,7 +224,8 @@ module _ (h : Header) (side asked index : ℕ) (z : Hazard) (keys ends noted : L
     }
 
 -- A hazard's six numbers, written one by one.
-pub six-noted : (l : List ℕ) (z : Hazard) → length l ≡ 6 → hazardOf (set (set (set (set (set (set l 0 (z .side)) 1 (z .start)) 2 (z .end)) 3 (z .near)) 4 (z .far)) 5 (z .level)) ≡ z
+pub six-noted : (l : List ℕ) (z : Hazard) → length l ≡ 6
+    → hazardOf (set (set (set (set (set (set l 0 (z .side)) 1 (z .start)) 2 (z .end)) 3 (z .near)) 4 (z .far)) 5 (z .level)) ≡ z
 six-noted [] z e = absurd (omega arith)
 six-noted (a ∷ []) z e = absurd (omega arith)
 six-noted (a ∷ b ∷ []) z e = absurd (omega arith)
@@ -216,7 +244,8 @@ last-other (y ∷ l) x d zero n = refl
 last-other (y ∷ l) x d (suc k) n = last-other l x d k (λ e. n (ap suc e))
 
 -- Behind the first i hazards: what was taken of them, and those left.
-pub record SoFar (h : Header) (given : List Hazard) (side asked : ℕ) (s : List ℕ) (first : ℕ) (noted₀ keys ends noted : List ℕ) (t : Taken) (at i : ℕ) : Type 0 where
+pub record SoFar (h : Header) (given : List Hazard) (side asked : ℕ) (s : List ℕ) (first : ℕ) (noted₀ keys ends noted : List ℕ) (t : Taken) (at i : ℕ) : Type
+    0 where
   pub got : List Hazard
   pub left : HazardsLeft h given s first got at i
   pub answer : takenAnswer keys ends t ≡ testedEnvelopes (record { header = h; hazards = got }) side
@@ -230,7 +259,8 @@ pub none-keyed : (keys ends : List ℕ) → Keyed keys ends 0
 none-keyed keys ends = record { few = omega arith; keys-there = omega arith; ends-there = omega arith; own = λ i l. absurd (omega arith) }
 
 module _ (h : Header) (given : List Hazard) (side asked : ℕ) (s : List ℕ) (first : ℕ) (noted₀ : List ℕ) where
-  pub walk-begun : (keys ends : List ℕ) → PlacesFor h side asked keys ends noted₀ → SoFar h given side asked s first noted₀ keys ends noted₀ nothingTaken first 0
+  pub walk-begun : (keys ends : List ℕ) → PlacesFor h side asked keys ends noted₀
+      → SoFar h given side asked s first noted₀ keys ends noted₀ nothingTaken first 0
   unfolding testedEnvelopes testHazards envelopes overhangs
   walk-begun keys ends places = record {
     got = [];
@@ -247,7 +277,8 @@ module _ (h : Header) (given : List Hazard) (side asked : ℕ) (s : List ℕ) (f
     -- The next hazard.
     module _ (more : i < h .count) (a : Answer HazardReading) (read : a ≡ nextHazard h given i s at) where
       pub walk-next : {z : Hazard} {n : ℕ} {keys′ ends′ noted′ : List ℕ} {t′ : Taken} → a ≡ accepted (record { hazard = z; next = n })
-          → Takes h side asked i z keys ends noted t keys′ ends′ noted′ t′ → length keys′ ≡ length keys → length ends′ ≡ length ends → length noted′ ≡ length noted
+          → Takes h side asked i z keys ends noted t keys′ ends′ noted′ t′ → length keys′ ≡ length keys → length ends′ ≡ length ends
+          → length noted′ ≡ length noted
           → SoFar h given side asked s first noted₀ keys′ ends′ noted′ t′ n (i + 1)
       walk-next {z} {n} {keys′} {ends′} {noted′} {t′} e takes k l m = record {
         got = so .got ++ z ∷ [];
@@ -264,20 +295,25 @@ module _ (h : Header) (given : List Hazard) (side asked : ℕ) (s : List ℕ) (f
         note = λ none high. let w = takes .note none high in w .1 ∙ noting (so .note (w .0) high) (ℕ-discrete i asked);
       }
         where
-          noting : hazardOf noted ≡ getD (so .got) asked (hazardOf noted₀) → Dec (i ≡ asked) → (if eqb i asked then z else hazardOf noted) ≡ getD (so .got ++ z ∷ []) asked (hazardOf noted₀)
+          noting : hazardOf noted ≡ getD (so .got) asked (hazardOf noted₀) → Dec (i ≡ asked)
+              → (if eqb i asked then z else hazardOf noted) ≡ getD (so .got ++ z ∷ []) asked (hazardOf noted₀)
           noting old (yes here) = simp (eq-eqb i asked here) (sym (getD-at (so .got) z [] (hazardOf noted₀) asked (so .left .number ∙ here)))
-          noting old (no other) = simp (ne-eqb i asked other) (old ∙ sym (last-other (so .got) z (hazardOf noted₀) asked (λ q. other (omega (arith, so .left .number)))))
+          noting old (no other) =
+              simp (ne-eqb i asked other) (old ∙ sym (last-other (so .got) z (hazardOf noted₀) asked (λ q. other (omega (arith, so .left .number)))))
 
-      pub walk-refused : (x : Refusal) → a ≡ refusal x → Walks h given side asked s first noted₀ keys ends noted (record { outcome = Refused x; taken = nothingTaken })
+      pub walk-refused : (x : Refusal) → a ≡ refusal x
+          → Walks h given side asked s first noted₀ keys ends noted (record { outcome = Refused x; taken = nothingTaken })
       walk-refused x e = record { answer = rw (next-refused (so .left) more a read e); keyed = none-keyed keys ends; note = λ done. impossible cc }
 
     -- All hazards were had.
     module _ (done : h .count ≤ i) where
-      pub walk-over : at < length s → Walks h given side asked s first noted₀ keys ends noted (record { outcome = Refused (Row.LeftOver at); taken = nothingTaken })
+      pub walk-over : at < length s → Walks h given side asked s first noted₀ keys ends noted
+          (record { outcome = Refused (Row.LeftOver at); taken = nothingTaken })
       walk-over over = record { answer = rw (left-over (so .left) done over); keyed = none-keyed keys ends; note = λ d. impossible cc }
 
       module _ (end : length s ≤ at) where
-        pub walk-near : t .near < 256 → Walks h given side asked s first noted₀ keys ends noted (record { outcome = Refused (Row.NearBarrier (t .near)); taken = nothingTaken })
+        pub walk-near : t .near < 256 → Walks h given side asked s first noted₀ keys ends noted
+            (record { outcome = Refused (Row.NearBarrier (t .near)); taken = nothingTaken })
         walk-near l = record {
           answer = rw (all-had (so .left) done end) (simp (lt-leb 256 (t .near) l) at (so .answer));
           keyed = none-keyed keys ends;

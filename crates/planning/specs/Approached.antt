@@ -1,4 +1,5 @@
--- One hazard of an accepted job, for the calls that ask about its adjacent approach (document 02, requests 9 and 10), and by its index for all that ask about one.
+-- One hazard of an accepted job, for the calls that ask about its adjacent approach (document 02, requests 9 and 10), and by its index for all that ask about
+-- one.
 -- Assumes nothing.
 use Prim.Native.Nat.{ℕ, _+_, _≤_, _<_}
 use mathlib.Core.Bool.{Bool}

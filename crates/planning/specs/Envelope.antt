@@ -26,7 +26,8 @@ abbrev pub present : Header → Traffic → Bool
 present h forward = true
 present h opposite = ltb 0 (h .opposite)
 
--- "The adjacent traffic of the right side is forward; of the left side opposite. With LO = 0, forward is adjacent to both sides and there is no far traffic." (Opposite traffic is then not present, so nothing asks on which side it would be.)
+-- "The adjacent traffic of the right side is forward; of the left side opposite. With LO = 0, forward is adjacent to both sides and there is no far traffic."
+-- (Opposite traffic is then not present, so nothing asks on which side it would be.)
 abbrev pub adjacent : Header → (side : ℕ) → Traffic → Bool
 adjacent h side forward = eqb side 0 || eqb (h .opposite) 0
 adjacent h side opposite = eqb side 1

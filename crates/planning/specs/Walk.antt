@@ -49,7 +49,8 @@ abbrev pub takenAnswer : (keys ends : List ℕ) → Taken → Answer Cuts
 takenAnswer keys ends t = unless-refuse (leb 256 (t .near)) (Row.NearBarrier (t .near)) >>= λ _. accepted (cutsTaken keys ends t)
 
 -- One hazard more: its test, and what it gives to the side; or it is noted.
-pub record Takes (h : Header) (side asked index : ℕ) (z : Hazard) (keys ends noted : List ℕ) (t : Taken) (keys′ ends′ noted′ : List ℕ) (t′ : Taken) : Type 0 where
+pub record Takes (h : Header) (side asked index : ℕ) (z : Hazard) (keys ends noted : List ℕ) (t : Taken) (keys′ ends′ noted′ : List ℕ) (t′ : Taken) : Type
+    0 where
   pub answer : takenAnswer keys′ ends′ t′ ≡ (takenAnswer keys ends t >>= λ c. testedHazard h side index z >>= λ own. accepted (c followedBy own))
   pub keyed : Keyed keys′ ends′ (t′ .count)
   pub few : t′ .count ≤ t .count + 1
@@ -63,4 +64,5 @@ walkedAnswer keys ends r = outcome (r .outcome) (cutsTaken keys ends (r .taken))
 pub record Walks (h : Header) (given : List Hazard) (side asked : ℕ) (s : List ℕ) (first : ℕ) (noted keys′ ends′ noted′ : List ℕ) (r : Walked) : Type 0 where
   pub answer : walkedAnswer keys′ ends′ r ≡ (hazardsFrom h given (h .count) [] s first >>= λ j. testedEnvelopes j side)
   pub keyed : Keyed keys′ ends′ (r .taken .count)
-  pub note : r .outcome ≡ Done → 2 ≤ side → (j : Job) → hazardsFrom h given (h .count) [] s first ≡ accepted j → hazardOf noted′ ≡ getD (j .hazards) asked (hazardOf noted)
+  pub note : r .outcome ≡ Done → 2 ≤ side → (j : Job) → hazardsFrom h given (h .count) [] s first ≡ accepted j
+      → hazardOf noted′ ≡ getD (j .hazards) asked (hazardOf noted)

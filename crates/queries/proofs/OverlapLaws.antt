@@ -22,9 +22,11 @@ use Rattle.queries.specs.Quantity.{millimetres}
 use Rattle.queries.proofs.StepLaws.{Rest, walk-start, walk-passed, walk-over}
 
 -- A quantity is the sum of the overlaps of the runs of that level.
-count-overlaps : (e u : ℕ) (rs : List Stretch) → Rising e u rs → (v : ℕ) → 1 ≤ v → (p n : ℕ) → countFrom (λ (t : ℕ). eqb (shownLevel rs t) v) p n ≡ overlaps rs v p (p + n)
+count-overlaps : (e u : ℕ) (rs : List Stretch) → Rising e u rs → (v : ℕ) → 1 ≤ v → (p n : ℕ)
+    → countFrom (λ (t : ℕ). eqb (shownLevel rs t) v) p n ≡ overlaps rs v p (p + n)
 unfolding overlap overlaps
-count-overlaps e u [] up v h p n = count-none (λ (t : ℕ). eqb (shownLevel [] t) v) (λ t. ne-eqb (shownLevel [] t) v (λ q. absurd (omega (arith, shown-nothing t)))) p n
+count-overlaps e u [] up v h p n =
+    count-none (λ (t : ℕ). eqb (shownLevel [] t) v) (λ t. ne-eqb (shownLevel [] t) v (λ q. absurd (omega (arith, shown-nothing t)))) p n
 count-overlaps e u (r ∷ rs) up v h p n =
     count-run e u r rs up (λ x. eqb x v) (ne-eqb 0 v (λ q. omega arith)) p n
     ∙ ap (λ (m : ℕ). overlapAt r v p (p + n) + m) (count-overlaps (r .end) (r .level) rs (up .1) v h p n)
@@ -50,7 +52,8 @@ module _ (s : List ℕ) (v p q : ℕ) where
   pub summed-start : (sum : ℕ) (n : Reading) → sum ≡ 0 → headAt s ≡ accepted n → Summed sum (n .value) 0 0 (n .next)
   summed-start sum n none h = walk-start s n h (λ rs. overlaps rs v p q) (λ rs. sum + overlaps rs v p q) (λ rs e. omega arith)
 
-  pub summed-turn : (sum sum′ : ℕ) {k e last at : ℕ} (r : ReadRun) → Summed sum k e last at → 0 < k → recordAt e last s at ≡ accepted r → sum′ ≡ sum + overlapAt (r .run) v p q
+  pub summed-turn : (sum sum′ : ℕ) {k e last at : ℕ} (r : ReadRun) → Summed sum k e last at → 0 < k → recordAt e last s at ≡ accepted r
+      → sum′ ≡ sum + overlapAt (r .run) v p q
       → Summed sum′ (k - 1) (r .run .end) (r .run .level) (r .next)
   unfolding overlaps
   summed-turn sum sum′ r w some read m = walk-passed w r (λ rs. sum′ + overlaps rs v p q) some read (λ rs. omega arith)

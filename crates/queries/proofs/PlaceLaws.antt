@@ -49,7 +49,8 @@ place-start s t n b h =
     (λ rs e. rw (so-far-none 0 0 0 t (omega arith)) (ap (λ (i : ℕ). findRecord 0 i rs t) (head-length s n h rs b e)))
 
 -- A turn of the walk: a run that starts behind the station does not have it, nor does any that ended before this one starts.
-module _ (s : List ℕ) (t from to reached k e v at : ℕ) (p : ReadRun) (b : Bytes s) (some : 0 < k) (r : recordAt e v s at ≡ accepted p) (w : Sought s t from to reached k e v at) where
+module _ (s : List ℕ) (t from to reached k e v at : ℕ) (p : ReadRun) (b : Bytes s) (some : 0 < k) (r : recordAt e v s at ≡ accepted p)
+    (w : Sought s t from to reached k e v at) where
   abbrev pub Turn : (from′ to′ reached′ : ℕ) → Type 0
   Turn from′ to′ reached′ = Sought s t from′ to′ reached′ (k - 1) (p .run .end) (p .run .level) (p .next)
 
@@ -57,7 +58,8 @@ module _ (s : List ℕ) (t from to reached k e v at : ℕ) (p : ReadRun) (b : By
   next = record-stands s b e v at p (or-ten _ p r) .next
 
   turned : (from′ to′ reached′ : ℕ)
-      → ((rs : List Stretch) → finding from to reached e at t (p .run ∷ rs) ≡ orLater (soFar from′ to′ reached′ t) (findRecord (p .run .end) (at + length (writeRecord e (p .run))) rs t))
+      → ((rs : List Stretch) → finding from to reached e at t (p .run ∷ rs)
+      ≡ orLater (soFar from′ to′ reached′ t) (findRecord (p .run .end) (at + length (writeRecord e (p .run))) rs t))
       → Turn from′ to′ reached′
   turned from′ to′ reached′ same = walk-passed w p (finding from′ to′ reached′ (p .run .end) (p .next) t) some r
       (λ rs. same rs ∙ ap (λ (i : ℕ). orLater (soFar from′ to′ reached′ t) (findRecord (p .run .end) i rs t)) (sym next))
@@ -79,7 +81,8 @@ module _ (s : List ℕ) (t from to reached k e v at : ℕ) (p : ReadRun) (b : By
       go rs false = refl
 
 -- Behind the last record: what was found.
-pub place-over : (s : List ℕ) (t from to reached k e v at : ℕ) → Sought s t from to reached k e v at → k ≡ 0 → at ≡ length s → accepted (soFar from to reached t) ≡ placeIn s t
+pub place-over : (s : List ℕ) (t from to reached k e v at : ℕ) → Sought s t from to reached k e v at → k ≡ 0 → at ≡ length s
+    → accepted (soFar from to reached t) ≡ placeIn s t
 unfolding placeIn findRecord
 place-over s t from to reached k e v at w none over = go (soFar from to reached t) ∙ walk-over w none over
   where
@@ -116,12 +119,15 @@ find-within e v i (r ∷ rs) t p up q = go (leb (r .start) t && ltb t (r .end)) 
     some : 0 < length (writeRecord e r)
     some = simp length-append (omega (arith, small-length (r .level) (omega (arith, up .0 .top))))
 
-    go : (b : Bool) → (if b then found (record { at = i; len = length (writeRecord e r) }) else findRecord (r .end) (i + length (writeRecord e r)) rs t) ≡ found p
-        → (findRecord (r .end) (i + length (writeRecord e r)) rs t ≡ found p → Within (i + length (writeRecord e r)) (i + length (writeRecord e r) + length (writeRecords (r .end) rs)) p)
+    go : (b : Bool) → (if b then found (record { at = i; len = length (writeRecord e r) }) else findRecord (r .end) (i + length (writeRecord e r)) rs t)
+        ≡ found p
+        → (findRecord (r .end) (i + length (writeRecord e r)) rs t ≡ found p
+        → Within (i + length (writeRecord e r)) (i + length (writeRecord e r) + length (writeRecords (r .end) rs)) p)
         → Within i (i + length (writeRecord e r ++ writeRecords (r .end) rs)) p
     go true c later =
         let same : record { at = i; len = length (writeRecord e r) } ≡ p = cc in
-        subst (Within i (i + length (writeRecord e r ++ writeRecords (r .end) rs))) same (record { some = some; after = omega arith; ends = omega (arith, all) })
+        subst (Within i (i + length (writeRecord e r ++ writeRecords (r .end) rs))) same
+        (record { some = some; after = omega arith; ends = omega (arith, all) })
     go false c later = let w = later c in record { some = w .some; after = omega (arith, w .after); ends = omega (arith, all, w .ends) }
 
 pub place-within : (s : List ℕ) (t : ℕ) (p : Part) → Bytes s → placeIn s t ≡ accepted (found p) → Within 0 (length s) p
@@ -135,9 +141,11 @@ place-within s t p b e =
     record { some = i .some; after = omega arith; ends = omega (arith, i .ends, ap length (w .1), length-append (writeNumber (length rs)) (writeRecords 0 rs)) }
 
 -- The place that lookup finds is within the schedule of the side asked for.
-pub lookup-within : (right left : List ℕ) (side t : ℕ) (p : Part) → Bytes right → Bytes left → lookup right left side t ≡ accepted (found p) → Within 0 (length (asked side right left)) p
+pub lookup-within : (right left : List ℕ) (side t : ℕ) (p : Part) → Bytes right → Bytes left → lookup right left side t ≡ accepted (found p)
+    → Within 0 (length (asked side right left)) p
 unfolding lookup
-lookup-within right left side t p br bl e = place-within (asked side right left) t p (go (eqb side 1)) (bound (unless-refuse (leb side 1) Row.Argument) _ (found p) e .rest)
+lookup-within right left side t p br bl e =
+    place-within (asked side right left) t p (go (eqb side 1)) (bound (unless-refuse (leb side 1) Row.Argument) _ (found p) e .rest)
   where
     go : (b : Bool) → Bytes (if b then left else right)
     go true = bl

@@ -44,7 +44,8 @@ pub quantity-sum : (s : List ℕ) (v p q : ℕ) → Ranged v p q → quantity s 
 unfolding quantity overlapSum
 quantity-sum s v p q h =
     rw (ranged v p q .1 h)
-    (bind-same (readSchedule s) (λ rs. accepted (millimetres (shownLevel rs) v p q)) (λ rs. accepted (overlaps rs v p q)) (λ rs e. ap accepted (millimetres-overlaps rs (read-rising s rs e) v p q (h .0) (h .2))))
+    (bind-same (readSchedule s) (λ rs. accepted (millimetres (shownLevel rs) v p q)) (λ rs. accepted (overlaps rs v p q))
+    (λ rs e. ap accepted (millimetres-overlaps rs (read-rising s rs e) v p q (h .0) (h .2))))
 
 pub quantity-argument : (s : List ℕ) (v p q : ℕ) → (Ranged v p q → ⊥) → quantity s v p q ≡ refused 8 0
 unfolding quantity

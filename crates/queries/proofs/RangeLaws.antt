@@ -81,7 +81,10 @@ whole-are [] a = refl
 whole-are (p ∷ []) a = absurd (omega (arith, a .pairs))
 whole-are (p ∷ q ∷ l) a =
     and-intro (le-leb p q (a .ordered 0 (omega arith)))
-    (whole-are l (record { pairs = omega (arith, a .pairs); ordered = λ i h. subst (λ (z : Range). z .p ≤ z .q) (shifted p q l i) (a .ordered (suc i) (omega arith)) }))
+    (whole-are l (record {
+      pairs = omega (arith, a .pairs);
+      ordered = λ i h. subst (λ (z : Range). z .p ≤ z .q) (shifted p q l i) (a .ordered (suc i) (omega arith));
+    }))
 
 pub whole-ranges : (l : List ℕ) → (areRanges l ≡ true) ↔ WholeRanges l
 whole-ranges l = (are-whole l, whole-are l)
@@ -89,7 +92,8 @@ whole-ranges l = (are-whole l, whole-are l)
 -- Places: the quantities, and zeros behind them.
 module _ (l : List ℕ) where
   pub places-count : length l ≤ mostRanges → length (quantityPlaces l) ≡ mostRanges
-  places-count few = length-append l (replicate (mostRanges - length l) 0) ∙ ap (λ (k : ℕ). length l + k) (length-replicate (mostRanges - length l) 0) ∙ omega arith
+  places-count few =
+      length-append l (replicate (mostRanges - length l) 0) ∙ ap (λ (k : ℕ). length l + k) (length-replicate (mostRanges - length l) 0) ∙ omega arith
 
   pub places-in : (i : ℕ) → i < length l → getD (quantityPlaces l) i 0 ≡ getD l i 0
   places-in i h = List·getD-append l (replicate (mostRanges - length l) 0) 0 i h
@@ -97,4 +101,5 @@ module _ (l : List ℕ) where
   pub places-behind : (i : ℕ) → length l ≤ i → getD (quantityPlaces l) i 0 ≡ 0
   places-behind i h =
       let back : i ≡ length l + (i - length l) = omega arith in
-      ap (λ (k : ℕ). getD (quantityPlaces l) k 0) back ∙ getD-append-add l (replicate (mostRanges - length l) 0) (i - length l) 0 ∙ zeros (mostRanges - length l) (i - length l)
+      ap (λ (k : ℕ). getD (quantityPlaces l) k 0) back ∙ getD-append-add l (replicate (mostRanges - length l) 0) (i - length l) 0
+      ∙ zeros (mostRanges - length l) (i - length l)

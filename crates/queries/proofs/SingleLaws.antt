@@ -23,8 +23,10 @@ pub record Walking (s : List ℕ) (level p q station left at end last sum from t
   pub near : reached ≤ end
   pub ends : end ≤ lastStation
 
-pub walking-start : (s : List ℕ) (level p q station : ℕ) (n : Reading) → Bytes s → headAt s ≡ accepted n → Walking s level p q station (n .value) (n .next) 0 0 0 0 0 0
-walking-start s level p q station n b h = record { summed = summed-start s level p q 0 n refl h; fits = omega arith; sought = place-start s station n b h; near = omega arith; ends = omega arith }
+pub walking-start : (s : List ℕ) (level p q station : ℕ) (n : Reading) → Bytes s → headAt s ≡ accepted n
+    → Walking s level p q station (n .value) (n .next) 0 0 0 0 0 0
+walking-start s level p q station n b h =
+    record { summed = summed-start s level p q 0 n refl h; fits = omega arith; sought = place-start s station n b h; near = omega arith; ends = omega arith }
 
 module _ (s : List ℕ) (level p q station left at end last sum from to reached : ℕ) (w : Walking s level p q station left at end last sum from to reached)
     (b : Bytes s) (r : ReadRun) (some : 0 < left) (read : recordAt end last s at ≡ accepted r) where
@@ -32,7 +34,8 @@ module _ (s : List ℕ) (level p q station left at end last sum from to reached 
   After sum′ from′ to′ reached′ = Walking s level p q station (left - 1) (r .next) (r .run .end) (r .run .level) sum′ from′ to′ reached′
 
   -- The sum grows by the run's overlap, wherever the place is.
-  grows : (sum′ from′ to′ reached′ : ℕ) → sum′ ≡ sum + overlapAt (r .run) level p q → Sought s station from′ to′ reached′ (left - 1) (r .run .end) (r .run .level) (r .next) → reached′ ≤ r .run .end
+  grows : (sum′ from′ to′ reached′ : ℕ) → sum′ ≡ sum + overlapAt (r .run) level p q
+      → Sought s station from′ to′ reached′ (left - 1) (r .run .end) (r .run .level) (r .next) → reached′ ≤ r .run .end
       → After sum′ from′ to′ reached′
   grows sum′ from′ to′ reached′ added sought near =
       let next = record-follows end last s at r read in
@@ -47,11 +50,14 @@ module _ (s : List ℕ) (level p q station left at end last sum from to reached 
   -- The place is this record's where its run starts at the station or before it, else what it was.
   abbrev pub Chosen : (from′ to′ reached′ : ℕ) → Type 0
   Chosen from′ to′ reached′ =
-      ((r .run .start ≤ station) × (from′ ≡ at) × (to′ ≡ r .next) × (reached′ ≡ r .run .end)) ⊎ ((station < r .run .start) × (from′ ≡ from) × (to′ ≡ to) × (reached′ ≡ reached))
+      ((r .run .start ≤ station) × (from′ ≡ at) × (to′ ≡ r .next) × (reached′ ≡ r .run .end))
+      ⊎ ((station < r .run .start) × (from′ ≡ from) × (to′ ≡ to) × (reached′ ≡ reached))
 
   pub walking-turn : (sum′ from′ to′ reached′ : ℕ) → sum′ ≡ sum + overlapAt (r .run) level p q → Chosen from′ to′ reached′ → After sum′ from′ to′ reached′
   walking-turn sum′ from′ to′ reached′ added (inl c) =
-      rw (c .1, c .2, c .3) (grows sum′ at (r .next) (r .run .end) added (passed-here s station from to reached left end last at r b some read (w .sought) (w .near) (c .0)) (omega arith))
+      rw (c .1, c .2, c .3) (grows sum′ at (r .next) (r .run .end) added
+      (passed-here s station from to reached left end last at r b some read (w .sought) (w .near) (c .0)) (omega arith))
   walking-turn sum′ from′ to′ reached′ added (inr c) =
       let next = record-follows end last s at r read in
-      rw (c .1, c .2, c .3) (grows sum′ from to reached added (passed-by s station from to reached left end last at r b some read (w .sought) (c .0)) (omega (arith, w .near, next .after, next .long)))
+      rw (c .1, c .2, c .3) (grows sum′ from to reached added (passed-by s station from to reached left end last at r b some read (w .sought) (c .0))
+      (omega (arith, w .near, next .after, next .long)))

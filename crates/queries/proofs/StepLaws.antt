@@ -44,9 +44,13 @@ module _ (s : List ℕ) where
   head-refused h = then-ten (readHead s) (λ n. readRecords (n .value) 0 0 s (n .next)) h
 
   module _ (n : Reading) (h : headAt s ≡ accepted n) where
-    pub walk-start : {A : Type 0} (f g : List Stretch → A) → ((rs : List Stretch) → readSchedule s ≡ accepted rs → f rs ≡ g rs) → Rest s f (n .value) 0 0 (n .next) g
+    pub walk-start : {A : Type 0} (f g : List Stretch → A) → ((rs : List Stretch) → readSchedule s ≡ accepted rs → f rs ≡ g rs)
+        → Rest s f (n .value) 0 0 (n .next) g
     unfolding readSchedule
-    walk-start f g same = record { same = bind-same (readSchedule s) (λ rs. accepted (f rs)) (λ rs. accepted (g rs)) (λ rs e. ap accepted (same rs e)) ∙ rw (or-ten (readHead s) n h) }
+    walk-start f g same =
+        record {
+          same = bind-same (readSchedule s) (λ rs. accepted (f rs)) (λ rs. accepted (g rs)) (λ rs e. ap accepted (same rs e)) ∙ rw (or-ten (readHead s) n h);
+        }
 
     -- The index behind the head is that behind the writing of the run count.
     pub head-length : (rs : List Stretch) → Bytes s → readSchedule s ≡ accepted rs → length (writeNumber (length rs)) ≡ n .next
@@ -61,7 +65,8 @@ module _ (s : List ℕ) where
 pub record-follows : (e v : ℕ) (s : List ℕ) (at : ℕ) (p : ReadRun) → recordAt e v s at ≡ accepted p → MayFollow e v (p .run)
 record-follows e v s at p r = follows e v (p .run) (record-read s e v at p (or-ten _ p r) .may)
 
-walk-step : (k e v : ℕ) (s : List ℕ) (at : ℕ) → 0 < k → readRecords k e v s at ≡ (readRecord e v s at >>= λ p. readRecords (k - 1) (p .run .end) (p .run .level) s (p .next) >>= λ rs. accepted (p .run ∷ rs))
+walk-step : (k e v : ℕ) (s : List ℕ) (at : ℕ) → 0 < k
+    → readRecords k e v s at ≡ (readRecord e v s at >>= λ p. readRecords (k - 1) (p .run .end) (p .run .level) s (p .next) >>= λ rs. accepted (p .run ∷ rs))
 unfolding readRecords
 walk-step zero e v s at h = absurd (omega arith)
 walk-step (suc k) e v s at h = let one : suc k - 1 ≡ k = omega arith in rw one
@@ -70,7 +75,10 @@ module _ {A : Type 0} {s : List ℕ} {f g : List Stretch → A} {k e v at : ℕ}
   -- The run of the record passed counts, and then those behind it.
   pub walk-passed : (p : ReadRun) (g′ : List Stretch → A) → 0 < k → recordAt e v s at ≡ accepted p → ((rs : List Stretch) → g (p .run ∷ rs) ≡ g′ rs)
       → Rest s f (k - 1) (p .run .end) (p .run .level) (p .next) g′
-  walk-passed p g′ some r same = record { same = w .same ∙ rw (walk-step k e v s at some, or-ten (readRecord e v s at) p r) (go (readRecords (k - 1) (p .run .end) (p .run .level) s (p .next))) }
+  walk-passed p g′ some r same =
+      record {
+        same = w .same ∙ rw (walk-step k e v s at some, or-ten (readRecord e v s at) p r) (go (readRecords (k - 1) (p .run .end) (p .run .level) s (p .next)));
+      }
     where
       go : (rest : Answer (List Stretch)) → thenRuns (orTen (rest >>= λ rs. accepted (p .run ∷ rs))) g ≡ thenRuns (orTen rest) g′
       go (accepted rs) = ap accepted (same rs)
@@ -78,7 +86,8 @@ module _ {A : Type 0} {s : List ℕ} {f g : List Stretch → A} {k e v at : ℕ}
 
   pub walk-refused : 0 < k → recordAt e v s at ≡ refused 10 0 → refused 10 0 ≡ thenRuns (readSchedule s) f
   walk-refused some r =
-      sym (w .same ∙ ap (λ (a : Answer (List Stretch)). thenRuns a g) (ap (λ (a : Answer (List Stretch)). orTen a) (walk-step k e v s at some) ∙ then-ten (readRecord e v s at) _ r))
+      sym (w .same ∙ ap (λ (a : Answer (List Stretch)). thenRuns a g)
+      (ap (λ (a : Answer (List Stretch)). orTen a) (walk-step k e v s at some) ∙ then-ten (readRecord e v s at) _ r))
 
   -- The end
 

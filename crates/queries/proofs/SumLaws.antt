@@ -19,7 +19,8 @@ use Rattle.queries.specs.Walk.{headAt, recordAt, overlap, overlapAt, ove
 use Rattle.queries.specs.Ranges.{mostRanges, rangesOf, quantities, quantityPlaces, quantitiesReplied, rangeAt, AllRanged}
 use Rattle.queries.specs.Sums.{Sums, Grown, runCount, Tallied}
 use Rattle.queries.specs.declared.quantities.Tally.the-variants as Tally
-use Rattle.queries.proofs.StepLaws.{thenRuns, runs-refused, Rest, head-refused, walk-start, record-follows, walk-passed, walk-refused, walk-over, walk-left-over}
+use Rattle.queries.proofs.StepLaws.{thenRuns, runs-refused, Rest, head-refused, walk-start, record-follows, walk-passed, walk-refused, walk-over}
+use Rattle.queries.proofs.StepLaws.{walk-left-over}
 use Rattle.queries.proofs.OverlapLaws.{millimetres-overlaps, overlap-most, Summed, summed-start, summed-turn, summed-over}
 use Rattle.queries.proofs.QuantityLaws.{read-rising}
 use Rattle.queries.proofs.RangeLaws.{ranges-count, places-count, places-in, places-behind}
@@ -35,7 +36,8 @@ pub record Partly (share : ℕ → ℕ) (i : ℕ) (old new : List ℕ) : Type 0 
 pub partly-none : (share : ℕ → ℕ) (old : List ℕ) → Partly share 0 old old
 partly-none share old = record { done = λ k h. absurd (omega arith); left = λ k h. refl }
 
-pub partly-turn : (share : ℕ → ℕ) (i v : ℕ) (old new : List ℕ) → i < length new → v ≡ getD new i 0 + share i → Partly share i old new → Partly share (i + 1) old (set new i v)
+pub partly-turn : (share : ℕ → ℕ) (i v : ℕ) (old new : List ℕ) → i < length new → v ≡ getD new i 0 + share i → Partly share i old new
+    → Partly share (i + 1) old (set new i v)
 partly-turn share i v old new there e p = record {
   done = λ k h. first k h (ℕ-discrete k i);
   left = λ k h. getD-set-other new i k v 0 (λ q. omega arith) ∙ p .left k (omega arith);
@@ -65,7 +67,8 @@ pub record Tallying (s : List ℕ) (level : ℕ) (numbers sums : List ℕ) (coun
   pub behind : (i : ℕ) → length numbers / 2 ≤ i → getD sums i 0 ≡ 0
   pub within : records ≤ count
   pub counts : Rest s (λ rs. length rs) (count - records) end last at (λ rs. records + length rs)
-  pub ranges : (i : ℕ) → i < length numbers / 2 → Summed s level (getD numbers (2 * i) 0) (getD numbers (2 * i + 1) 0) (getD sums i 0) (count - records) end last at
+  pub ranges : (i : ℕ) → i < length numbers / 2
+      → Summed s level (getD numbers (2 * i) 0) (getD numbers (2 * i + 1) 0) (getD sums i 0) (count - records) end last at
 
 pub tallying-start : (s : List ℕ) (level : ℕ) (numbers sums : List ℕ) (n : Reading) → headAt s ≡ accepted n → Sums numbers sums 0
     → Tallying s level numbers sums (n .value) 0 (n .next) 0 0
@@ -104,7 +107,8 @@ tallying-turn s level numbers sums sums′ count records at end last p some read
     next = record-follows end last s at p read
 
     fits : (i : ℕ) → Dec (i < length numbers / 2) → getD sums′ i 0 ≤ p .run .end
-    fits i (yes h) = omega (arith, grown .ranges i h, b .kept .fit i, overlap-most end last (p .run) next level (getD numbers (2 * i) 0) (getD numbers (2 * i + 1) 0))
+    fits i (yes h) =
+        omega (arith, grown .ranges i h, b .kept .fit i, overlap-most end last (p .run) next level (getD numbers (2 * i) 0) (getD numbers (2 * i + 1) 0))
     fits i (no h) = omega (arith, grown .behind i (omega arith), b .kept .fit i, next .after, next .long)
 
 -- The end of a walk: no schedule, or all records passed and nothing left over.
@@ -143,9 +147,11 @@ module _ (s : List ℕ) (v : ℕ) (l sums : List ℕ) (a : AllRanged v l) (few :
   unfolding runCount
   quantities-bad w = ap quantitiesReplied (quantities-none s v l a few (runs-refused (readSchedule s) (λ rs. length rs) 10 0 (sym (w .count))))
 
-  sums-priced : (rs : List Stretch) → readSchedule s ≡ accepted rs → (n : ℕ) → Tallied s v l sums (Tally.Over n) → sums ≡ quantityPlaces (map (priced rs v) (rangesOf l))
+  sums-priced : (rs : List Stretch) → readSchedule s ≡ accepted rs → (n : ℕ) → Tallied s v l sums (Tally.Over n)
+      → sums ≡ quantityPlaces (map (priced rs v) (rangesOf l))
   unfolding overlapSum
-  sums-priced rs e n w = ext-getD 0 sums (quantityPlaces got) (w .places ∙ sym (places-count got (omega (arith, got-length)))) (λ i h. at i (decLt i (length (rangesOf l))))
+  sums-priced rs e n w =
+      ext-getD 0 sums (quantityPlaces got) (w .places ∙ sym (places-count got (omega (arith, got-length)))) (λ i h. at i (decLt i (length (rangesOf l))))
     where
       got : List ℕ
       got = map (priced rs v) (rangesOf l)
@@ -163,11 +169,13 @@ module _ (s : List ℕ) (v : ℕ) (l sums : List ℕ) (a : AllRanged v l) (few :
       at i (yes h) = sum-at i h ∙ sym (places-in got i (omega (arith, got-length)) ∙ priced-at (priced rs v) l i h)
       at i (no h) = w .behind i (omega (arith, ranges-count l)) ∙ sym (places-behind got i (omega (arith, got-length)))
 
-  pub quantities-over : (n : ℕ) → Tallied s v l sums (Tally.Over n) → quantitiesReplied (quantities s v l) ≡ record { answer = accepted tt; records = n; places = sums }
+  pub quantities-over : (n : ℕ) → Tallied s v l sums (Tally.Over n)
+      → quantitiesReplied (quantities s v l) ≡ record { answer = accepted tt; records = n; places = sums }
   unfolding runCount quantitiesReplied
   quantities-over n w = go (readSchedule s) refl (w .count)
     where
-      go : (r : Answer (List Stretch)) → readSchedule s ≡ r → accepted n ≡ thenRuns r (λ rs. length rs) → quantitiesReplied (quantities s v l) ≡ record { answer = accepted tt; records = n; places = sums }
+      go : (r : Answer (List Stretch)) → readSchedule s ≡ r → accepted n ≡ thenRuns r (λ rs. length rs)
+          → quantitiesReplied (quantities s v l) ≡ record { answer = accepted tt; records = n; places = sums }
       go (accepted rs) e q =
           let same : n ≡ length rs = cc in
           ap quantitiesReplied (quantities-accepted s v l a few rs e) ∙ rw (same, sums-priced rs e n w)

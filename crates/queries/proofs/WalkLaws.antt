@@ -29,7 +29,8 @@ use Rattle.schedule.proofs.ScheduleLaws.{runAfter, may-follow}
 use Rattle.queries.specs.Walk.{recordAt, followingRun, runWithLevelAt}
 
 -- Where a `let` finds no number, by the tag that it tests.
-pub no-number : {B : Type 0} (at : ℕ) (f : Reading → Answer B) (r : Read) → OneOf (1 ∷ 2 ∷ []) (tagOf Read.the-type r) → orTen (readingOf at r >>= f) ≡ refused 10 0
+pub no-number : {B : Type 0} (at : ℕ) (f : Reading → Answer B) (r : Read) → OneOf (1 ∷ 2 ∷ []) (tagOf Read.the-type r)
+    → orTen (readingOf at r >>= f) ≡ refused 10 0
 no-number at f (Number v n) (inl e) = absurd (omega arith)
 no-number at f (Number v n) (inr e) = absurd (omega arith)
 no-number at f Ended k = refl
@@ -62,7 +63,8 @@ module _ (e v gap len lev next : ℕ) where
   unfolding followingRun
   run-refused n = go (mayFollow e v (runAfter e gap len lev)) refl
     where
-      go : (b : Bool) → mayFollow e v (runAfter e gap len lev) ≡ b → _>>=_ {B = ReadRun} (unless-refuse b Row.Schedule) (λ _. accepted (record { run = runAfter e gap len lev; next = next })) ≡ refused 10 0
+      go : (b : Bool) → mayFollow e v (runAfter e gap len lev) ≡ b
+          → _>>=_ {B = ReadRun} (unless-refuse b Row.Schedule) (λ _. accepted (record { run = runAfter e gap len lev; next = next })) ≡ refused 10 0
       go true h = absurd (n (follows e v (runAfter e gap len lev) h))
       go false h = refl
 
@@ -77,7 +79,8 @@ module _ (e v gap len : ℕ) (s : List ℕ) (at : ℕ) where
   unfolding followingRun
   or-ten-run lev next = go (mayFollow e v (runAfter e gap len lev))
     where
-      go : (b : Bool) → let a = _>>=_ {B = ReadRun} (unless-refuse b Row.Schedule) (λ _. accepted (record { run = runAfter e gap len lev; next = next })) in orTen a ≡ a
+      go : (b : Bool) → let a = _>>=_ {B = ReadRun} (unless-refuse b Row.Schedule) (λ _. accepted (record { run = runAfter e gap len lev; next = next })) in
+          orTen a ≡ a
       go true = refl
       go false = refl
 

@@ -17,7 +17,8 @@ passed true r f a e = (refl, e)
 passed false r f a e = impossible cc
 
 -- A test before an answer that the same row refuses where another test fails: one test of both.
-pub both-tests : {A : Type 0} (s t : Bool) (r : Refusal) (a : Answer A) → (t ≡ false → a ≡ refusal r) → (unless-refuse s r >>= λ _. a) ≡ (unless-refuse (t && s) r >>= λ _. a)
+pub both-tests : {A : Type 0} (s t : Bool) (r : Refusal) (a : Answer A) → (t ≡ false → a ≡ refusal r)
+    → (unless-refuse s r >>= λ _. a) ≡ (unless-refuse (t && s) r >>= λ _. a)
 both-tests true true r a e = refl
 both-tests true false r a e = e refl
 both-tests false true r a e = refl

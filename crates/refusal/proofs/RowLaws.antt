@@ -7,13 +7,15 @@ use mathlib.Core.Path.{_≡_, refl, sym, ap₂, _∙_}
 use mathlib.Core.List.{[], _∷_}
 use lib.ListN.{getD}
 use Rattle.refusal.specs.declared.Refusal.{Refusal}
-use Rattle.refusal.specs.declared.Refusal.the-variants.{Ended, Malformed, HeaderRange, HazardRange, NearBarrier, LeftOver, Argument, Room, Schedule, Ranges, Name, State, Hazard, Full, Lengths, Tries}
+use Rattle.refusal.specs.declared.Refusal.the-variants.{Ended, Malformed, HeaderRange, HazardRange, NearBarrier, LeftOver, Argument, Room, Schedule}
+use Rattle.refusal.specs.declared.Refusal.the-variants.{Ranges, Name, State, Hazard, Full, Lengths, Tries}
 use Rattle.refusal.specs.Refusal.{numberOf, valueOf}
 
 -- The refusal with a number and a value; there is none with 6.
 abbrev rowAt : (number value : ℕ) → Refusal
 rowAt number value =
-    getD (Argument ∷ Ended value ∷ Malformed value ∷ HeaderRange value ∷ HazardRange value ∷ NearBarrier value ∷ Argument ∷ LeftOver value ∷ Argument ∷ Room value ∷ Schedule ∷ Ranges ∷ Name value ∷ State ∷ Hazard ∷ Full ∷ Lengths ∷ Tries ∷ []) number Argument
+    getD (Argument ∷ Ended value ∷ Malformed value ∷ HeaderRange value ∷ HazardRange value ∷ NearBarrier value ∷ Argument ∷ LeftOver value ∷ Argument
+    ∷ Room value ∷ Schedule ∷ Ranges ∷ Name value ∷ State ∷ Hazard ∷ Full ∷ Lengths ∷ Tries ∷ []) number Argument
 
 row-back : (r : Refusal) → rowAt (numberOf r) (valueOf r) ≡ r
 row-back (Ended at) = refl

@@ -14,7 +14,8 @@ use Rattle.schedule.specs.Plan.{plan, bytesWritten, outputAfter}
 use Rattle.open_memory.specs.Memory.{isOpenJob}
 use Rattle.open_job.specs.declared.OpenStates.{OpenStates}
 use Rattle.open_job.specs.States.{keptStates, keptFrom, statesFrom, allSound, areOpenStates}
-use Rattle.open_job.specs.Calls.{memoryAfter, openStates, underRules, changedIn, addTo, addIn, withdrawFrom, withdrawIn, scheduleIn, reachUnder, reachIn, testState, keepIn, keptJob, returnIn}
+use Rattle.open_job.specs.Calls.{memoryAfter, openStates, underRules, changedIn, addTo, addIn, withdrawFrom, withdrawIn, scheduleIn, reachUnder, reachIn}
+use Rattle.open_job.specs.Calls.{testState, keepIn, keptJob, returnIn}
 use Rattle.open_job.specs.Parts.{lookedFor, eachChosen, eachEmptied}
 use Rattle.open_job.proofs.WholeLaws.{change-whole, keep-whole, return-whole, open-whole}
 use Rattle.replies.specs.declared.open.Changed.{Changed}
@@ -59,7 +60,8 @@ module _ (m : OpenStates) where
 
   pub schedule-shell : (side : ℕ) (out : List ℕ)
       → let a = tested (plan (writeJob (jobOf (m .present))) side (length out)) in
-      (planReplyOf (bytesWritten a) ≡ planReplyOf (bytesWritten (scheduleIn m side (length out)))) × (outputAfter a out ≡ outputAfter (scheduleIn m side (length out)) out)
+      (planReplyOf (bytesWritten a) ≡ planReplyOf (bytesWritten (scheduleIn m side (length out))))
+      × (outputAfter a out ≡ outputAfter (scheduleIn m side (length out)) out)
   unfolding scheduleIn areOpenStates
   schedule-shell side out = (refl, refl)
 

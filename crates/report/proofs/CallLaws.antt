@@ -77,7 +77,8 @@ module _ (s text : List ℕ) where
   unfolding printing textAfter
   text-short h = rw (lt-leb mostText (length text) h) (refl, refl)
 
-  pub text-printed : {n : ℕ} {after : List ℕ} → mostText ≤ length text → Written text 0 (reported s) n after → (Printed n ≡ printing s text) × (after ≡ textAfter s text)
+  pub text-printed : {n : ℕ} {after : List ℕ} → mostText ≤ length text → Written text 0 (reported s) n after
+      → (Printed n ≡ printing s text) × (after ≡ textAfter s text)
   unfolding printing textAfter
   text-printed {n} h w = rw (le-leb mostText (length text) h) (ap Printed (let e : n ≡ length (reported s) = omega (arith, w .index) in e), w .memory)
 

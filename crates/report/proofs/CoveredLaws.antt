@@ -25,7 +25,8 @@ last-top e v [] h l = l
 last-top e v (r ∷ rs) h l = last-top (r .end) (r .level) rs (h .1) (h .0 .ends)
 
 -- Rising runs: their lengths add up to the millimetres that show a level above 0, counted from 0 to the last end or further.
-pub covered-counts : (e v : ℕ) (rs : List Stretch) → Rising e v rs → (n : ℕ) → lastEnd e rs ≤ n → countFrom (λ (t : ℕ). above (shownLevel rs t)) 0 n ≡ covered rs
+pub covered-counts : (e v : ℕ) (rs : List Stretch) → Rising e v rs → (n : ℕ) → lastEnd e rs ≤ n
+    → countFrom (λ (t : ℕ). above (shownLevel rs t)) 0 n ≡ covered rs
 unfolding covered
 covered-counts e v [] h n l = count-none (λ (t : ℕ). above (shownLevel [] t)) (λ t. ap above (shown-nothing t)) 0 n
 covered-counts e v (r ∷ rs) h n l =

@@ -104,7 +104,8 @@ digits-first (suc k) n some h = go (decLt n 10) (digits-first k (n / 10))
     go : Dec (n < 10) → (0 < n / 10 → n / 10 < tens (suc k) → 48 < getD (digitsIn (suc k) (n / 10)) 0 0) → 48 < getD (digitsIn (suc (suc k)) n) 0 0
     go (yes l) r = rw (digits-one (suc k) n l) (omega arith)
     go (no l) r =
-        rw (digits-more (suc k) n (omega arith), List·getD-append (digitsIn (suc k) (n / 10)) (digit n ∷ []) 0 0 (digits-some k (n / 10))) (r (omega arith) (omega arith))
+        rw (digits-more (suc k) n (omega arith), List·getD-append (digitsIn (suc k) (n / 10)) (digit n ∷ []) 0 0 (digits-some k (n / 10)))
+        (r (omega arith) (omega arith))
 
 pub decimal-first : (n : ℕ) → 0 < n → n < tens 20 → 48 < getD (decimal n) 0 0
 unfolding decimal

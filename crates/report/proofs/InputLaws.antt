@@ -25,7 +25,8 @@ use Rattle.number.proofs.WriteLaws.{small-length}
 use Rattle.job.specs.declared.Bounds.{Bounds}
 use Rattle.job.specs.declared.Header.{Header}
 use Rattle.job.specs.declared.Hazard.{Hazard}
-use Rattle.job.specs.Job.{Job, within, hazardRanges, nextInHeader, nextInHazard, Fields, readFields, moreNumbers, outsideHeader, outsideHazard, readHeader, headerOf, hazardOf, Hazards, readHazards, readRest, readJob}
+use Rattle.job.specs.Job.{Job, within, hazardRanges, nextInHeader, nextInHazard, Fields, readFields, moreNumbers, outsideHeader, outsideHazard, readHeader}
+use Rattle.job.specs.Job.{headerOf, hazardOf, Hazards, readHazards, readRest, readJob}
 use Rattle.job.proofs.JobLaws.{header-in, header-fits}
 use Rattle.job.proofs.RangeLaws.{header-bounds}
 use Rattle.planning.specs.Envelope.{acceptJob}

@@ -56,12 +56,18 @@ covered-top rs h = omega (arith, covered-room 0 0 rs h (omega arith))
 
 -- The runs of a stored list one after the other.
 module _ (starts ends levels : List ℕ) where
-  pub lines-more : (word : List ℕ) (i : ℕ) → runLines word (firstRuns starts ends levels (i + 1)) ≡ runLines word (firstRuns starts ends levels i) ++ lineOf word (run starts ends levels i)
+  pub lines-more : (word : List ℕ) (i : ℕ)
+      → runLines word (firstRuns starts ends levels (i + 1)) ≡ runLines word (firstRuns starts ends levels i) ++ lineOf word (run starts ends levels i)
   lines-more word i =
-      rw (runs-more starts ends levels i, lines-append word (firstRuns starts ends levels i) (run starts ends levels i ∷ []), lines-one word (run starts ends levels i))
+      rw (
+        runs-more starts ends levels i,
+        lines-append word (firstRuns starts ends levels i) (run starts ends levels i ∷ []),
+        lines-one word (run starts ends levels i),
+      )
 
   pub lines-within : (word : List ℕ) (i n : ℕ) → i < n
-      → length (runLines word (firstRuns starts ends levels i) ++ lineOf word (run starts ends levels i)) ≤ length (runLines word (firstRuns starts ends levels n))
+      → length (runLines word (firstRuns starts ends levels i) ++ lineOf word (run starts ends levels i))
+      ≤ length (runLines word (firstRuns starts ends levels n))
   unfolding runLines
   lines-within word i n h =
       let b = behind starts ends levels i n h in
@@ -76,7 +82,8 @@ module _ (starts ends levels : List ℕ) where
       rw (runs-more starts ends levels i)
       (omega (arith, covered-append (firstRuns starts ends levels i) (r ∷ []), covered-one r [], covered-nothing))
 
-  pub covered-within : (i n : ℕ) → i < n → covered (firstRuns starts ends levels i) + (getD ends i 0 - getD starts i 0) ≤ covered (firstRuns starts ends levels n)
+  pub covered-within : (i n : ℕ) → i < n → covered (firstRuns starts ends levels i) + (getD ends i 0 - getD starts i 0)
+      ≤ covered (firstRuns starts ends levels n)
   covered-within i n h =
       let b = behind starts ends levels i n h in
       let r = run starts ends levels i in

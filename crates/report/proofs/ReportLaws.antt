@@ -19,11 +19,13 @@ use Rattle.runs.specs.Level.{filled, highest, requiredLevel}
 use Rattle.runs.specs.Required.{insertStation, endPoints, put, runsBetween, requiredRuns}
 use Rattle.runs.specs.RunList.{isRunList, lastStation, MayFollow, Rising}
 use Rattle.runs.proofs.RunLaws.{run-list-rising, run-list-short}
-use Rattle.planning.specs.Envelope.{farther, reachOf, offsetOf, reaches, reached, lengthening, envelope, envelopes, cutToRoad, standsNear, testHazard, testHazards, acceptJob}
+use Rattle.planning.specs.Envelope.{farther, reachOf, offsetOf, reaches, reached, lengthening, envelope, envelopes, cutToRoad, standsNear, testHazard}
+use Rattle.planning.specs.Envelope.{testHazards, acceptJob}
 use Rattle.planning.specs.Required.{jobRuns}
 use Rattle.planning.proofs.EnvelopeLaws.{accepted-fits}
 use Rattle.planning.proofs.JobRunLaws.{job-run-list}
-use Rattle.report.specs.Text.{digitsIn, decimal, fields, line, rightWord, leftWord, totalWord, refusedWord, runLines, covered, totalLine, refusedLine, runsReport, reportOf, reported}
+use Rattle.report.specs.Text.{digitsIn, decimal, fields, line, rightWord, leftWord, totalWord, refusedWord, runLines, covered, totalLine, refusedLine}
+use Rattle.report.specs.Text.{runsReport, reportOf, reported}
 use Rattle.report.specs.Printed.{printedText}
 use Rattle.report.specs.Printing.{mostText}
 use Rattle.report.proofs.DigitLaws.{decimal-within, decimal-most}
@@ -106,5 +108,8 @@ report-fits s = go (acceptJob s) refl
 -- The job on paper
 
 pub printed-report : reported (writeNumbers printedJob) ≡ printedText
-unfolding writeNumbers printedJob printedText someOf filter writeIn writeNumber scan readNumber numberAt ceilDiv formulaLength approachLength nextMultiple raisedLength sharedRanges headerRanges hazardRanges readFields readHeader readHazards readRest readJob farther reachOf offsetOf reaches reached lengthening envelope envelopes cutToRoad standsNear testHazard testHazards acceptJob filled highest requiredLevel insertStation endPoints put runsBetween requiredRuns jobRuns digitsIn decimal fields line runLines covered runsReport reported
+unfolding writeNumbers printedJob printedText someOf filter writeIn writeNumber scan readNumber numberAt ceilDiv formulaLength approachLength nextMultiple
+    raisedLength sharedRanges headerRanges hazardRanges readFields readHeader readHazards readRest readJob farther reachOf offsetOf reaches reached lengthening
+    envelope envelopes cutToRoad standsNear testHazard testHazards acceptJob filled highest requiredLevel insertStation endPoints put runsBetween requiredRuns
+    jobRuns digitsIn decimal fields line runLines covered runsReport reported
 printed-report = refl

@@ -23,7 +23,8 @@ pub written-length : {s : List ℕ} {at : ℕ} {v : List ℕ} {next : ℕ} {t : 
 written-length {s} {at} {v} w = ap length (w .memory) ∙ placed-length s at v
 
 -- What is written behind what was written makes one writing.
-pub written-more : {s : List ℕ} {at : ℕ} {v : List ℕ} {next : ℕ} {t : List ℕ} {w : List ℕ} {end : ℕ} {u : List ℕ} → Written s at v next t → Written t next w end u
+pub written-more : {s : List ℕ} {at : ℕ} {v : List ℕ} {next : ℕ} {t : List ℕ} {w : List ℕ} {end : ℕ} {u : List ℕ} → Written s at v next t
+    → Written t next w end u
     → at + length (v ++ w) ≤ length s → Written s at (v ++ w) end u
 written-more {s} {at} {v} {next} {t} {w} {end} {u} first second room =
     let both = length-append v w in
@@ -37,7 +38,8 @@ pub first-fits : (at : ℕ) (v w : List ℕ) (n : ℕ) → at + length (v ++ w) 
 first-fits at v w n room = omega (arith, length-append v w)
 
 -- Behind what was written there is room for what is left.
-pub written-room : {s : List ℕ} {at : ℕ} {v : List ℕ} {next : ℕ} {t : List ℕ} → Written s at v next t → (w : List ℕ) → at + length (v ++ w) ≤ length s → next + length w ≤ length t
+pub written-room : {s : List ℕ} {at : ℕ} {v : List ℕ} {next : ℕ} {t : List ℕ} → Written s at v next t → (w : List ℕ) → at + length (v ++ w) ≤ length s
+    → next + length w ≤ length t
 written-room {s} {at} {v} first w room = omega (arith, first .index, written-length first, length-append v w)
 
 -- Bytes one after the other.

@@ -51,12 +51,14 @@ unfolding breaksBefore
 cut-level t u [] h = refl
 cut-level t u (b ∷ bs) h = go (leb t (b .start)) refl (cut-level t u bs h)
   where
-    go : (c : Bool) → leb t (b .start) ≡ c → breakLevel (breaksBefore t bs) u ≡ breakLevel bs u → breakLevel (if c then breaksBefore t bs else b ∷ bs) u ≡ breakLevel (b ∷ bs) u
+    go : (c : Bool) → leb t (b .start) ≡ c → breakLevel (breaksBefore t bs) u ≡ breakLevel bs u
+        → breakLevel (if c then breaksBefore t bs else b ∷ bs) u ≡ breakLevel (b ∷ bs) u
     go true e r = r ∙ sym (at-earlier b bs u (omega (arith, leb-true t (b .start) e)))
     go false e r = refl
 
 module _ (t v : ℕ) (bs : List Break) where
-  set-step : (P : List Break → Type 0) → (levelOf (breaksBefore t bs) ≡ v → P (breaksBefore t bs)) → (levelOf (breaksBefore t bs) ≢ v → P (record { start = t; level = v } ∷ breaksBefore t bs)) → P (setFrom t v bs)
+  set-step : (P : List Break → Type 0) → (levelOf (breaksBefore t bs) ≡ v → P (breaksBefore t bs))
+      → (levelOf (breaksBefore t bs) ≢ v → P (record { start = t; level = v } ∷ breaksBefore t bs)) → P (setFrom t v bs)
   unfolding setFrom
   set-step P f g = go (eqb (levelOf (breaksBefore t bs)) v) refl
     where
@@ -111,7 +113,8 @@ set-cuts t v (b ∷ bs) p q = go (decLe t (b .start))
 
 module _ (f : ℕ → ℕ) (top : (t : ℕ) → f t ≤ 6) where
   -- Runs from e on, and break points before e: their runs stand in front.
-  below-runs : (bs : List Break) (e : ℕ) (rs : List Stretch) → e ≤ lastStation → Shape e bs → ((t : ℕ) → t < e → breakLevel bs t ≡ f t) → RunsFrom f e (levelOf bs) rs → RunsOf f (runsBelow e bs ++ rs)
+  below-runs : (bs : List Break) (e : ℕ) (rs : List Stretch) → e ≤ lastStation → Shape e bs → ((t : ℕ) → t < e → breakLevel bs t ≡ f t)
+      → RunsFrom f e (levelOf bs) rs → RunsOf f (runsBelow e bs ++ rs)
   unfolding runsBelow breakLevel
   below-runs [] e rs by s shows r = runs-all e 0 (λ t h. sym (shows t h)) r
   below-runs (b ∷ bs) e rs by s shows r = go (ltb 0 (b .level)) refl (below-runs bs (b .start))
@@ -126,7 +129,8 @@ module _ (f : ℕ → ℕ) (top : (t : ℕ) → f t ≤ 6) where
       earlier t h = sym (at-earlier b bs t h) ∙ shows t (omega (arith, s .0))
 
       go : (c : Bool) → ltb 0 (b .level) ≡ c
-          → ((ss : List Stretch) → b .start ≤ lastStation → Shape (b .start) bs → ((t : ℕ) → t < b .start → breakLevel bs t ≡ f t) → RunsFrom f (b .start) (levelOf bs) ss → RunsOf f (runsBelow (b .start) bs ++ ss))
+          → ((ss : List Stretch) → b .start ≤ lastStation → Shape (b .start) bs → ((t : ℕ) → t < b .start → breakLevel bs t ≡ f t)
+          → RunsFrom f (b .start) (levelOf bs) ss → RunsOf f (runsBelow (b .start) bs ++ ss))
           → RunsOf f ((if c then runsBelow (b .start) bs ++ one ∷ [] else runsBelow (b .start) bs) ++ rs)
       go true q i =
           subst (RunsOf f) (sym (append-assoc (runsBelow (b .start) bs) (one ∷ []) rs))
@@ -143,7 +147,8 @@ module _ (f : ℕ → ℕ) (top : (t : ℕ) → f t ≤ 6) where
           }
       go false q i =
           i rs (omega (arith, s .0)) (s .2) earlier
-          (runs-skip e (b .level) (b .start) (levelOf bs) (omega (arith, s .0)) (λ z. absurd (omega (arith, s .0))) (λ t h k. omega (arith, here t h k, ltb-false 0 (b .level) q)) r)
+          (runs-skip e (b .level) (b .start) (levelOf bs) (omega (arith, s .0)) (λ z. absurd (omega (arith, s .0)))
+          (λ t h k. omega (arith, here t h k, ltb-false 0 (b .level) q)) r)
 
   -- Break points up to the last station, from the last of which on the level is 0, give the runs of their level.
   pub breaks-runs : (bs : List Break) (e : ℕ) → Shape (suc lastStation) bs → levelOf bs ≡ 0 → ((t : ℕ) → breakLevel bs t ≡ f t) → RunsOf f (runsBelow e bs)
@@ -151,7 +156,8 @@ module _ (f : ℕ → ℕ) (top : (t : ℕ) → f t ≤ 6) where
   breaks-runs [] e s z shows = record { rising = tt; shows = λ t. shown-nothing t ∙ shows t }
   breaks-runs (b ∷ bs) e s z shows =
       rw (le-ltb 0 (b .level) (omega arith))
-      (subst (RunsOf f) (append-nil (runsBelow (b .start) bs)) (below-runs bs (b .start) [] (omega (arith, s .0)) (s .2) (λ t h. sym (at-earlier b bs t h) ∙ shows t) last))
+      (subst (RunsOf f) (append-nil (runsBelow (b .start) bs))
+      (below-runs bs (b .start) [] (omega (arith, s .0)) (s .2) (λ t h. sym (at-earlier b bs t h) ∙ shows t) last))
     where
       last : RunsFrom f (b .start) (levelOf bs) []
       last = record { rising = tt; shows = λ t h. shown-nothing t ∙ sym z ∙ sym (at-last b bs t h) ∙ shows t }

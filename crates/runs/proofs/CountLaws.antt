@@ -25,13 +25,15 @@ count-none f h p zero = refl
 count-none f h p (suc n) = rw (h p) (count-none f h (suc p) n)
 
 -- Two tests that are never both true: their counts add up.
-count-or : (f g k : ℕ → Bool) → ((t : ℕ) → k t ≡ (f t || g t)) → ((t : ℕ) → f t ≡ true → g t ≡ false) → (p n : ℕ) → countFrom k p n ≡ countFrom f p n + countFrom g p n
+count-or : (f g k : ℕ → Bool) → ((t : ℕ) → k t ≡ (f t || g t)) → ((t : ℕ) → f t ≡ true → g t ≡ false) → (p n : ℕ)
+    → countFrom k p n ≡ countFrom f p n + countFrom g p n
 unfolding countFrom
 count-or f g k h d p zero = omega arith
 count-or f g k h d p (suc n) = rw (h p) (go (f p) refl (g p) refl (count-or f g k h d (suc p) n))
   where
     go : (a : Bool) → f p ≡ a → (b : Bool) → g p ≡ b → countFrom k (suc p) n ≡ countFrom f (suc p) n + countFrom g (suc p) n
-        → (if a || b then suc (countFrom k (suc p) n) else countFrom k (suc p) n) ≡ (if a then suc (countFrom f (suc p) n) else countFrom f (suc p) n) + (if b then suc (countFrom g (suc p) n) else countFrom g (suc p) n)
+        → (if a || b then suc (countFrom k (suc p) n) else countFrom k (suc p) n) ≡ (if a then suc (countFrom f (suc p) n) else countFrom f (suc p) n)
+        + (if b then suc (countFrom g (suc p) n) else countFrom g (suc p) n)
     go true x true y r = absurd (not-both y (d p x))
     go true x false y r = omega arith
     go false x true y r = omega arith
@@ -40,11 +42,14 @@ count-or f g k h d p (suc n) = rw (h p) (go (f p) refl (g p) refl (count-or f g 
 -- Neighbouring parts: their counts add up.
 pub count-add : (f : ℕ → Bool) (p n m : ℕ) → countFrom f p (n + m) ≡ countFrom f p n + countFrom f (p + n) m
 unfolding countFrom
-count-add f p zero m = rw (let a : 0 + m ≡ m = omega arith in a, let b : p + 0 ≡ p = omega arith in b) (let c : countFrom f p m ≡ 0 + countFrom f p m = omega arith in c)
-count-add f p (suc n) m = rw (let a : suc n + m ≡ suc (n + m) = omega arith in a, let b : p + suc n ≡ suc p + n = omega arith in b) (go (f p) (count-add f (suc p) n m))
+count-add f p zero m =
+    rw (let a : 0 + m ≡ m = omega arith in a, let b : p + 0 ≡ p = omega arith in b) (let c : countFrom f p m ≡ 0 + countFrom f p m = omega arith in c)
+count-add f p (suc n) m =
+    rw (let a : suc n + m ≡ suc (n + m) = omega arith in a, let b : p + suc n ≡ suc p + n = omega arith in b) (go (f p) (count-add f (suc p) n m))
   where
     go : (b : Bool) → countFrom f (suc p) (n + m) ≡ countFrom f (suc p) n + countFrom f (suc p + n) m
-        → (if b then suc (countFrom f (suc p) (n + m)) else countFrom f (suc p) (n + m)) ≡ (if b then suc (countFrom f (suc p) n) else countFrom f (suc p) n) + countFrom f (suc p + n) m
+        → (if b then suc (countFrom f (suc p) (n + m)) else countFrom f (suc p) (n + m)) ≡ (if b then suc (countFrom f (suc p) n) else countFrom f (suc p) n)
+        + countFrom f (suc p + n) m
     go true r = omega arith
     go false r = r
 
@@ -78,7 +83,8 @@ count-run e u r rs up passes zero-fails p n = go (passes (r .level)) refl
     alone t h = ap passes (shown-zero (r .end) (r .level) rs (up .1) t (ltb-true _ _ (and-right (leb (r .start) t) _ h))) ∙ zero-fails
 
     go : (b : Bool) → passes (r .level) ≡ b → countFrom here p n ≡ (if b then min (p + n) (r .end) - max p (r .start) else 0) + countFrom rest p n
-    go true q = count-or (has r) rest here (λ t. either t (has r t)) alone p n ∙ ap (λ (m : ℕ). m + countFrom rest p n) (count-stretch r (omega (arith, up .0 .long)) p n)
+    go true q = count-or (has r) rest here (λ t. either t (has r t)) alone p n
+        ∙ ap (λ (m : ℕ). m + countFrom rest p n) (count-stretch r (omega (arith, up .0 .long)) p n)
       where
         either : (t : ℕ) (c : Bool) → passes (if c then r .level else shownLevel rs t) ≡ (c || rest t)
         either t true = q

@@ -81,7 +81,14 @@ module _ (es : List Stretch) (v : ℕ) where
             let r = around (InSet es v) set? (a .end - 1) t (b .start)
             (record { one = a; member = m; high = h; has = (omega arith, omega arith) }) (omega arith) s y
             (record { one = b; member = o; high = k; has = (omega arith, omega arith) }) in
-            inr (record { from = r .from; to = r .to; gap = r .gap; short = omega (arith, r .low, r .up, r .lower, r .upper); lower = r .lower; upper = r .upper })
+            inr (record {
+              from = r .from;
+              to = r .to;
+              gap = r .gap;
+              short = omega (arith, r .low, r .up, r .lower, r .upper);
+              lower = r .lower;
+              upper = r .upper;
+            })
 
     -- Before a gap an envelope ends, and after it one starts.
     pub Filled→joined : (t : ℕ) → Filled G (InSet es v) t → Joined es v G t
@@ -90,9 +97,13 @@ module _ (es : List Stretch) (v : ℕ) where
         let n = g .gap in
         let b = n .before in
         let a = n .after in
-        let ends : b .one .end ≤ g .from = le-of-not-lt (λ l. n .none (g .from) (omega arith) (n .some) (record { one = b .one; member = b .member; high = b .high; has = (omega (arith, b .has .0), l) })) in
-        let starts : g .to ≤ a .one .start = le-of-not-lt (λ l. n .none (g .to - 1) (omega (arith, n .some)) (omega (arith, n .some)) (record { one = a .one; member = a .member; high = a .high; has = (omega arith, omega (arith, a .has .1)) })) in
-        bridged (b .one) (a .one) (b .member) (a .member) (b .high) (a .high) (omega (arith, ends, g .lower)) (omega (arith, starts, g .upper)) (omega (arith, g .short, n .some, b .has .1, a .has .0))
+        let ends : b .one .end ≤ g .from = le-of-not-lt
+        (λ l. n .none (g .from) (omega arith) (n .some) (record { one = b .one; member = b .member; high = b .high; has = (omega (arith, b .has .0), l) })) in
+        let starts : g .to ≤ a .one .start = le-of-not-lt
+        (λ l. n .none (g .to - 1) (omega (arith, n .some)) (omega (arith, n .some))
+        (record { one = a .one; member = a .member; high = a .high; has = (omega arith, omega (arith, a .has .1)) })) in
+        bridged (b .one) (a .one) (b .member) (a .member) (b .high) (a .high) (omega (arith, ends, g .lower)) (omega (arith, starts, g .upper))
+        (omega (arith, g .short, n .some, b .has .1, a .has .0))
 
 -- The paper's words: the required level is the highest v whose set, gaps added, has t; else 0.
 pub required-is-highest : (es : List Stretch) (G t : ℕ) → Proper es → Highest (λ (v : ℕ). Filled G (InSet es v) t) (requiredLevel es G t)

@@ -51,7 +51,8 @@ read-back l i x p h = pick (ℕ-discrete p i)
     pick (no a) = inr (a, getD-set-other l i p x 0 a)
 
 -- What holds of the first i elements holds of one more.
-pub store-next : (Q : ℕ → ℕ → Type 0) (l : List ℕ) (i x : ℕ) → i < length l → ((p : ℕ) → p < i → Q p (getD l p 0)) → Q i x → (p : ℕ) → p < i + 1 → Q p (getD (set l i x) p 0)
+pub store-next : (Q : ℕ → ℕ → Type 0) (l : List ℕ) (i x : ℕ) → i < length l → ((p : ℕ) → p < i → Q p (getD l p 0)) → Q i x → (p : ℕ) → p < i + 1
+    → Q p (getD (set l i x) p 0)
 store-next Q l i x h old new p k = go (read-back l i x p h)
   where
     go : ReadBack l i x p → Q p (getD (set l i x) p 0)

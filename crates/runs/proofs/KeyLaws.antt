@@ -27,7 +27,8 @@ pub runs-listed : (es : List Stretch) (G : ℕ) → AllSound es → length es �
 runs-listed es G sound = required-run-list es G (λ e m. sound e m .long) (λ e m. sound e m .ends)
 
 -- Lists with the same members have the same required runs.
-pub same-runs : (es fs : List Stretch) (G : ℕ) → AllSound es → AllSound fs → ((e : Stretch) → List·Memᴰ e es → List·Memᴰ e fs) → ((e : Stretch) → List·Memᴰ e fs → List·Memᴰ e es)
+pub same-runs : (es fs : List Stretch) (G : ℕ) → AllSound es → AllSound fs → ((e : Stretch) → List·Memᴰ e es → List·Memᴰ e fs)
+    → ((e : Stretch) → List·Memᴰ e fs → List·Memᴰ e es)
     → requiredRuns es G ≡ requiredRuns fs G
 same-runs es fs G p q to from =
     let r = required-runs es G (λ e m. p e m .long) (λ e m. p e m .ends) in
@@ -67,7 +68,8 @@ keyed-split keys ends n i h k =
     ap (map (envelopeOf ends)) (split-at (take n keys) i 0 (omega (arith, length-take-le n keys k)))
     ∙ rw (take-take i n keys (omega arith), getD-take n keys i 0 h) (map-append (envelopeOf ends) (take i keys) _)
 
-keyed-next : (keys ends : List ℕ) (i : ℕ) → i < length keys → keyedEnvelopes keys ends (i + 1) ≡ keyedEnvelopes keys ends i ++ envelopeOf ends (getD keys i 0) ∷ []
+keyed-next : (keys ends : List ℕ) (i : ℕ) → i < length keys
+    → keyedEnvelopes keys ends (i + 1) ≡ keyedEnvelopes keys ends i ++ envelopeOf ends (getD keys i 0) ∷ []
 unfolding keyedEnvelopes
 keyed-next keys ends i h = rw (add-one i, take-suc keys i 0 h) (map-append (envelopeOf ends) (take i keys) _)
 
@@ -131,14 +133,16 @@ unfolding envelopesTo
 envelope-at keys ends zero i h = absurd (omega arith)
 envelope-at keys ends (suc n) i h = go (decLt i n) (envelope-at keys ends n i)
   where
-    go : Dec (i < n) → (i < n → List·Memᴰ (envelopeOf ends (getD keys i 0)) (envelopesTo keys ends n)) → List·Memᴰ (envelopeOf ends (getD keys i 0)) (envelopesTo keys ends (suc n))
+    go : Dec (i < n) → (i < n → List·Memᴰ (envelopeOf ends (getD keys i 0)) (envelopesTo keys ends n))
+        → List·Memᴰ (envelopeOf ends (getD keys i 0)) (envelopesTo keys ends (suc n))
     go (yes l) r = List·Memᴰ·tail (r l)
     go (no l) r = List·Memᴰ·head (ap (λ (j : ℕ). envelopeOf ends (getD keys j 0)) (let e : i ≡ n = omega arith in e))
 
 key-indexed : (keys ends : List ℕ) (n : ℕ) (x : Stretch) → List·Memᴰ x (envelopesTo keys ends n) → Indexed (λ i. envelopeOf ends (getD keys i 0)) n x
 unfolding envelopesTo
 key-indexed keys ends zero = λ x m. absurd (List·Memᴰ·not-nil m)
-key-indexed keys ends (suc n) = cons-each (Indexed (λ i. envelopeOf ends (getD keys i 0)) (suc n)) (indexed-last _ n) (λ x m. indexed-more (key-indexed keys ends n x m))
+key-indexed keys ends (suc n) =
+    cons-each (Indexed (λ i. envelopeOf ends (getD keys i 0)) (suc n)) (indexed-last _ n) (λ x m. indexed-more (key-indexed keys ends n x m))
 
 -- Keys sorted: they have the same members, and an envelope is that of its key, so the envelopes are the same.
 module _ (keys ends : List ℕ) (n : ℕ) (size : length keys ≡ 256) (few : n ≤ 256) (sound : AllSound (keyedEnvelopes keys ends n)) where

@@ -59,7 +59,8 @@ module _ (es : List Stretch) (G : ℕ) where
       })
 
   -- Of envelopes that lie in [A, B): every assignment of levels that covers them and has no short gap in it is nowhere lower.
-  pub required-least : (A B : ℕ) → Proper es → ((e : Stretch) → List·Memᴰ e es → (A ≤ e .start) × (e .end ≤ B)) → (f : ℕ → ℕ) → Covers es f → NoShortGapIn A B G f → (t : ℕ) → requiredLevel es G t ≤ f t
+  pub required-least : (A B : ℕ) → Proper es → ((e : Stretch) → List·Memᴰ e es → (A ≤ e .start) × (e .end ≤ B)) → (f : ℕ → ℕ) → Covers es f
+      → NoShortGapIn A B G f → (t : ℕ) → requiredLevel es G t ≤ f t
   required-least A B proper lies f c n t = level-below es G t (f t) at
     where
       at : (v : ℕ) → 1 ≤ v → v ≤ 6 → Joined es v G t → v ≤ f t
@@ -69,6 +70,7 @@ module _ (es : List Stretch) (G : ℕ) where
           let pb = proper b o in
           let ca = c a m (a .end - 1) (omega arith, omega arith) in
           let cb = c b o (b .start) (omega arith, omega arith) in
-          let r = around (λ (u : ℕ). v ≤ f u) (λ (u : ℕ). decLe v (f u)) (a .end - 1) t (b .start) (omega arith) (omega arith) (λ (w : v ≤ f t). omega arith) y (omega arith) in
+          let r = around (λ (u : ℕ). v ≤ f u) (λ (u : ℕ). decLe v (f u)) (a .end - 1) t (b .start) (omega arith) (omega arith) (λ (w : v ≤ f t). omega arith) y
+          (omega arith) in
           let short = n v p q (r .from) (r .to) (r .gap) (omega (arith, lies a m .0, r .low)) (omega (arith, lies b o .1, r .up)) in
           omega (arith, short, r .low, r .up, r .lower, r .upper))

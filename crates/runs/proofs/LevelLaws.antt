@@ -17,7 +17,8 @@ use Rattle.base.proofs.OrderLaws.{le-of-not-lt}
 -- t is in an envelope of level v or higher, or between two that are less than G apart.
 pub data Joined (es : List Stretch) (v G t : ℕ) : Type 0 where
   covered : (e : Stretch) → List·Memᴰ e es → v ≤ e .level → Has e t → Joined es v G t
-  bridged : (a b : Stretch) → List·Memᴰ a es → List·Memᴰ b es → v ≤ a .level → v ≤ b .level → a .end ≤ t → t < b .start → b .start < a .end + G → Joined es v G t
+  bridged : (a b : Stretch) → List·Memᴰ a es → List·Memᴰ b es → v ≤ a .level → v ≤ b .level → a .end ≤ t → t < b .start → b .start < a .end + G
+      → Joined es v G t
 
 -- Levels 1 to 6.
 abbrev pub Levelled : List Stretch → Type 0
@@ -36,10 +37,16 @@ module _ (es : List Stretch) (v t : ℕ) where
   test→set h =
       let w = any-elim (λ (e : Stretch). has e t) (atLeast v es) h in
       let k = filter-elim (reaches v) es (w .member) in
-      record { one = w .one; member = k .0; high = leb-true _ _ (k .1); has = (leb-true _ _ (and-left _ _ (w .passes)), ltb-true _ _ (and-right (leb (w .one .start) t) _ (w .passes))) }
+      record {
+        one = w .one;
+        member = k .0;
+        high = leb-true _ _ (k .1);
+        has = (leb-true _ _ (and-left _ _ (w .passes)), ltb-true _ _ (and-right (leb (w .one .start) t) _ (w .passes)));
+      }
 
   pub set→test : InSet es v t → someOf (λ (e : Stretch). has e t) (atLeast v es) ≡ true
-  set→test s = any-intro (λ (e : Stretch). has e t) (filter-intro (reaches v) (s .member) (le-leb _ _ (s .high))) (and-intro (le-leb _ _ (s .has .0)) (lt-ltb _ _ (s .has .1)))
+  set→test s = any-intro (λ (e : Stretch). has e t) (filter-intro (reaches v) (s .member) (le-leb _ _ (s .high)))
+      (and-intro (le-leb _ _ (s .has .0)) (lt-ltb _ _ (s .has .1)))
 
   module _ (G : ℕ) where
     in-pair : (a : Stretch) → List·Memᴰ a (atLeast v es) → Passing (between G t a) (atLeast v es) → Joined es v G t
@@ -49,13 +56,15 @@ module _ (es : List Stretch) (v t : ℕ) where
         let h = w .passes in
         let b = w .one in
         bridged a b (k .0) (l .0) (leb-true _ _ (k .1)) (leb-true _ _ (l .1))
-        (leb-true _ _ (and-left _ _ (and-left _ _ h))) (ltb-true _ _ (and-right (leb (a .end) t) _ (and-left _ _ h))) (ltb-true _ _ (and-right (leb (a .end) t && ltb t (b .start)) _ h))
+        (leb-true _ _ (and-left _ _ (and-left _ _ h))) (ltb-true _ _ (and-right (leb (a .end) t) _ (and-left _ _ h)))
+        (ltb-true _ _ (and-right (leb (a .end) t && ltb t (b .start)) _ h))
 
     filled→joined : filled (atLeast v es) G t ≡ true → Joined es v G t
     unfolding filled
     filled→joined e = go (or-cases (someOf (λ (e : Stretch). has e t) (atLeast v es)) _ e)
       where
-        go : (someOf (λ (e : Stretch). has e t) (atLeast v es) ≡ true) ⊎ (someOf (λ (a : Stretch). someOf (between G t a) (atLeast v es)) (atLeast v es) ≡ true) → Joined es v G t
+        go : (someOf (λ (e : Stretch). has e t) (atLeast v es) ≡ true) ⊎ (someOf (λ (a : Stretch). someOf (between G t a) (atLeast v es)) (atLeast v es) ≡ true)
+            → Joined es v G t
         go (inl h) = let s = test→set h in covered (s .one) (s .member) (s .high) (s .has)
         go (inr h) =
             let w = any-elim (λ (a : Stretch). someOf (between G t a) (atLeast v es)) (atLeast v es) h in
@@ -103,7 +112,8 @@ module _ (es : List Stretch) (G t : ℕ) where
   highest-joined zero v p q = absurd (omega arith)
   highest-joined (suc n) v p q = go (filled (atLeast (suc n) es) G t) refl q (highest-joined n v p)
     where
-      go : (b : Bool) → filled (atLeast (suc n) es) G t ≡ b → v ≤ (if b then suc n else highest es G t n) → (v ≤ highest es G t n → Joined es v G t) → Joined es v G t
+      go : (b : Bool) → filled (atLeast (suc n) es) G t ≡ b → v ≤ (if b then suc n else highest es G t n) → (v ≤ highest es G t n → Joined es v G t)
+          → Joined es v G t
       go true e h r = joined-lower h (filled→joined es (suc n) t G e)
       go false e h r = r h
 
@@ -122,7 +132,8 @@ module _ (es : List Stretch) (G t : ℕ) where
 
   -- What bounds every level whose filled set has t bounds the required level.
   pub level-below : (n : ℕ) → ((v : ℕ) → 1 ≤ v → v ≤ 6 → Joined es v G t → v ≤ n) → requiredLevel es G t ≤ n
-  level-below n bound = le-of-not-lt (λ l. omega (arith, bound (requiredLevel es G t) (omega arith) level-top (level→joined (requiredLevel es G t) (omega arith) (omega arith))))
+  level-below n bound =
+      le-of-not-lt (λ l. omega (arith, bound (requiredLevel es G t) (omega arith) level-top (level→joined (requiredLevel es G t) (omega arith) (omega arith))))
 
   -- The required level is n where the sets of exactly the levels up to n have t.
   pub level-is : (n : ℕ) → n ≤ 6 → (1 ≤ n → Joined es n G t) → ((v : ℕ) → 1 ≤ v → Joined es v G t → v ≤ n) → requiredLevel es G t ≡ n
@@ -139,5 +150,6 @@ pub required-more : (es fs : List Stretch) (G t : ℕ) → ((e : Stretch) → Li
 required-more es fs G t s = level-le es fs G t t (λ v p. joined-more s)
 
 -- The same envelopes, in whatever order and however often, require the same level.
-pub level-same : (es fs : List Stretch) (G t : ℕ) → ((x : Stretch) → List·Memᴰ x es → List·Memᴰ x fs) → ((x : Stretch) → List·Memᴰ x fs → List·Memᴰ x es) → requiredLevel es G t ≡ requiredLevel fs G t
+pub level-same : (es fs : List Stretch) (G t : ℕ) → ((x : Stretch) → List·Memᴰ x es → List·Memᴰ x fs) → ((x : Stretch) → List·Memᴰ x fs → List·Memᴰ x es)
+    → requiredLevel es G t ≡ requiredLevel fs G t
 level-same es fs G t to from = omega (arith, required-more es fs G t to, required-more fs es G t from)

@@ -22,7 +22,8 @@ use Rattle.runs.proofs.SweepLaws.{not-above, above-is, under-top}
 use Rattle.runs.proofs.MoreLaws.{skip-level, lift-here, lift-filled, lift-kept}
 use Rattle.runs.proofs.StandLaws.{level-last}
 
-module _ {es : List Stretch} {G u : ℕ} {tops : List ℕ} {level : ℕ} {bs : List Break} (s : SweptTo es G u tops level bs) (x : Stretch) (at : x .start ≡ u) (x-sound : Sound x) (tops′ : List ℕ) (raised : Raised (x .level) (x .end) tops tops′) where
+module _ {es : List Stretch} {G u : ℕ} {tops : List ℕ} {level : ℕ} {bs : List Break} (s : SweptTo es G u tops level bs) (x : Stretch) (at : x .start ≡ u)
+    (x-sound : Sound x) (tops′ : List ℕ) (raised : Raised (x .level) (x .end) tops tops′) where
   high-is : (v : ℕ) → v ≤ x .level → getD tops′ v 0 ≡ max (getD tops v 0) (x .end)
   high-is = raised-high (x .level) (x .end) tops tops′ raised
 
@@ -36,7 +37,8 @@ module _ {es : List Stretch} {G u : ℕ} {tops : List ℕ} {level : ℕ} {bs : L
       old : 0 < getD tops v 0 → getD tops v 0 ≡ getD tops′ v 0 → Ending (x ∷ es) v (getD tops′ v 0)
       old p e = let m = s .begun .top v .met p in record { one = m .one; member = List·Memᴰ·tail (m .member); high = m .high; there = m .there ∙ e }
 
-      most : (v ≤ x .level → x .end ≤ getD tops′ v 0) → getD tops v 0 ≤ getD tops′ v 0 → (e : Stretch) → List·Memᴰ e (x ∷ es) → v ≤ e .level → e .end ≤ getD tops′ v 0
+      most : (v ≤ x .level → x .end ≤ getD tops′ v 0) → getD tops v 0 ≤ getD tops′ v 0 → (e : Stretch) → List·Memᴰ e (x ∷ es) → v ≤ e .level
+          → e .end ≤ getD tops′ v 0
       most q r = cons-each (λ e. v ≤ e .level → e .end ≤ getD tops′ v 0) q (λ e m h. omega (arith, s .begun .top v .most e m h))
 
       go : Dec (v ≤ x .level) → Top (x ∷ es) v (getD tops′ v 0)
@@ -92,7 +94,8 @@ module _ {es : List Stretch} {G u : ℕ} {tops : List ℕ} {level : ℕ} {bs : L
     filled-shape : Shape (suc u) (filledFrom tops level k bs)
     filled-shape =
         filled-step (λ (p : List Break). Shape (suc u) p)
-        (λ h. shape-on (suc (getD tops k 0)) (suc u) (setFrom (getD tops k 0) k bs) (omega (arith, not-above (s .above) k h)) (set-shape (getD tops k 0) k bs (suc u) (s .shape)))
+        (λ h. shape-on (suc (getD tops k 0)) (suc u) (setFrom (getD tops k 0) k bs) (omega (arith, not-above (s .above) k h))
+        (set-shape (getD tops k 0) k bs (suc u) (s .shape)))
         (λ _. s .shape)
 
     filled-shows : (t : ℕ) → t < u → breakLevel (filledFrom tops level k bs) t ≡ requiredLevel (x ∷ es) G t
@@ -116,17 +119,27 @@ module _ {es : List Stretch} {G u : ℕ} {tops : List ℕ} {level : ℕ} {bs : L
         cuts h =
             let positive = near .low k (omega arith) (omega arith) in
             let before = not-above (s .above) k h in
-            set-cuts (getD tops k 0) k bs (omega (arith, s .shows (getD tops k 0 - 1) (omega arith), under-top G (s .begun) k (omega arith) (omega arith))) (omega (arith, level-last s))
+            set-cuts (getD tops k 0) k bs (omega (arith, s .shows (getD tops k 0 - 1) (omega arith), under-top G (s .begun) k (omega arith) (omega arith)))
+            (omega (arith, level-last s))
 
     -- The level rises to that of the new envelope.
     pub lift : SweptTo (x ∷ es) G u tops′ (x .level) (lifted tops level u (x .level) G bs)
     unfolding lifted
     lift = record {
       begun = more-begun;
-      above = record { low = λ v p q. omega (arith, high-is v q, x-sound .long); high = λ v p. le-of-not-lt (λ l. omega (arith, s .above .high v (omega (arith, low-is v l)))) };
+      above = record {
+        low = λ v p q. omega (arith, high-is v q, x-sound .long);
+        high = λ v p. le-of-not-lt (λ l. omega (arith, s .above .high v (omega (arith, low-is v l))));
+      };
       shape = set-shape u (x .level) (filledFrom tops level k bs) (suc u) filled-shape;
       shows = λ t l. shows t l (decLt t u);
-      room = omega (arith, s .room, filled-length, set-more u (x .level) (filledFrom tops level k bs), distinct-lift (x .level) (x .end) tops tops′ raised level (λ v h. omega (arith, not-above (s .above) v h, x-sound .long)) (omega arith));
+      room = omega (
+        arith,
+        s .room,
+        filled-length,
+        set-more u (x .level) (filledFrom tops level k bs),
+        distinct-lift (x .level) (x .end) tops tops′ raised level (λ v h. omega (arith, not-above (s .above) v h, x-sound .long)) (omega arith),
+      );
     }
       where
         shows : (t : ℕ) → t ≤ u → Dec (t < u) → breakLevel (setFrom u (x .level) (filledFrom tops level k bs)) t ≡ requiredLevel (x ∷ es) G t

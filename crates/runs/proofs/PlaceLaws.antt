@@ -21,7 +21,8 @@ use Rattle.runs.specs.Breaks.{Break, levelOf, breaksTo, breaksBefore, se
 use Rattle.runs.proofs.StoredLaws.{withNext, cleared, stored-more, stored-same}
 
 module _ (starts levels : List ℕ) where
-  breaks-last : (k : ℕ) → 0 < k → breaksTo starts levels k ≡ record { start = getD starts (k - 1) 0; level = getD levels (k - 1) 0 } ∷ breaksTo starts levels (k - 1)
+  breaks-last : (k : ℕ) → 0 < k → breaksTo starts levels k ≡ record { start = getD starts (k - 1) 0; level = getD levels (k - 1) 0 }
+      ∷ breaksTo starts levels (k - 1)
   unfolding breaksTo
   breaks-last k h =
       let e : k ≡ suc (k - 1) = omega arith in
@@ -33,7 +34,8 @@ module _ (starts levels : List ℕ) where
   breaks-length (suc k) = ap suc (breaks-length k)
 
   -- A last break point of level 0 begins no run.
-  pub below-last : (e k : ℕ) → levelOf (breaksTo starts levels k) ≡ 0 → runsBelow e (breaksTo starts levels k) ≡ runsBelow (getD starts (k - 1) 0) (breaksTo starts levels (k - 1))
+  pub below-last : (e k : ℕ) → levelOf (breaksTo starts levels k) ≡ 0
+      → runsBelow e (breaksTo starts levels k) ≡ runsBelow (getD starts (k - 1) 0) (breaksTo starts levels (k - 1))
   unfolding breaksTo runsBelow
   below-last e zero z = refl
   below-last e (suc k) z =
@@ -66,19 +68,24 @@ module _ (starts levels : List ℕ) where
   breaks-set k t v zero h = refl
   breaks-set k t v (suc n) h =
       let ne : n ≢ k = λ e. omega arith in
-      rw (getD-set-other starts k n t 0 ne, getD-set-other levels k n v 0 ne) (ap (λ (r : List Break). record { start = getD starts n 0; level = getD levels n 0 } ∷ r) (breaks-set k t v n (omega arith)))
+      rw (getD-set-other starts k n t 0 ne, getD-set-other levels k n v 0 ne)
+      (ap (λ (r : List Break). record { start = getD starts n 0; level = getD levels n 0 } ∷ r) (breaks-set k t v n (omega arith)))
 
-  pub breaks-push : (k t v : ℕ) → k < length starts → k < length levels → breaksTo (set starts k t) (set levels k v) (k + 1) ≡ record { start = t; level = v } ∷ breaksTo starts levels k
+  pub breaks-push : (k t v : ℕ) → k < length starts → k < length levels
+      → breaksTo (set starts k t) (set levels k v) (k + 1) ≡ record { start = t; level = v } ∷ breaksTo starts levels k
   unfolding breaksTo
   breaks-push k t v h l =
-      rw (add-one k, getD-set-same starts k t 0 h, getD-set-same levels k v 0 l) (ap (λ (r : List Break). record { start = t; level = v } ∷ r) (breaks-set k t v k (omega arith)))
+      rw (add-one k, getD-set-same starts k t 0 h, getD-set-same levels k v 0 l)
+      (ap (λ (r : List Break). record { start = t; level = v } ∷ r) (breaks-set k t v k (omega arith)))
 
   -- The level from t on is v already; or it is set.
-  pub set-same : (t v k count : ℕ) → breaksTo starts levels k ≡ breaksBefore t (breaksTo starts levels count) → levelOf (breaksTo starts levels k) ≡ v → breaksTo starts levels k ≡ setFrom t v (breaksTo starts levels count)
+  pub set-same : (t v k count : ℕ) → breaksTo starts levels k ≡ breaksBefore t (breaksTo starts levels count) → levelOf (breaksTo starts levels k) ≡ v
+      → breaksTo starts levels k ≡ setFrom t v (breaksTo starts levels count)
   unfolding setFrom
   set-same t v k count e l = rw (← e, eq-eqb _ _ l)
 
-  pub set-push : (t v k count : ℕ) → breaksTo starts levels k ≡ breaksBefore t (breaksTo starts levels count) → levelOf (breaksTo starts levels k) ≢ v → k < length starts → k < length levels
+  pub set-push : (t v k count : ℕ) → breaksTo starts levels k ≡ breaksBefore t (breaksTo starts levels count) → levelOf (breaksTo starts levels k) ≢ v
+      → k < length starts → k < length levels
       → breaksTo (set starts k t) (set levels k v) (k + 1) ≡ setFrom t v (breaksTo starts levels count)
   unfolding setFrom
   set-push t v k count e n h l = rw (← e, ne-eqb _ _ n) (breaks-push k t v h l)
@@ -86,23 +93,29 @@ module _ (starts levels : List ℕ) where
 -- The runs stored while they are made from break points in arrays.
 module _ (starts levels : List ℕ) where
   -- One break point more, and its run where its level is not 0.
-  pub runs-turn : (l : RunList) (i e d : ℕ) → cleared l ≡ storedRuns (runsBelow (getD starts i 0) (breaksTo starts levels i)) → l .count < 512 → d ≡ bit (ltb 0 (getD levels i 0))
-      → cleared (withNext l (record { start = getD starts i 0; end = e; level = getD levels i 0 }) (l .count + d)) ≡ storedRuns (runsBelow e (breaksTo starts levels (i + 1)))
+  pub runs-turn : (l : RunList) (i e d : ℕ) → cleared l ≡ storedRuns (runsBelow (getD starts i 0) (breaksTo starts levels i)) → l .count < 512
+      → d ≡ bit (ltb 0 (getD levels i 0))
+      → cleared (withNext l (record { start = getD starts i 0; end = e; level = getD levels i 0 }) (l .count + d))
+      ≡ storedRuns (runsBelow e (breaksTo starts levels (i + 1)))
   unfolding breaksTo runsBelow
   runs-turn l i e d h room q = rw (add-one i, q) (go (ltb 0 (getD levels i 0)))
     where
       go : (f : Bool) → cleared (withNext l (record { start = getD starts i 0; end = e; level = getD levels i 0 }) (l .count + bit f))
-          ≡ storedRuns (if f then runsBelow (getD starts i 0) (breaksTo starts levels i) ++ record { start = getD starts i 0; end = e; level = getD levels i 0 } ∷ [] else runsBelow (getD starts i 0) (breaksTo starts levels i))
+          ≡ storedRuns (if f then runsBelow (getD starts i 0) (breaksTo starts levels i) ++ record { start = getD starts i 0; end = e; level = getD levels i 0 }
+          ∷ [] else runsBelow (getD starts i 0) (breaksTo starts levels i))
       go true = stored-more l (runsBelow (getD starts i 0) (breaksTo starts levels i)) _ h room
       go false = rw (add-zero (l .count)) (stored-same l (runsBelow (getD starts i 0) (breaksTo starts levels i)) _ h)
 
-  below-length : (e n : ℕ) → length (runsBelow e (breaksTo starts levels (suc n))) ≡ length (runsBelow (getD starts n 0) (breaksTo starts levels n)) + bit (ltb 0 (getD levels n 0))
+  below-length : (e n : ℕ) → length (runsBelow e (breaksTo starts levels (suc n))) ≡ length (runsBelow (getD starts n 0) (breaksTo starts levels n))
+      + bit (ltb 0 (getD levels n 0))
   unfolding breaksTo runsBelow
   below-length e n = go (ltb 0 (getD levels n 0))
     where
-      go : (f : Bool) → length (if f then runsBelow (getD starts n 0) (breaksTo starts levels n) ++ record { start = getD starts n 0; end = e; level = getD levels n 0 } ∷ [] else runsBelow (getD starts n 0) (breaksTo starts levels n))
+      go : (f : Bool) → length (if f then runsBelow (getD starts n 0) (breaksTo starts levels n)
+          ++ record { start = getD starts n 0; end = e; level = getD levels n 0 } ∷ [] else runsBelow (getD starts n 0) (breaksTo starts levels n))
           ≡ length (runsBelow (getD starts n 0) (breaksTo starts levels n)) + bit f
-      go true = length-append (runsBelow (getD starts n 0) (breaksTo starts levels n)) (record { start = getD starts n 0; end = e; level = getD levels n 0 } ∷ [])
+      go true =
+          length-append (runsBelow (getD starts n 0) (breaksTo starts levels n)) (record { start = getD starts n 0; end = e; level = getD levels n 0 } ∷ [])
       go false = omega arith
 
   runs-grow : (n i e f : ℕ) → i ≤ n → length (runsBelow e (breaksTo starts levels i)) ≤ length (runsBelow f (breaksTo starts levels n))
@@ -110,12 +123,14 @@ module _ (starts levels : List ℕ) where
   runs-grow zero i e f h = let z : i ≡ 0 = omega arith in rw z (omega arith)
   runs-grow (suc n) i e f h = go (decLe i n) (runs-grow n i e (getD starts n 0))
     where
-      go : Dec (i ≤ n) → (i ≤ n → length (runsBelow e (breaksTo starts levels i)) ≤ length (runsBelow (getD starts n 0) (breaksTo starts levels n))) → length (runsBelow e (breaksTo starts levels i)) ≤ length (runsBelow f (breaksTo starts levels (suc n)))
+      go : Dec (i ≤ n) → (i ≤ n → length (runsBelow e (breaksTo starts levels i)) ≤ length (runsBelow (getD starts n 0) (breaksTo starts levels n)))
+          → length (runsBelow e (breaksTo starts levels i)) ≤ length (runsBelow f (breaksTo starts levels (suc n)))
       go (yes l) r = omega (arith, r l, below-length f n)
       go (no l) r =
           let z : i ≡ suc n = omega arith in
           rw z (omega (arith, below-length e n, below-length f n))
 
   -- The runs so far are no more than all.
-  pub runs-room : {l : RunList} (i n : ℕ) → l ≡ storedRuns (runsBelow (getD starts i 0) (breaksTo starts levels i)) → i ≤ n → l .count ≤ length (runsBelow (getD starts n 0) (breaksTo starts levels n))
+  pub runs-room : {l : RunList} (i n : ℕ) → l ≡ storedRuns (runsBelow (getD starts i 0) (breaksTo starts levels i)) → i ≤ n
+      → l .count ≤ length (runsBelow (getD starts n 0) (breaksTo starts levels n))
   runs-room i n made h = omega (arith, ap (λ (r : RunList). r .count) made, runs-grow n i (getD starts i 0) (getD starts n 0) h)

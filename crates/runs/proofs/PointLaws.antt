@@ -66,10 +66,12 @@ points-rise (e ∷ es) = insert-rises (e .start) _ (insert-rises (e .end) _ (poi
 pub points-length : (es : List Stretch) → length (endPoints es) ≡ length es + length es
 unfolding endPoints
 points-length [] = omega arith
-points-length (e ∷ es) = omega (arith, insert-length (e .start) (insertStation (e .end) (endPoints es)), insert-length (e .end) (endPoints es), points-length es)
+points-length (e ∷ es) =
+    omega (arith, insert-length (e .start) (insertStation (e .end) (endPoints es)), insert-length (e .end) (endPoints es), points-length es)
 
 -- What holds of every start and end holds of every end point; and the other way round each of them is one.
-pub points-each : (Q : ℕ → Type 0) (es : List Stretch) → ((e : Stretch) → List·Memᴰ e es → Q (e .start) × Q (e .end)) → (x : ℕ) → List·Memᴰ x (endPoints es) → Q x
+pub points-each : (Q : ℕ → Type 0) (es : List Stretch) → ((e : Stretch) → List·Memᴰ e es → Q (e .start) × Q (e .end)) → (x : ℕ) → List·Memᴰ x (endPoints es)
+    → Q x
 unfolding endPoints
 points-each Q [] all = λ x m. absurd (List·Memᴰ·not-nil m)
 points-each Q (e ∷ es) all =
@@ -82,7 +84,10 @@ points-of [] = λ e m. absurd (List·Memᴰ·not-nil m)
 points-of (x ∷ xs) =
     cons-each (λ e. List·Memᴰ (e .start) (endPoints (x ∷ xs)) × List·Memᴰ (e .end) (endPoints (x ∷ xs)))
     (insert-self (x .start) _, insert-keeps (x .start) _ _ (insert-self (x .end) _))
-    (λ e m. let w = points-of xs e m in (insert-keeps (x .start) _ _ (insert-keeps (x .end) _ _ (w .0)), insert-keeps (x .start) _ _ (insert-keeps (x .end) _ _ (w .1))))
+    (λ e m. let w = points-of xs e m in (
+      insert-keeps (x .start) _ _ (insert-keeps (x .end) _ _ (w .0)),
+      insert-keeps (x .start) _ _ (insert-keeps (x .end) _ _ (w .1)),
+    ))
 
 -- 3. The level between end points.
 

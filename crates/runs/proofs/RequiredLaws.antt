@@ -24,7 +24,8 @@ use Rattle.runs.proofs.RunsOfLaws.{RunsFrom, runs-cons, runs-skip, runs
 use Rattle.runs.proofs.PointLaws.{RisingPoints, points-rise, points-length, points-each, level-past, level-early, level-stays}
 
 -- A stretch of one level put before runs: left out, in front, or made one with the first.
-module _ (f : ℕ → ℕ) (r : Stretch) (order : r .start ≤ r .end) (top : r .level ≤ 6) (ends : r .end ≤ lastStation) (flat : (t : ℕ) → Has r t → r .level ≡ f t) where
+module _ (f : ℕ → ℕ) (r : Stretch) (order : r .start ≤ r .end) (top : r .level ≤ 6) (ends : r .end ≤ lastStation)
+    (flat : (t : ℕ) → Has r t → r .level ≡ f t) where
   real : Bool
   real = ltb (r .start) (r .end) && ltb 0 (r .level)
 
@@ -81,7 +82,10 @@ module _ (f : ℕ → ℕ) (r : Stretch) (order : r .start ≤ r .end) (top : r 
       go true e true d = made-one e x xs (eqb-true _ _ (and-left _ (eqb (r .level) (x .level)) d)) (eqb-true _ _ (and-right (eqb (r .end) (x .start)) _ d)) s
       go true e false d =
           let n = s .rising .0 in
-          in-front e (x ∷ xs) (record { rising = (follow-other (n .after) (λ p q. not-both (and-intro (eq-eqb _ _ p) (eq-eqb _ _ q)) d) n, s .rising .1); shows = s .shows })
+          in-front e (x ∷ xs) (record {
+            rising = (follow-other (n .after) (λ p q. not-both (and-intro (eq-eqb _ _ p) (eq-eqb _ _ q)) d) n, s .rising .1);
+            shows = s .shows;
+          })
 
 -- What stands behind the first of a rising list.
 not-first : {x p : ℕ} {ps : List ℕ} → List·Memᴰ x (p ∷ ps) → p < x → List·Memᴰ x ps
@@ -96,11 +100,14 @@ module _ (es : List Stretch) (G : ℕ) where
   f = requiredLevel es G
 
   -- The end points from p on are left.
-  runs-on : (p : ℕ) (ps : List ℕ) → RisingPoints (p ∷ ps) → ((x : ℕ) → List·Memᴰ x ps → x ≤ lastStation) → ((x : ℕ) → List·Memᴰ x (endPoints es) → p < x → List·Memᴰ x ps)
+  runs-on : (p : ℕ) (ps : List ℕ) → RisingPoints (p ∷ ps) → ((x : ℕ) → List·Memᴰ x ps → x ≤ lastStation)
+      → ((x : ℕ) → List·Memᴰ x (endPoints es) → p < x → List·Memᴰ x ps)
       → RunsFrom f p 0 (runsBetween f (p ∷ ps)) × (length (runsBetween f (p ∷ ps)) ≤ length ps)
   unfolding runsBetween f
-  runs-on p [] s by left =
-      (record { rising = tt; shows = λ t h. shown-nothing t ∙ sym (level-past es G t (λ x m. le-of-not-lt (λ k. List·Memᴰ·not-nil (left x m (omega arith))))) }, omega arith)
+  runs-on p [] s by left = (
+    record { rising = tt; shows = λ t h. shown-nothing t ∙ sym (level-past es G t (λ x m. le-of-not-lt (λ k. List·Memᴰ·not-nil (left x m (omega arith))))) },
+    omega arith,
+  )
   runs-on p (q ∷ ps) s by left =
       let le : p ≤ q = s .0 q (List·Memᴰ·head refl) in
       let rest = runs-on q ps (s .1) (λ x m. by x (List·Memᴰ·tail m)) (λ x m h. not-first (left x m (omega arith)) h) in
@@ -111,9 +118,11 @@ module _ (es : List Stretch) (G : ℕ) where
       in
       (w .0, omega (arith, w .1, rest .1))
 
-  runs-points : (ps : List ℕ) → endPoints es ≡ ps → ((x : ℕ) → List·Memᴰ x ps → x ≤ lastStation) → RisingPoints ps → RunsOf f (runsBetween f ps) × (length (runsBetween f ps) ≤ length ps - 1)
+  runs-points : (ps : List ℕ) → endPoints es ≡ ps → ((x : ℕ) → List·Memᴰ x ps → x ≤ lastStation) → RisingPoints ps
+      → RunsOf f (runsBetween f ps) × (length (runsBetween f ps) ≤ length ps - 1)
   unfolding runsBetween f
-  runs-points [] e by s = (record { rising = tt; shows = λ t. shown-nothing t ∙ sym (level-past es G t (λ x m. absurd (List·Memᴰ·not-nil (rw e at m)))) }, omega arith)
+  runs-points [] e by s =
+      (record { rising = tt; shows = λ t. shown-nothing t ∙ sym (level-past es G t (λ x m. absurd (List·Memᴰ·not-nil (rw e at m)))) }, omega arith)
   runs-points (p ∷ ps) e by s =
       let w = runs-on p ps s (λ x m. by x (List·Memᴰ·tail m)) (λ x m h. not-first (rw e at m) h) in
       let least = cons-each (λ x. p ≤ x) {y = p} (omega arith) (s .0) in

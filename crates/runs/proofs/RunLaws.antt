@@ -55,7 +55,8 @@ unfolding risingRuns mayFollow
 rising-test e v [] h = refl
 rising-test e v (r ∷ rs) h =
     let n = h .0 in
-    and-intro (and-intro (and-intro (and-intro (and-intro (and-intro (le-leb _ _ (n .after)) (lt-ltb _ _ (n .long))) (le-leb _ _ (n .ends))) (le-leb _ _ (n .low))) (le-leb _ _ (n .top)))
+    and-intro (and-intro (and-intro (and-intro (and-intro (and-intro (le-leb _ _ (n .after)) (lt-ltb _ _ (n .long))) (le-leb _ _ (n .ends)))
+    (le-leb _ _ (n .low))) (le-leb _ _ (n .top)))
     (apart e (r .start) v (r .level) (n .differs))) (rising-test (r .end) (r .level) rs (h .1))
 
 -- A run list is short, and its runs rise.
@@ -131,7 +132,14 @@ shown-run (r ∷ rs) t h = go (decLt t (r .start)) (decLt t (r .end)) (shown-run
     later : shownLevel (r ∷ rs) t ≡ shownLevel rs t → Rec → ShownRun (r ∷ rs) t
     later e rec =
         let w = rec (omega arith) in
-        record { run = w .run; before = r ∷ w .before; after = w .after; split = ap (λ (l : List Stretch). r ∷ l) (w .split); has = w .has; level = e ∙ w .level }
+        record {
+          run = w .run;
+          before = r ∷ w .before;
+          after = w .after;
+          split = ap (λ (l : List Stretch). r ∷ l) (w .split);
+          has = w .has;
+          level = e ∙ w .level;
+        }
 
     go : Dec (t < r .start) → Dec (t < r .end) → Rec → ShownRun (r ∷ rs) t
     go (yes a) b rec = later (shown-before r rs t a) rec

@@ -22,7 +22,8 @@ pub record RunsFrom (f : ℕ → ℕ) (e v : ℕ) (rs : List Stretch) : Type 0 w
 
 module _ {f : ℕ → ℕ} {rs : List Stretch} where
   -- A stretch of one level, in front.
-  pub runs-cons : (r : Stretch) (v : ℕ) → MayFollow (r .start) v r → ((t : ℕ) → Has r t → r .level ≡ f t) → RunsFrom f (r .end) (r .level) rs → RunsFrom f (r .start) v (r ∷ rs)
+  pub runs-cons : (r : Stretch) (v : ℕ) → MayFollow (r .start) v r → ((t : ℕ) → Has r t → r .level ≡ f t) → RunsFrom f (r .end) (r .level) rs
+      → RunsFrom f (r .start) v (r ∷ rs)
   runs-cons r v n flat s = record { rising = (n, s .rising); shows = λ t h. at t h (decLt t (r .end)) }
     where
       at : (t : ℕ) → r .start ≤ t → Dec (t < r .end) → shownLevel (r ∷ rs) t ≡ f t
@@ -53,7 +54,8 @@ module _ {f : ℕ → ℕ} {rs : List Stretch} where
 -- A member is a longest stretch of its level.
 member-run : {f : ℕ → ℕ} (e v : ℕ) (rs : List Stretch) → RunsFrom f e v rs → (0 < e → f (e - 1) ≡ v) → (r : Stretch) → List·Memᴰ r rs → IsRun f r
 member-run e v [] s last = λ r m. absurd (List·Memᴰ·not-nil m)
-member-run {f} e v (x ∷ xs) s last = cons-each (IsRun f) first (member-run (x .end) (x .level) xs rest (λ _. flat (x .end - 1) (omega (arith, n .long), omega (arith, n .long))))
+member-run {f} e v (x ∷ xs) s last =
+    cons-each (IsRun f) first (member-run (x .end) (x .level) xs rest (λ _. flat (x .end - 1) (omega (arith, n .long), omega (arith, n .long))))
   where
     n : MayFollow e v x
     n = s .rising .0
@@ -114,10 +116,12 @@ module _ (f : ℕ → ℕ) (rs : List Stretch) (of : RunsOf f rs) where
 
 member-after : (e v : ℕ) (rs : List Stretch) → Rising e v rs → (r : Stretch) → List·Memᴰ r rs → e ≤ r .start
 member-after e v [] h = λ r m. absurd (List·Memᴰ·not-nil m)
-member-after e v (x ∷ xs) h = cons-each (λ r. e ≤ r .start) (h .0 .after) (λ r m. omega (arith, h .0 .after, h .0 .long, member-after (x .end) (x .level) xs (h .1) r m))
+member-after e v (x ∷ xs) h =
+    cons-each (λ r. e ≤ r .start) (h .0 .after) (λ r m. omega (arith, h .0 .after, h .0 .long, member-after (x .end) (x .level) xs (h .1) r m))
 
 -- Without a common first run the members of one list are still members of the other.
-same-rest : (e v : ℕ) (r s : Stretch) (rs ss : List Stretch) → Rising e v (r ∷ rs) → r ≡ s → ((x : Stretch) → List·Memᴰ x (r ∷ rs) → List·Memᴰ x (s ∷ ss)) → (x : Stretch) → List·Memᴰ x rs → List·Memᴰ x ss
+same-rest : (e v : ℕ) (r s : Stretch) (rs ss : List Stretch) → Rising e v (r ∷ rs) → r ≡ s → ((x : Stretch) → List·Memᴰ x (r ∷ rs) → List·Memᴰ x (s ∷ ss))
+    → (x : Stretch) → List·Memᴰ x rs → List·Memᴰ x ss
 same-rest e v r s rs ss h same to x m = go (List·Memᴰ·cases-cons (to x (List·Memᴰ·tail m)))
   where
     go : (x ≡ s) ⊎ List·Memᴰ x ss → List·Memᴰ x ss
@@ -125,17 +129,20 @@ same-rest e v r s rs ss h same to x m = go (List·Memᴰ·cases-cons (to x (List
     go (inr k) = k
 
 -- Rising lists with the same members are equal.
-members-same : (e v e′ v′ : ℕ) (rs ss : List Stretch) → Rising e v rs → Rising e′ v′ ss → ((x : Stretch) → List·Memᴰ x rs → List·Memᴰ x ss) → ((x : Stretch) → List·Memᴰ x ss → List·Memᴰ x rs) → rs ≡ ss
+members-same : (e v e′ v′ : ℕ) (rs ss : List Stretch) → Rising e v rs → Rising e′ v′ ss → ((x : Stretch) → List·Memᴰ x rs → List·Memᴰ x ss)
+    → ((x : Stretch) → List·Memᴰ x ss → List·Memᴰ x rs) → rs ≡ ss
 members-same e v e′ v′ [] [] h k to from = refl
 members-same e v e′ v′ [] (s ∷ ss) h k to from = absurd (List·Memᴰ·not-nil (from s (List·Memᴰ·head refl)))
 members-same e v e′ v′ (r ∷ rs) [] h k to from = absurd (List·Memᴰ·not-nil (to r (List·Memᴰ·head refl)))
 members-same e v e′ v′ (r ∷ rs) (s ∷ ss) h k to from =
-    λ i. first i ∷ members-same (r .end) (r .level) (s .end) (s .level) rs ss (h .1) (k .1) (same-rest e v r s rs ss h first to) (same-rest e′ v′ s r ss rs k (sym first) from) i
+    λ i. first i ∷ members-same (r .end) (r .level) (s .end) (s .level) rs ss (h .1) (k .1) (same-rest e v r s rs ss h first to)
+    (same-rest e′ v′ s r ss rs k (sym first) from) i
   where
     go : (r ≡ s) ⊎ List·Memᴰ r ss → (s ≡ r) ⊎ List·Memᴰ s rs → r ≡ s
     go (inl q) w = q
     go (inr m) (inl q) = sym q
-    go (inr m) (inr o) = absurd (omega (arith, h .0 .long, k .0 .long, member-after (s .end) (s .level) ss (k .1) r m, member-after (r .end) (r .level) rs (h .1) s o))
+    go (inr m) (inr o) =
+        absurd (omega (arith, h .0 .long, k .0 .long, member-after (s .end) (s .level) ss (k .1) r m, member-after (r .end) (r .level) rs (h .1) s o))
 
     first : r ≡ s
     first = go (List·Memᴰ·cases-cons (to r (List·Memᴰ·head refl))) (List·Memᴰ·cases-cons (from s (List·Memᴰ·head refl)))

@@ -58,7 +58,11 @@ module _ {es : List Stretch} {G u : ℕ} {tops : List ℕ} {level : ℕ} {bs : L
   fall d a = record {
     begun = begun-later (omega (arith, low-top)) (s .begun);
     above = a;
-    shape = (omega arith, λ q. omega (arith, q ∙ level-last s, level-falls tops level d some (a .low)), shape-on _ (getD tops level 0) bs (omega (arith, low-top)) (just-before .shape));
+    shape = (
+      omega arith,
+      λ q. omega (arith, q ∙ level-last s, level-falls tops level d some (a .low)),
+      shape-on _ (getD tops level 0) bs (omega (arith, low-top)) (just-before .shape),
+    );
     shows = λ t h. at t h (decLt t (getD tops level 0));
     room = omega (arith, s .room, distinct-less tops level d some (a .low) (not-above a (suc d) (omega arith)));
   }
@@ -68,7 +72,8 @@ module _ {es : List Stretch} {G u : ℕ} {tops : List ℕ} {level : ℕ} {bs : L
 
       at : (t : ℕ) → t ≤ getD tops level 0 → Dec (t < getD tops level 0) → breakLevel (b ∷ bs) t ≡ requiredLevel es G t
       at t h (yes l) = at-earlier b bs t l ∙ just-before .shows t (omega arith)
-      at t h (no l) = at-last b bs t (omega arith) ∙ sym (level-after s t d (omega (arith, low-top)) (subst (λ (z : ℕ). Above tops z d) (let e : getD tops level 0 ≡ t = omega arith in e) a))
+      at t h (no l) = at-last b bs t (omega arith)
+          ∙ sym (level-after s t d (omega (arith, low-top)) (subst (λ (z : ℕ). Above tops z d) (let e : getD tops level 0 ≡ t = omega arith in e) a))
 
 -- A sweep that stands at or before s.
 pub record Standing (es : List Stretch) (G s : ℕ) (tops : List ℕ) (level : ℕ) (bs : List Break) : Type 0 where
@@ -77,8 +82,13 @@ pub record Standing (es : List Stretch) (G s : ℕ) (tops : List ℕ) (level : �
   pub stands : SweptTo es G at tops level bs
 
 module _ {es : List Stretch} {G s : ℕ} {tops : List ℕ} {level : ℕ} {bs : List Break} (w : Standing es G s tops level bs) where
-  pub standing-fall : (d : ℕ) → d ≡ aboveTo tops (getD tops level 0) 6 → 0 < level → getD tops level 0 ≤ s → Standing es G s tops d (record { start = getD tops level 0; level = d } ∷ bs)
-  standing-fall d e p h = record { at = getD tops level 0; by = h; stands = fall (w .stands) p d (subst (Above tops (getD tops level 0)) (sym e) (above-is (w .stands .begun) (getD tops level 0))) }
+  pub standing-fall : (d : ℕ) → d ≡ aboveTo tops (getD tops level 0) 6 → 0 < level → getD tops level 0 ≤ s
+      → Standing es G s tops d (record { start = getD tops level 0; level = d } ∷ bs)
+  standing-fall d e p h = record {
+    at = getD tops level 0;
+    by = h;
+    stands = fall (w .stands) p d (subst (Above tops (getD tops level 0)) (sym e) (above-is (w .stands .begun) (getD tops level 0)));
+  }
 
   pub standing-end : (0 < level → s < getD tops level 0) → SweptTo es G s tops level bs
   standing-end h = stay (w .stands) s (w .by) h
@@ -110,4 +120,5 @@ module _ {es : List Stretch} {G : ℕ} {tops : List ℕ} {level : ℕ} {bs : Lis
   last-zero = omega (arith, level-last s, zero-level)
 
   pub stands-last : (e : ℕ) → RunsOf (requiredLevel es G) (runsBelow e bs)
-  stands-last e = breaks-runs (requiredLevel es G) (level-top es G) bs e (s .shape) last-zero (λ t. stay s (t + lastStation) (omega arith) (λ p. absurd (omega (arith, zero-level))) .shows t (omega arith))
+  stands-last e = breaks-runs (requiredLevel es G) (level-top es G) bs e (s .shape) last-zero
+      (λ t. stay s (t + lastStation) (omega arith) (λ p. absurd (omega (arith, zero-level))) .shows t (omega arith))

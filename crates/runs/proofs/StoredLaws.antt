@@ -93,19 +93,26 @@ module _ (places : ℕ) (number : Stretch → ℕ) (rs : List Stretch) where
       rw (map-append number rs (r ∷ []), sym same) (padded-more places 0 (map number rs) (number r) (omega arith))
 
 -- The arrays store what they were made of.
-pub columns-stored : (places : ℕ) (rs : List Stretch) → runsTo (column places (λ r. r .start) rs) (column places (λ r. r .end) rs) (column places (λ r. r .level) rs) (length rs) ≡ rs
+pub columns-stored : (places : ℕ) (rs : List Stretch)
+    → runsTo (column places (λ r. r .start) rs) (column places (λ r. r .end) rs) (column places (λ r. r .level) rs) (length rs) ≡ rs
 columns-stored places rs =
     let n = runs-length (column places (λ r. r .start) rs) (column places (λ r. r .end) rs) (column places (λ r. r .level) rs) (length rs) in
     ext-getD noStretch _ rs n
     (λ i h. run-at _ _ _ i (length rs) (omega arith)
-    ∙ stretch-path _ _ (column-at places (λ r. r .start) rs i (omega arith)) (column-at places (λ r. r .end) rs i (omega arith)) (column-at places (λ r. r .level) rs i (omega arith)))
+    ∙ stretch-path _ _ (column-at places (λ r. r .start) rs i (omega arith)) (column-at places (λ r. r .end) rs i (omega arith))
+    (column-at places (λ r. r .level) rs i (omega arith)))
 
 pub runs-stored : (rs : List Stretch) → runsOf (storedRuns rs) ≡ rs
 runs-stored = columns-stored 512
 
 -- A stretch put behind the runs of a list, which then has n of them; and zeros put there.
 abbrev pub withNext : RunList → Stretch → (n : ℕ) → RunList
-withNext l r n = record { count = n; starts = set (l .starts) (l .count) (r .start); ends = set (l .ends) (l .count) (r .end); levels = set (l .levels) (l .count) (r .level) }
+withNext l r n = record {
+  count = n;
+  starts = set (l .starts) (l .count) (r .start);
+  ends = set (l .ends) (l .count) (r .end);
+  levels = set (l .levels) (l .count) (r .level);
+}
 
 abbrev pub cleared : RunList → RunList
 cleared l = withNext l noStretch (l .count)

@@ -33,19 +33,29 @@ envelopes-length keys ends (suc i) = ap suc (envelopes-length keys ends i)
 
 module _ (keys ends : List ℕ) (n G : ℕ) where
   -- Two places are enough for each envelope.
-  pub sweeping-room : {i : ℕ} {tops : List ℕ} {level : ℕ} (starts levels : List ℕ) (count : ℕ) → Sweeping keys ends n G i tops level (breaksTo starts levels count) → count + distinctTo tops level ≤ 2 * i
+  pub sweeping-room : {i : ℕ} {tops : List ℕ} {level : ℕ} (starts levels : List ℕ) (count : ℕ)
+      → Sweeping keys ends n G i tops level (breaksTo starts levels count) → count + distinctTo tops level ≤ 2 * i
   sweeping-room {i} starts levels count s = omega (arith, s .stands .room, breaks-length starts levels count, envelopes-length keys ends i)
 
-  pub room-left : {i most : ℕ} {tops : List ℕ} {level : ℕ} (starts levels : List ℕ) (count : ℕ) → Places starts levels → length tops ≡ 8 → 2 * i ≤ most → Sweeping keys ends n G i tops level (breaksTo starts levels count) → Room most starts levels tops count level
+  pub room-left : {i most : ℕ} {tops : List ℕ} {level : ℕ} (starts levels : List ℕ) (count : ℕ) → Places starts levels → length tops ≡ 8 → 2 * i ≤ most
+      → Sweeping keys ends n G i tops level (breaksTo starts levels count) → Room most starts levels tops count level
   room-left starts levels count places eight h s =
-      record { places = places; eight = eight; falling = tops-fall (s .stands .begun); small = above-small (s .stands .begun) (s .stands .above); within = omega (arith, sweeping-room starts levels count s) }
+      record {
+        places = places;
+        eight = eight;
+        falling = tops-fall (s .stands .begun);
+        small = above-small (s .stands .begun) (s .stands .above);
+        within = omega (arith, sweeping-room starts levels count s);
+      }
 
   pub sweeping-first : (tops starts levels : List ℕ) → ((v : ℕ) → getD tops v 0 ≡ 0) → Sweeping keys ends n G 0 tops 0 (breaksTo starts levels 0)
   unfolding envelopesTo breaksTo
   sweeping-first tops starts levels z = record { at = 0; early = omega arith; ahead = λ j h k. omega arith; stands = stands-first G tops z }
 
-  pub sweeping-turn : Sweepable keys ends n → (i : ℕ) → i < n → {tops tops′ : List ℕ} {level level′ : ℕ} {bs bs′ : List Break} → Sweeping keys ends n G i tops level bs
-      → Stepped tops (getD keys i 0 / 2048) (getD keys i 0 % 8) G level bs level′ bs′ → Raised (getD keys i 0 % 8) (getD ends (getD keys i 0 / 8 % 256) 0) tops tops′
+  pub sweeping-turn : Sweepable keys ends n → (i : ℕ) → i < n → {tops tops′ : List ℕ} {level level′ : ℕ} {bs bs′ : List Break}
+      → Sweeping keys ends n G i tops level bs
+      → Stepped tops (getD keys i 0 / 2048) (getD keys i 0 % 8) G level bs level′ bs′
+      → Raised (getD keys i 0 % 8) (getD ends (getD keys i 0 / 8 % 256) 0) tops tops′
       → Sweeping keys ends n G (i + 1) tops′ level′ bs′
   unfolding envelopesTo
   sweeping-turn ok i lt {tops′ = tops′} s t r =
@@ -54,7 +64,8 @@ module _ (keys ends : List ℕ) (n G : ℕ) where
         at = getD keys i 0 / 2048;
         early = omega (arith, x .long, x .ends);
         ahead = λ j h k. omega (arith, ok .rising i j (omega arith) k);
-        stands = rw (add-one i) (t (envelopesTo keys ends i) (s .at) (getD ends (getD keys i 0 / 8 % 256) 0) tops′ (s .ahead i (omega arith) lt) (s .stands) x r);
+        stands =
+            rw (add-one i) (t (envelopesTo keys ends i) (s .at) (getD ends (getD keys i 0 / 8 % 256) 0) tops′ (s .ahead i (omega arith) lt) (s .stands) x r);
       }
 
 -- Up to 256 sound envelopes have up to 511 runs.
@@ -67,7 +78,9 @@ module _ (keys ends : List ℕ) (n G : ℕ) (starts levels : List ℕ) (count : 
   swept-runs =
       let st = s .stands in
       sym (below-last starts levels 0 count (last-zero st))
-      ∙ runs-of-unique _ _ (stands-last st 0) (required-runs (envelopesTo keys ends n) G (λ x m. st .begun .sound x m .long) (λ x m. st .begun .sound x m .ends))
+      ∙ runs-of-unique _ _ (stands-last st 0) (required-runs (envelopesTo keys ends n) G (λ x m. st .begun .sound x m .long)
+      (λ x m. st .begun .sound x m .ends))
 
   pub swept-few : n ≤ 256 → length (runsBelow (getD starts (count - 1) 0) (breaksTo starts levels (count - 1))) ≤ mostRuns
-  swept-few h = omega (arith, ap length swept-runs, few-runs (envelopesTo keys ends n) G (s .stands .begun .sound) (omega (arith, envelopes-length keys ends n)))
+  swept-few h =
+      omega (arith, ap length swept-runs, few-runs (envelopesTo keys ends n) G (s .stands .begun .sound) (omega (arith, envelopes-length keys ends n)))

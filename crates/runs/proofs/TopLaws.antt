@@ -88,7 +88,8 @@ module _ (tops : List ℕ) (fall : Falling tops) where
   pub count-distinct : (level : ℕ) → 0 < level → level ≤ 6 → distinctTo tops (aboveTo tops (getD tops level 0) 6) + 1 ≤ distinctTo tops level
   count-distinct level p q =
       let c = above-count (getD tops level 0) 6 in
-      distinct-less tops level _ p (c .low) (le-of-not-lt (λ l. omega (arith, c .high (suc (aboveTo tops (getD tops level 0) 6)) (omega (arith, count-falls level p)) l)))
+      distinct-less tops level _ p (c .low) (le-of-not-lt
+      (λ l. omega (arith, c .high (suc (aboveTo tops (getD tops level 0) 6)) (omega (arith, count-falls level p)) l)))
 
 module _ (l e : ℕ) (tops tops′ : List ℕ) (raised : Raised l e tops tops′) where
   pub raised-high : (v : ℕ) → v ≤ l → getD tops′ v 0 ≡ max (getD tops v 0) e
@@ -101,7 +102,8 @@ module _ (l e : ℕ) (tops tops′ : List ℕ) (raised : Raised l e tops tops′
   fresh-less zero h = omega arith
   fresh-less (suc n) h = go (decLt (getD tops′ (suc (suc n)) 0) (getD tops′ (suc n) 0))
     where
-      go : Dec (getD tops′ (suc (suc n)) 0 < getD tops′ (suc n) 0) → bit (ltb (getD tops′ (suc (suc n)) 0) (getD tops′ (suc n) 0)) ≤ bit (ltb (getD tops (suc (suc n)) 0) (getD tops (suc n) 0))
+      go : Dec (getD tops′ (suc (suc n)) 0 < getD tops′ (suc n) 0)
+          → bit (ltb (getD tops′ (suc (suc n)) 0) (getD tops′ (suc n) 0)) ≤ bit (ltb (getD tops (suc (suc n)) 0) (getD tops (suc n) 0))
       go (yes k) =
           let a = raised-high (suc (suc n)) h in
           let b = raised-high (suc n) (omega arith) in
@@ -123,7 +125,8 @@ module _ (l e : ℕ) (tops tops′ : List ℕ) (raised : Raised l e tops tops′
       same zero k = refl
       same (suc n) k = rw (raised-low (suc (suc n)) (omega arith), raised-low (suc n) k)
 
-      go : Dec (l ≤ n) → (l ≤ n → distinctTo tops′ n ≤ distinctTo tops n + 1) → distinctTo tops′ n + bit (fresh tops′ n) ≤ distinctTo tops n + bit (fresh tops n) + 1
+      go : Dec (l ≤ n) → (l ≤ n → distinctTo tops′ n ≤ distinctTo tops n + 1)
+          → distinctTo tops′ n + bit (fresh tops′ n) ≤ distinctTo tops n + bit (fresh tops n) + 1
       go (no k) r = omega (arith, distinct-within n (omega arith), fresh-less n (omega arith))
       go (yes k) r = pick (decLt l n)
         where
@@ -137,7 +140,8 @@ module _ (l e : ℕ) (tops tops′ : List ℕ) (raised : Raised l e tops tops′
 
     no-fresh : (n : ℕ) → c < n → suc n ≤ l → bit (fresh tops′ n) ≡ 0
     no-fresh zero k m = absurd (omega arith)
-    no-fresh (suc n) k m = ap bit (le-ltb (getD tops′ (suc (suc n)) 0) (getD tops′ (suc n) 0) (omega (arith, top-is (suc (suc n)) (omega arith) m, top-is (suc n) k (omega arith))))
+    no-fresh (suc n) k m = ap bit (le-ltb (getD tops′ (suc (suc n)) 0) (getD tops′ (suc n) 0)
+        (omega (arith, top-is (suc (suc n)) (omega arith) m, top-is (suc n) k (omega arith))))
 
     distinct-flat : (n : ℕ) → c ≤ n → n ≤ l → distinctTo tops′ n ≤ distinctTo tops′ c + 1
     unfolding distinctTo
@@ -164,7 +168,8 @@ pub record Raising (l e v : ℕ) (old new : List ℕ) : Type 0 where
 pub raising-none : (l e : ℕ) (tops : List ℕ) → Raising l e 0 tops tops
 raising-none l e tops = record { passed = λ w h. absurd (omega arith); ahead = λ w h. refl }
 
-pub raising-turn : (l e v x : ℕ) (old new : List ℕ) → Raising l e v old new → v < length new → x ≡ raisedTop l e v (getD new v 0) → Raising l e (v + 1) old (set new v x)
+pub raising-turn : (l e v x : ℕ) (old new : List ℕ) → Raising l e v old new → v < length new → x ≡ raisedTop l e v (getD new v 0)
+    → Raising l e (v + 1) old (set new v x)
 raising-turn l e v x old new r h q = record {
   passed = store-next (λ w y. y ≡ raisedTop l e w (getD old w 0)) new v x h (r .passed) (q ∙ ap (raisedTop l e v) (r .ahead v (omega arith)));
   ahead = λ w k. getD-set-other new v w x 0 (λ z. omega arith) ∙ r .ahead w (omega arith);

@@ -36,7 +36,8 @@ pub record Drained (tops : List ℕ) (s count level : ℕ) (bs : List Break) (co
 -- The break points go on up to s, where an envelope of level l starts, whatever its end is.
 abbrev pub Stepped : (tops : List ℕ) (s l G level : ℕ) (bs : List Break) (level′ : ℕ) (bs′ : List Break) → Type 0
 Stepped tops s l G level bs level′ bs′ =
-    (es : List Stretch) (u e : ℕ) (tops′ : List ℕ) → u ≤ s → SweptTo es G u tops level bs → Sound (record { start = s; end = e; level = l }) → Raised l e tops tops′
+    (es : List Stretch) (u e : ℕ) (tops′ : List ℕ) → u ≤ s → SweptTo es G u tops level bs → Sound (record { start = s; end = e; level = l })
+    → Raised l e tops tops′
     → SweptTo (record { start = s; end = e; level = l } ∷ es) G s tops′ level′ bs′
 
 -- The envelopes of the first n keys, last one first.

@@ -75,7 +75,8 @@ pub record Begun (es : List Stretch) (u : ℕ) (tops : List ℕ) : Type 0 where
   pub by : (e : Stretch) → List·Memᴰ e es → e .start ≤ u
   pub top : (v : ℕ) → Top es v (getD tops v 0)
 
--- A sweep at station u, past the starts of these envelopes: their tops, the level at u, the break points up to u, of which there will be at most two for each envelope.
+-- A sweep at station u, past the starts of these envelopes: their tops, the level at u, the break points up to u, of which there will be at most two for each
+-- envelope.
 pub record SweptTo (es : List Stretch) (G u : ℕ) (tops : List ℕ) (level : ℕ) (bs : List Break) : Type 0 where
   pub begun : Begun es u tops
   pub above : Above tops u level

@@ -19,7 +19,11 @@ records-length : (e v E : ℕ) (rs : List Stretch) → Rising e v rs → EndsBy 
 unfolding writeRecords writeRecord
 records-length e v E [] h by = omega arith
 records-length e v E (r ∷ rs) h by =
-    rw (length-append (writeRecord e r) (writeRecords (r .end) rs), length-append (writeNumber (r .start - e)) (writeNumber (r .end - r .start) ++ writeNumber (r .level)), length-append (writeNumber (r .end - r .start)) (writeNumber (r .level)))
+    rw (
+      length-append (writeRecord e r) (writeRecords (r .end) rs),
+      length-append (writeNumber (r .start - e)) (writeNumber (r .end - r .start) ++ writeNumber (r .level)),
+      length-append (writeNumber (r .end - r .start)) (writeNumber (r .level)),
+    )
     (omega (
       arith,
       long-length (r .start - e),
@@ -41,7 +45,11 @@ unfolding writeRecords writeRecord
 road-records A [] u o = omega arith
 road-records A (r ∷ ss) u o =
     let here = o r (List·Memᴰ·head refl) in
-    rw (length-append (writeRecord 0 r) (writeRecords (r .end) ss), length-append (writeNumber (r .start - 0)) (writeNumber (r .end - r .start) ++ writeNumber (r .level)), length-append (writeNumber (r .end - r .start)) (writeNumber (r .level)))
+    rw (
+      length-append (writeRecord 0 r) (writeRecords (r .end) ss),
+      length-append (writeNumber (r .start - 0)) (writeNumber (r .end - r .start) ++ writeNumber (r .level)),
+      length-append (writeNumber (r .end - r .start)) (writeNumber (r .level)),
+    )
     (omega (
       arith,
       number-length (r .start - 0),
@@ -59,4 +67,5 @@ pub road-bytes : (A : ℕ) (rs : List Stretch) → isRunList rs ≡ true → OnR
 unfolding writeSchedule
 road-bytes A rs h on =
     let few = run-list-short rs h in
-    rw (length-append (writeNumber (length rs)) (writeRecords 0 rs)) (omega (arith, middle-length (length rs) (omega arith), road-records A rs (run-list-rising rs h) on))
+    rw (length-append (writeNumber (length rs)) (writeRecords 0 rs))
+    (omega (arith, middle-length (length rs) (omega arith), road-records A rs (run-list-rising rs h) on))

@@ -51,8 +51,10 @@ unfolding plan fitted
 plan-fits s side room p e =
     let b1 = bound (unless-refuse (leb side 1) Row.Argument) _ p e in
     let b2 = bound (acceptJob s) _ p (b1 .rest) in
-    let b3 = bound (unless-refuse (leb (length (writeSchedule (jobRuns (b2 .first) side))) room) (Row.Room (length (writeSchedule (jobRuns (b2 .first) side))))) _ p (b2 .rest) in
-    finish (record { schedule = writeSchedule (jobRuns (b2 .first) side); overhangs = sideOverhangs (b2 .first) side }) (tested _ (Row.Room (length (writeSchedule (jobRuns (b2 .first) side)))) _ (b3 .taken)) (b3 .rest)
+    let b3 = bound (unless-refuse (leb (length (writeSchedule (jobRuns (b2 .first) side))) room) (Row.Room (length (writeSchedule (jobRuns (b2 .first) side)))))
+    _ p (b2 .rest) in
+    finish (record { schedule = writeSchedule (jobRuns (b2 .first) side); overhangs = sideOverhangs (b2 .first) side })
+    (tested _ (Row.Room (length (writeSchedule (jobRuns (b2 .first) side)))) _ (b3 .taken)) (b3 .rest)
   where
     finish : (x : PlannedSide) → leb (length (x .schedule)) room ≡ true → accepted x ≡ accepted p → length (p .schedule) ≤ room
     finish x h q = let same : x ≡ p = cc in subst (λ (y : PlannedSide). length (y .schedule) ≤ room) same (leb-true _ _ h)
@@ -61,7 +63,8 @@ pub output-length : (s : List ℕ) (side : ℕ) (out : List ℕ) → length (out
 output-length s side out = go (plan s side (length out)) refl
   where
     go : (a : Answer PlannedSide) → plan s side (length out) ≡ a → length (outputAfter a out) ≡ length out
-    go (accepted p) e = let h = plan-fits s side (length out) p e in rw (length-append (p .schedule) (drop (length (p .schedule)) out), length-drop (length (p .schedule)) out) (omega arith)
+    go (accepted p) e = let h = plan-fits s side (length out) p e in
+        rw (length-append (p .schedule) (drop (length (p .schedule)) out), length-drop (length (p .schedule)) out) (omega arith)
     go (refused k v) e = refl
 
 -- The schedule of a side that was accepted.
@@ -90,6 +93,8 @@ planned-bytes j side fits =
     let on = runs-on-road j side fits r m in
     (on .0, omega (arith, on .1, header-bounds (j .header) (fits .fits .header) .road-length)))
 
-pub side-bytes : (s : List ℕ) (side : ℕ) (x : AcceptedSide) → sideOf s side ≡ accepted x → length (writeSchedule (requiredRuns (x .cuts .envelopes) (x .continuity))) ≤ 5624
+pub side-bytes : (s : List ℕ) (side : ℕ) (x : AcceptedSide) → sideOf s side ≡ accepted x
+    → length (writeSchedule (requiredRuns (x .cuts .envelopes) (x .continuity))) ≤ 5624
 unfolding jobRuns
-side-bytes s side x e = side-known s side x e (λ (y : AcceptedSide). length (writeSchedule (requiredRuns (y .cuts .envelopes) (y .continuity))) ≤ 5624) (λ j fits. planned-bytes j side fits)
+side-bytes s side x e = side-known s side x e (λ (y : AcceptedSide). length (writeSchedule (requiredRuns (y .cuts .envelopes) (y .continuity))) ≤ 5624)
+    (λ j fits. planned-bytes j side fits)

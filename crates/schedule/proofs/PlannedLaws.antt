@@ -58,7 +58,8 @@ pub planned-length : (s : List ℕ) (j : Job) (side : ℕ) (w : List ℕ) → Ac
 planned-length s j side w a h p z m on traffic r d t u l road =
     let fits = accepted-fits s j a in
     let some = divisor-some _ _ _ _ _ _ (domain-of j fits z m traffic r) in
-    let required = formula-level j fits z m traffic r d t u (raised-length-below _ _ _ _ _ _ _ (header-bounds (j .header) (fits .fits .header) .panel-low) some d .0 l) road in
+    let required = formula-level j fits z m traffic r d t u
+    (raised-length-below _ _ _ _ _ _ _ (header-bounds (j .header) (fits .fits .header) .panel-low) some d .0 l) road in
     let shown : scheduleLevel w t ≡ jobLevel j (z .side) t =
     ap (λ (x : List ℕ). scheduleLevel x t) (planned-only s j side w a h p) ∙ job-shown j side fits t ∙ ap (λ (x : ℕ). jobLevel j x t) (sym on) in
     subst (λ (x : ℕ). z .level ≤ x) (sym shown) required

@@ -82,7 +82,9 @@ read-schedule rs h =
     let count = writeNumber (length rs) in
     let s = count ++ writeRecords 0 rs in
     rw (read-number s 0 (length rs) (writeRecords 0 rs) (omega (arith, run-list-short rs h)) refl, le-leb (length rs) mostRuns (run-list-short rs h))
-    (ap (λ (a : Answer (List Stretch)). orTen a) (records-written s 0 0 (0 + length count) rs (run-list-rising rs h) (drop-after s 0 (writeNumber (length rs)) (writeRecords 0 rs) refl) (omega (arith, length-append count (writeRecords 0 rs)))))
+    (ap (λ (a : Answer (List Stretch)). orTen a)
+    (records-written s 0 0 (0 + length count) rs (run-list-rising rs h) (drop-after s 0 (writeNumber (length rs)) (writeRecords 0 rs) refl)
+    (omega (arith, length-append count (writeRecords 0 rs)))))
 
 pub schedule-runs : (s : List ℕ) (w : IsSchedule s) → readSchedule s ≡ accepted (w .runs)
 schedule-runs s w = ap readSchedule (w .writes) ∙ read-schedule (w .runs) (w .run-list)
@@ -185,7 +187,8 @@ module _ (s : List ℕ) where
   records-rise (suc k) e v at rs q =
       let f = first-read k e v at rs q in
       let more = records-rise k (f .first .run .end) (f .first .run .level) (f .first .next) (f .others) (f .others-read) in
-      subst (λ (x : List Stretch). (length x ≡ suc k) × (risingRuns e v x ≡ true)) (f .is) (ap suc (more .0), and-intro (record-read e v at (f .first) (f .first-read) .may) (more .1))
+      subst (λ (x : List Stretch). (length x ≡ suc k) × (risingRuns e v x ≡ true)) (f .is)
+      (ap suc (more .0), and-intro (record-read e v at (f .first) (f .first-read) .may) (more .1))
 
   -- What can be read is a run list.
   pub read-list : (rs : List Stretch) → readSchedule s ≡ accepted rs → isRunList rs ≡ true
@@ -225,7 +228,8 @@ module _ (s : List ℕ) (b : Bytes s) where
       let f = first-read s k e v at rs q in
       let p = f .first in
       subst (λ (x : List Stretch). drop at s ≡ writeRecords e x) (f .is)
-      (record-stands e v at p (f .first-read) .split ∙ ap (λ (x : List ℕ). writeRecord e (p .run) ++ x) (records-stand k (p .run .end) (p .run .level) (p .next) (f .others) (f .others-read)))
+      (record-stands e v at p (f .first-read) .split
+      ∙ ap (λ (x : List ℕ). writeRecord e (p .run) ++ x) (records-stand k (p .run .end) (p .run .level) (p .next) (f .others) (f .others-read)))
 
 -- What can be read is the writing of a run list.
 pub schedule-read : (s : List ℕ) (rs : List Stretch) → Bytes s → readSchedule s ≡ accepted rs → (isRunList rs ≡ true) × (s ≡ writeSchedule rs)

@@ -21,10 +21,16 @@ pub record-groups : (end start stop level : ℕ) → RecordFits end start stop l
     → length (writeRecord end (stretch start stop level)) ≡ groupCount (start - end) + groupCount (stop - start) + groupCount level
 unfolding writeRecord
 record-groups end start stop level f =
-    simp length-append (omega (arith, group-count (start - end) (omega (arith, f .long, f .ends)), group-count (stop - start) (omega (arith, f .ends)), group-count level (omega (arith, f .top))))
+    simp length-append (omega (
+      arith,
+      group-count (start - end) (omega (arith, f .long, f .ends)),
+      group-count (stop - start) (omega (arith, f .ends)),
+      group-count level (omega (arith, f .top)),
+    ))
 
 pub record-sum : (end start stop level : ℕ)
-    → length (writeRecord end (stretch start stop level)) ≡ length (writeNumber (start - end)) + length (writeNumber (stop - start)) + length (writeNumber level)
+    → length (writeRecord end (stretch start stop level)) ≡ length (writeNumber (start - end)) + length (writeNumber (stop - start))
+    + length (writeNumber level)
 unfolding writeRecord
 record-sum end start stop level = simp length-append (omega arith)
 
@@ -62,10 +68,12 @@ last-snoc : (e : ℕ) (rs : List Stretch) (r : Stretch) → lastEnd e (rs ++ r �
 last-snoc e [] r = refl
 last-snoc e (x ∷ rs) r = last-snoc (x .end) rs r
 
-records-split : (e : ℕ) (rs : List Stretch) (r : Stretch) (ss : List Stretch) → writeRecords e (rs ++ r ∷ ss) ≡ writeRecords e rs ++ (writeRecord (lastEnd e rs) r ++ writeRecords (r .end) ss)
+records-split : (e : ℕ) (rs : List Stretch) (r : Stretch) (ss : List Stretch)
+    → writeRecords e (rs ++ r ∷ ss) ≡ writeRecords e rs ++ (writeRecord (lastEnd e rs) r ++ writeRecords (r .end) ss)
 unfolding writeRecords
 records-split e [] r ss = refl
-records-split e (x ∷ rs) r ss = rw (records-split (x .end) rs r ss) (sym (append-assoc (writeRecord e x) (writeRecords (x .end) rs) (writeRecord (lastEnd (x .end) rs) r ++ writeRecords (r .end) ss)))
+records-split e (x ∷ rs) r ss = rw (records-split (x .end) rs r ss)
+    (sym (append-assoc (writeRecord e x) (writeRecords (x .end) rs) (writeRecord (lastEnd (x .end) rs) r ++ writeRecords (r .end) ss)))
 
 module _ (starts ends levels : List ℕ) where
   -- Each run of a run list fits behind those before it.
@@ -76,7 +84,8 @@ module _ (starts ends levels : List ℕ) where
       record { after = next .after; long = next .long; ends = next .ends; top = next .top }
 
   -- One record more.
-  pub records-more : (i : ℕ) → writeRecords 0 (firstRuns starts ends levels (i + 1)) ≡ writeRecords 0 (firstRuns starts ends levels i) ++ writeRecord (lastEnd 0 (firstRuns starts ends levels i)) (run starts ends levels i)
+  pub records-more : (i : ℕ) → writeRecords 0 (firstRuns starts ends levels (i + 1)) ≡ writeRecords 0 (firstRuns starts ends levels i)
+      ++ writeRecord (lastEnd 0 (firstRuns starts ends levels i)) (run starts ends levels i)
   unfolding runsTo writeRecords
   records-more i = rw (add-one i) (records-split 0 (firstRuns starts ends levels i) (run starts ends levels i) [] ∙ rw append-nil)
 
@@ -85,7 +94,8 @@ module _ (starts ends levels : List ℕ) where
   last-more i = rw (add-one i) (last-snoc 0 (firstRuns starts ends levels i) (run starts ends levels i))
 
   -- The first i records and the next are no longer than all n.
-  pub records-within : (i n : ℕ) → i < n → length (writeRecords 0 (firstRuns starts ends levels i)) + length (writeRecord (lastEnd 0 (firstRuns starts ends levels i)) (run starts ends levels i)) ≤ length (writeRecords 0 (firstRuns starts ends levels n))
+  pub records-within : (i n : ℕ) → i < n → length (writeRecords 0 (firstRuns starts ends levels i))
+      + length (writeRecord (lastEnd 0 (firstRuns starts ends levels i)) (run starts ends levels i)) ≤ length (writeRecords 0 (firstRuns starts ends levels n))
   records-within i n h =
       let b = behind starts ends levels i n h in
       rw (b .split, records-split 0 (firstRuns starts ends levels i) (run starts ends levels i) (b .rest), length-append, length-append) (omega arith)

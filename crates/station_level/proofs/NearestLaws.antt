@@ -6,7 +6,8 @@ use native.Mathlib.Decide.{decLe, decLt, ℕ-discrete}
 use mathlib.Core.Path.{_≡_, refl, sym, _∙_}
 use mathlib.Core.Logic.{_⊎_, inl, inr, _≢_}
 use mathlib.Core.Bool.{true, false, _&&_}
-use mathlib.Core.List.{List, [], _∷_, _++_, List·Memᴰ, List·Memᴰ·head, List·Memᴰ·not-nil, List·Memᴰ·append-cases, List·Memᴰ·eq-of-singleton, Memᴰ·append-left, Memᴰ·append-right}
+use mathlib.Core.List.{List, [], _∷_, _++_, List·Memᴰ, List·Memᴰ·head, List·Memᴰ·not-nil, List·Memᴰ·append-cases, List·Memᴰ·eq-of-singleton, Memᴰ·append-left}
+use mathlib.Core.List.{Memᴰ·append-right}
 use lib.ListN.{length, getD, set, replicate, getD-replicate}
 use lib.Seq.{getD-set-same, getD-set-other}
 use lib.Dec.{ltb}
@@ -63,7 +64,8 @@ module _ {Within : ℕ → ℕ → Type 0} {best : ℕ → ℕ → ℕ} (further
       one n (inr q) = let w = t .one (λ z. n (q ∙ z)) in (w .0, tu (w .0) (w .1), w .2 ∙ sym q)
 
   -- The same set.
-  extreme-same : (S U : Stretch → Type 0) (x : ℕ) → Extreme Within none number S x → ((e : Stretch) → S e → U e) → ((e : Stretch) → U e → S e) → Extreme Within none number U x
+  extreme-same : (S U : Stretch → Type 0) (x : ℕ) → Extreme Within none number S x → ((e : Stretch) → S e → U e) → ((e : Stretch) → U e → S e)
+      → Extreme Within none number U x
   extreme-same S U x s su us = record { each = λ e u. s .each e (us e u); one = λ n. let w = s .one n in (w .0, su (w .0) (w .1), w .2) }
 
   -- For each level, of the envelopes of a list that pass P.
@@ -84,7 +86,8 @@ module _ {Within : ℕ → ℕ → Type 0} {best : ℕ → ℕ → ℕ} (further
           go (inr k) = inr (List·Memᴰ·eq-of-singleton k)
 
       -- It is none of those kept.
-      kept-other : (v : ℕ) → v ≤ 6 → (Sought (es ++ x ∷ []) P (λ (l : ℕ). l ≡ v) x → ⊥) → Extreme Within none number (Sought (es ++ x ∷ []) P (λ (l : ℕ). l ≡ v)) (getD a v 0)
+      kept-other : (v : ℕ) → v ≤ 6 → (Sought (es ++ x ∷ []) P (λ (l : ℕ). l ≡ v) x → ⊥)
+          → Extreme Within none number (Sought (es ++ x ∷ []) P (λ (l : ℕ). l ≡ v)) (getD a v 0)
       kept-other v h n = extreme-same _ _ _ (kept v h) (old v) (λ e m. go e m (cases v e m))
         where
           go : (e : Stretch) → Sought (es ++ x ∷ []) P (λ (l : ℕ). l ≡ v) e → Sought es P (λ (l : ℕ). l ≡ v) e ⊎ (e ≡ x) → Sought es P (λ (l : ℕ). l ≡ v) e
@@ -102,14 +105,17 @@ module _ {Within : ℕ → ℕ → Type 0} {best : ℕ → ℕ → ℕ} (further
 
           go : Dec (v ≡ x .level) → Extreme Within none number (Sought (es ++ x ∷ []) P (λ (l : ℕ). l ≡ v)) (getD (set a (x .level) new) v 0)
           go (yes q) = rw (q, getD-set-same a (x .level) new 0 fits)
-              (extreme-both _ (λ (e : Stretch). e ≡ x) _ _ _ (kept (x .level) (omega arith)) (record { each = λ e z. rw z (further .self (number x)); one = λ n. (x, refl, refl) })
+              (extreme-both _ (λ (e : Stretch). e ≡ x) _ _ _ (kept (x .level) (omega arith))
+              (record { each = λ e z. rw z (further .self (number x)); one = λ n. (x, refl, refl) })
               (old (x .level)) (λ e z. rw z (Memᴰ·append-right es (List·Memᴰ·head refl), refl, p)) (cases (x .level)))
           go (no q) = rw (getD-set-other a (x .level) v new 0 q) (kept-other v h (λ m. q (sym (m .1))))
 
     -- The levels above v and level v are those above v - 1.
-    pub from-level : (v x : ℕ) → 0 < v → v ≤ 6 → Extreme Within none number (Sought es P (λ (l : ℕ). v < l)) x → Extreme Within none number (Sought es P (λ (l : ℕ). v - 1 < l)) (best x (getD a v 0))
+    pub from-level : (v x : ℕ) → 0 < v → v ≤ 6 → Extreme Within none number (Sought es P (λ (l : ℕ). v < l)) x
+        → Extreme Within none number (Sought es P (λ (l : ℕ). v - 1 < l)) (best x (getD a v 0))
     from-level v x some h above =
-        extreme-both _ _ _ _ _ above (kept v h) (λ e m. (m .0, omega (arith, m .1), m .2)) (λ e m. (m .0, omega (arith, m .1), m .2)) (λ e m. go e m (decLt v (e .level)))
+        extreme-both _ _ _ _ _ above (kept v h) (λ e m. (m .0, omega (arith, m .1), m .2)) (λ e m. (m .0, omega (arith, m .1), m .2))
+        (λ e m. go e m (decLt v (e .level)))
       where
         go : (e : Stretch) → Sought es P (λ (l : ℕ). v - 1 < l) e → Dec (v < e .level) → Sought es P (λ (l : ℕ). v < l) e ⊎ Sought es P (λ (l : ℕ). l ≡ v) e
         go e m (yes q) = inl (m .0, q, m .2)
@@ -124,7 +130,8 @@ none-kept keys lasts t = rw (keyed-none keys lasts) (record {
 })
 
 -- One envelope more: it has begun at the station, or lies ahead. Its level is a rest by 8, so it has a place.
-module _ (keys lasts : List ℕ) (n : ℕ) (keyed : Keyed keys lasts n) (i t : ℕ) (below : i < n) (near : Nearest) (kept : NearestOf (keyedEnvelopes keys lasts i) t near) where
+module _ (keys lasts : List ℕ) (n : ℕ) (keyed : Keyed keys lasts n) (i t : ℕ) (below : i < n) (near : Nearest)
+    (kept : NearestOf (keyedEnvelopes keys lasts i) t near) where
   abbrev x : Stretch
   x = envelopeAt keys lasts i
 
@@ -153,7 +160,8 @@ ends-known es sound t near kept v h = go (decLt 0 (getD (near .ends) v 0))
 -- The level read off
 
 -- Where these are the last end and the first start of level v and those above it, the test says whether the filled set of v has the station.
-module _ (es : List Stretch) (sound : AllSound es) (G t v end start : ℕ) (some : 0 < v) (last : LastEnd es t (λ (l : ℕ). v - 1 < l) end) (first : FirstStart es t (λ (l : ℕ). v - 1 < l) start) where
+module _ (es : List Stretch) (sound : AllSound es) (G t v end start : ℕ) (some : 0 < v) (last : LastEnd es t (λ (l : ℕ). v - 1 < l) end)
+    (first : FirstStart es t (λ (l : ℕ). v - 1 < l) start) where
   test→joined : G ≤ 4294967295 → hasStation end start G t ≡ true → Joined es v G t
   test→joined few h = inside (decLt t end)
     where
@@ -163,7 +171,8 @@ module _ (es : List Stretch) (sound : AllSound es) (G t v end start : ℕ) (some
           let close = ltb-true start (end + G) (and-right (ltb 0 end) _ q) in
           let a = last .one (λ z. omega (arith, ltb-true 0 end (and-left _ (ltb start (end + G)) q))) in
           let b = first .one (λ z. omega (arith, sound (a .0) (a .1 .0) .ends, a .2)) in
-          bridged (a .0) (b .0) (a .1 .0) (b .1 .0) (omega (arith, a .1 .1)) (omega (arith, b .1 .1)) (omega (arith, a .2)) (b .1 .2) (omega (arith, a .2, b .2))
+          bridged (a .0) (b .0) (a .1 .0) (b .1 .0) (omega (arith, a .1 .1)) (omega (arith, b .1 .1)) (omega (arith, a .2)) (b .1 .2)
+          (omega (arith, a .2, b .2))
 
       inside : Dec (t < end) → Joined es v G t
       inside (yes l) = let a = last .one (λ z. omega arith) in covered (a .0) (a .1 .0) (omega (arith, a .1 .1)) (a .1 .2, omega (arith, a .2))
@@ -184,7 +193,8 @@ read-none es sound G t = record {
   level = level-top es G t;
 }
 
-module _ (es : List Stretch) (sound : AllSound es) (near : Nearest) (G t v end start : ℕ) (kept : NearestOf es t near) (read : ReadTo es G t v end start) (some : 0 < v) (top : v ≤ 6)
+module _ (es : List Stretch) (sound : AllSound es) (near : Nearest) (G t v end start : ℕ) (kept : NearestOf es t near) (read : ReadTo es G t v end start)
+    (some : 0 < v) (top : v ≤ 6)
     {e s : ℕ} (p : e ≡ max end (getD (near .ends) v 0)) (q : s ≡ min start (getD (near .starts) v 0)) where
   last : LastEnd es t (λ (l : ℕ). v - 1 < l) e
   last = rw p (from-level later 0 _ _ _ (near .ends) (kept .ends) v end some top (read .ends))

@@ -59,7 +59,8 @@ module _ (h : Header) (z : Hazard) {o : Own} (is : o ≡ ownEnvelope h z) where
   unfolding hazardReach roadReach withdrawalReach lengthenedAtBothEnds cutToRoad
   told-found f a b = rw (a, b, found-reached f, reached-so (found-reached f))
 
-  pub told-missing : o .found ≡ false → _≡_ {A = Reach} (record { side = z .side; start = 0; end = 0; overhangs = o .overhangs; from = 0; to = 0 }) (hazardReach h z)
+  pub told-missing : o .found ≡ false → _≡_ {A = Reach} (record { side = z .side; start = 0; end = 0; overhangs = o .overhangs; from = 0; to = 0 })
+      (hazardReach h z)
   unfolding hazardReach
   told-missing f = rw (missing-unreached f, unreached-so (missing-unreached f))
 
@@ -75,7 +76,8 @@ told-indexed : (s : List ℕ) (i : ℕ) → reach s i ≡ (indexedHazard s i >>=
 unfolding reach indexedHazard
 told-indexed s i = go (acceptJob s)
   where
-    one : (j : Job) (there : Bool) → (unless-refuse there Row.Hazard >>= λ _. tell (own j i)) ≡ (unless-refuse there Row.Hazard >>= (λ _. accepted (own j i)) >>= tell)
+    one : (j : Job) (there : Bool) → (unless-refuse there Row.Hazard >>= λ _. tell (own j i))
+        ≡ (unless-refuse there Row.Hazard >>= (λ _. accepted (own j i)) >>= tell)
     one j true = refl
     one j false = refl
 

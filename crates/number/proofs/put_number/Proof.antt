@@ -16,14 +16,16 @@ use Rattle.number.proofs.put_number.Tie as tie
 
 abbrev Inv-loop : tie.InvT-loop
 Inv-loop out₀ at x i₀ rest₀ out i rest =
-    (rest ≤ greatestNumber) × (i + length (writeNumber rest) ≡ at + length (writeNumber x)) × (length out ≡ length out₀) × (sets out i (writeNumber rest) ≡ sets out₀ at (writeNumber x))
+    (rest ≤ greatestNumber) × (i + length (writeNumber rest) ≡ at + length (writeNumber x)) × (length out ≡ length out₀)
+    × (sets out i (writeNumber rest) ≡ sets out₀ at (writeNumber x))
 
 abbrev μ-loop : tie.MeasureT-loop
 μ-loop out₀ at x i₀ rest₀ out i rest = rest
 
 -- In a turn `rest` has several groups, and behind the loop one.
 more : (c : tie.In-loop Inv-loop μ-loop) → writeNumber (c .before .loop .rest) ≡ (128 + c .before .loop .rest % 128) ∷ writeNumber (c .before .loop .rest / 128)
-more c = let r = c .before .loop .rest in write-step r (c .loop-test .taken) (c .before .loop .inv .0) ∙ ap (λ (b : ℕ). b ∷ writeNumber (r / 128)) (add-comm (r % 128) 128)
+more c = let r = c .before .loop .rest in
+    write-step r (c .loop-test .taken) (c .before .loop .inv .0) ∙ ap (λ (b : ℕ). b ∷ writeNumber (r / 128)) (add-comm (r % 128) 128)
 
 last : (c : tie.After-loop Inv-loop μ-loop) → writeNumber (c .before .loop .rest) ≡ c .before .loop .rest ∷ []
 last c = write-one (c .before .loop .rest) (c .loop-test .left)

@@ -17,7 +17,8 @@ use Rattle.number.proofs.read_number.Tie as tie
 
 abbrev Inv-loop : tie.InvT-loop
 Inv-loop s at first low₀ weight₀ next₀ passed₀ low weight next passed =
-    (0 < passed) × (passed ≤ 6) × (next ≤ length s) × (next ≡ at + passed) × (weight ≡ 128 ^ passed) × (low < weight) × (readNumber s at ≡ readAfterGroups low weight passed s at)
+    (0 < passed) × (passed ≤ 6) × (next ≤ length s) × (next ≡ at + passed) × (weight ≡ 128 ^ passed) × (low < weight)
+    × (readNumber s at ≡ readAfterGroups low weight passed s at)
 
 abbrev μ-loop : tie.MeasureT-loop
 μ-loop s at first low₀ weight₀ next₀ passed₀ low weight next passed = 6 - passed
@@ -107,7 +108,8 @@ returns-4 : tie.Need-returns-4 Inv-loop μ-loop
 returns-4 c =
     let b = c .before .before in
     let l = b .before .before .before .loop in
-    numbered (S b) (At b) _ (sym (l .inv .6 ∙ read-needless (Low b) (Weight b) (Passed b) (S b) (At b) (omega arith) (omega arith) (omega arith) (counts b) (l .inv .5) (omega (arith, stands b))))
+    numbered (S b) (At b) _ (sym (l .inv .6 ∙ read-needless (Low b) (Weight b) (Passed b) (S b) (At b) (omega arith) (omega arith) (omega arith) (counts b)
+    (l .inv .5) (omega (arith, stands b))))
 
 returns-5 : tie.Need-returns-5 Inv-loop μ-loop
 returns-5 c =
@@ -116,7 +118,8 @@ returns-5 c =
     numbered (S b) (At b) _ (
     ap₂ Number (ap (λ (m : ℕ). Low b + Weight b * m) (stands b)) (omega arith)
     ∙ sym (l .inv .6
-    ∙ read-whole (Low b) (Weight b) (Passed b) (S b) (At b) (omega arith) (omega arith) (omega arith) (counts b) (l .inv .5) (omega (arith, stands b)) (omega (arith, stands b)) (omega (arith, weight-le b, room-last b (omega (arith, stands b))))))
+    ∙ read-whole (Low b) (Weight b) (Passed b) (S b) (At b) (omega arith) (omega arith) (omega arith) (counts b) (l .inv .5) (omega (arith, stands b))
+    (omega (arith, stands b)) (omega (arith, weight-le b, room-last b (omega (arith, stands b))))))
 
 loop-again : tie.Need-loop-again Inv-loop μ-loop
 loop-again c =
@@ -140,7 +143,8 @@ returns-6 c =
     let l = c .before .loop in
     let a = c .before .before .before .before .before .args in
     let six : l .passed ≡ 6 = omega arith in
-    numbered (a .s .now) (a .at) _ (sym (l .inv .6 ∙ ap (λ (k : ℕ). readAfterGroups (l .low) (l .weight) k (a .s .now) (a .at)) six ∙ read-overlong (l .low) (l .weight) (a .s .now) (a .at)))
+    numbered (a .s .now) (a .at) _ (sym (l .inv .6 ∙ ap (λ (k : ℕ). readAfterGroups (l .low) (l .weight) k (a .s .now) (a .at)) six
+    ∙ read-overlong (l .low) (l .weight) (a .s .now) (a .at)))
 
 pub read-number-spec : {M : Type 1} → statement M
 read-number-spec =
@@ -149,4 +153,5 @@ read-number-spec =
     (λ c. omega arith) returns-2 (λ c. omega arith) loop-holds returns-3 (λ c. omega arith) (λ c. omega (arith, byte c, stands c))
     (λ c. rw (stands c) (omega (arith, weight-le c, room c))) (λ c. rw (stands c) (omega (arith, weight-le c, room c))) (λ c. omega arith)
     (λ c. omega arith) returns-4 returns-5 (λ c. omega (arith, weight-le (c .before)))
-    (λ c. rw (stands (c .before)) (omega (arith, mul-le-mul-left {m = 128} {n = B (c .before)} (Weight (c .before)) (omega (arith, stands (c .before)))))) (λ c. omega arith) loop-again returns-6)
+    (λ c. rw (stands (c .before)) (omega (arith, mul-le-mul-left {m = 128} {n = B (c .before)} (Weight (c .before)) (omega (arith, stands (c .before))))))
+    (λ c. omega arith) loop-again returns-6)

@@ -6,4 +6,5 @@ use Rattle.replies.proofs.refused.Statement.{statement}
 use Rattle.replies.proofs.refused.Tie as tie
 
 pub refused-spec : {M : Type 1} → statement M
-refused-spec = tie.close (tie.spec (λ c κs. search needs) (λ c κs. search needs) (λ c. ap₂ reply (c .before .refusal-number .ensures) (c .refusal-value .ensures)))
+refused-spec =
+    tie.close (tie.spec (λ c κs. search needs) (λ c κs. search needs) (λ c. ap₂ reply (c .before .refusal-number .ensures) (c .refusal-value .ensures)))

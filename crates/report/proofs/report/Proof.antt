@@ -24,19 +24,30 @@ start c = c .before .before .before .before .before .before .before
 sides : (c : tie.After-side-runs2) → Sides (start c .args .job .now) (c .before .before .before .side-runs .result) (c .side-runs2 .result)
 sides c =
     let first = c .before .before .before .side-runs in
-    sides-done (start c .args .job .now) (first .result) (first .ensures .0) (c .side-runs2 .result) (c .side-runs2 .ensures .0) (c .before .enum-told .given .1)
+    sides-done (start c .args .job .now) (first .result) (first .ensures .0) (c .side-runs2 .result) (c .side-runs2 .ensures .0)
+    (c .before .enum-told .given .1)
 
 put-runs-requires : tie.Need-put-runs-requires
 put-runs-requires c κs =
     let d = c .before .before .before in
     let both = sides d in
-    let room : mostText ≤ length (start d .args .text .now) = d .before .before .before .before .if1 .left in
-    (both .right-list, (both .left-list, omega (arith, runs-report-fits (runsOf (d .before .before .before .side-runs .result .runs)) (runsOf (d .side-runs2 .result .runs)) (both .right-list) (both .left-list))))
+    let room : mostText ≤ length (start d .args .text .now) = d .before .before .before .before .if1 .left in (
+      both .right-list,
+      (
+        both .left-list,
+        omega (
+          arith,
+          runs-report-fits (runsOf (d .before .before .before .side-runs .result .runs)) (runsOf (d .side-runs2 .result .runs)) (both .right-list)
+              (both .left-list),
+        ),
+      ),
+    )
 
 returns-2 : tie.Need-returns-2
 returns-2 c =
     let d = c .before .before .before .before .before .before in
-    text-printed (start d .args .job .now) (start d .args .text .now) (d .before .before .before .before .if1 .left) (rw (sides d .text) (c .before .before .put-runs .ensures))
+    text-printed (start d .args .job .now) (start d .args .text .now) (d .before .before .before .before .if1 .left)
+    (rw (sides d .text) (c .before .before .put-runs .ensures))
 
 put-refused-requires : tie.Need-put-refused-requires
 put-refused-requires c κs = le-trans (refused-fits _ _) (c .before .before .before .before .before .before .before .if1 .left)
@@ -48,7 +59,8 @@ returns-3 c =
     let first = r .before .before .side-runs in
     let told = sides-refused (a .job .now) (first .result) (first .ensures .0) (r .outcome .given .0 .0) (r .outcome .given .1) in
     text-printed (a .job .now) (a .text .now) (r .before .before .before .if1 .left)
-    (rw told (rw (c .before .before .before .before .before .refusal-number .ensures, c .before .before .before .before .refusal-value .ensures) at (c .before .before .put-refused .ensures)))
+    (rw told (rw (c .before .before .before .before .before .refusal-number .ensures, c .before .before .before .before .refusal-value .ensures) at
+    (c .before .before .put-refused .ensures)))
 
 pub report-spec : {M : Type 1} → statement M
 report-spec =

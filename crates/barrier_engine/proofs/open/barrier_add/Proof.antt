@@ -1,4 +1,5 @@
--- `barrier_engine::open::barrier_add` meets its contract: a walk of its code. The memory is tested, the present state goes through `added` by value, and what comes of it is stored.
+-- `barrier_engine::open::barrier_add` meets its contract: a walk of its code. The memory is tested, the present state goes through `added` by value, and what
+-- comes of it is stored.
 -- All that the proof knows of the functions called is that they meet their contracts. Assumes nothing.
 use mathlib.Core.Bool.{_&&_}
 use Rattle.open_memory.specs.Memory.{hazardGiven, isOpenJob}
@@ -13,7 +14,8 @@ use Rattle.replies.specs.OpenInterface.{changedBy}
 use Rattle.replies.specs.declared.open.Changed.{Changed}
 use Rattle.replies.proofs.ShellLaws.{tested, add-shell}
 use Rattle.replies.proofs.open.added.{Symbol.name as #added, Symbol.routine as added-routine, Met.met as added-met}
-use Rattle.barrier_engine.proofs.Walks.{refl, List, [], _∷_, URA, w16, Lft, Heap, Calls, Loops, Atoms, tables, Given, _$_, _∵_, !, qed, by, move, look, init, stop, from, and-then, no-more, returns, enter, alloc1, alloc0, params1, pass1, pass0}
+use Rattle.barrier_engine.proofs.Walks.{refl, List, [], _∷_, URA, w16, Lft, Heap, Calls, Loops, Atoms, tables, Given, _$_, _∵_, !, qed, by, move, look}
+use Rattle.barrier_engine.proofs.Walks.{init, stop, from, and-then, no-more, returns, enter, alloc1, alloc0, params1, pass1, pass0}
 use Rattle.barrier_engine.proofs.Walks.{free0, FmC, Denots, Triple, cited}
 use Rattle.barrier_engine.proofs.Data.{Data, struct, truth, uint, rows}
 use Rattle.barrier_engine.proofs.ByValue.{Gives}
@@ -53,14 +55,16 @@ module _ {M : Type 1} (𝓤 : URA M) (H : Heap 𝓤) (A : Atoms 𝓤) (W : Given
       let r : Changed = result κ m a in
       qed W (lent 𝓤 H A κ q b o γ m) ∵ enter ! C Λ code.function _ _ $
       alloc1 ! (λ l0. alloc1 ! (λ l1. alloc1 ! (λ l2. alloc1 ! (λ l3. alloc1 ! (λ l4. alloc1 ! (λ l5. alloc1 ! (λ l6. alloc1 ! (λ l7. alloc0 ! $ params1 ! $
-      pass1 ! (init ! 12 refl (tt, tt)) $ pass1 ! (init ! 10 refl (uint w16 .typed 𝓤 H A W (a .0) (fits .0))) $ pass1 ! (init ! 8 refl (hazard .typed 𝓤 H A W (a .1 .0) (fits .1 .0))) $ pass0 ! $
+      pass1 ! (init ! 12 refl (tt, tt)) $ pass1 ! (init ! 10 refl (uint w16 .typed 𝓤 H A W (a .0) (fits .0))) $
+      pass1 ! (init ! 8 refl (hazard .typed 𝓤 H A W (a .1 .0) (fits .1 .0))) $ pass0 ! $
       move ! (16 ∷ 17 ∷ 18 ∷ []) $ takes ! tt b o m (λ was.
       let p : Parts m = parts m was in
       -- [the memory; job, sound, its reference, now, name, hazard, done, the result; ..]
       move ! (0 ∷ 16 ∷ 10 ∷ 6 ∷ 4 ∷ 14 ∷ 12 ∷ 8 ∷ 18 ∷ []) $ tells ! fm known 1 6 4 refl refl refl (tt, tt) m was $
       copies ! 0 refl refl refl refl (look ! 1 refl) refl (init ! 4 refl (stored .typed 𝓤 H A W (m .present) (p .present-fits))) $
       asks ! fm Added changed added known-added (allSound m, (m .present, a)) (refl, (p .present-fits, fits))
-      (and-then ! (var ! 2 refl) (and-then ! (var ! 4 refl) (and-then ! (var ! 5 refl) (and-then ! (var ! 6 refl) (no-more !))))) (from ! (stop !)) (init ! 7 refl) (λ i.
+      (and-then ! (var ! 2 refl) (and-then ! (var ! 4 refl) (and-then ! (var ! 5 refl) (and-then ! (var ! 6 refl) (no-more !))))) (from ! (stop !))
+      (init ! 7 refl) (λ i.
       move ! (0 ∷ 1 ∷ 7 ∷ 8 ∷ []) $ changes ! 1 5 refl refl refl m r i $
       move ! (0 ∷ 9 ∷ 10 ∷ 11 ∷ []) $ puts ! tt b o (made κ m a) (whole (made κ m a) (with-now m (r .next) p (changed-fits r i .0))) $
       -- [the reference; the locals; what frees each]
@@ -71,7 +75,9 @@ module _ {M : Type 1} (𝓤 : URA M) (H : Heap 𝓤) (A : Atoms 𝓤) (W : Given
 pub barrier-add-spec : {M : Type 1} → stated.statement M
 unfolding code.routine
 barrier-add-spec 𝓤 H 𝓜 𝓖 𝓡 =
-    shell 𝓤 H 𝓜 𝓖 𝓡 Asked (λ κ m a. memoryAfter (addIn m (a .0) (hazardGiven (a .1 .0))) m) made (λ κ m a. replyOf (replied (addIn m (a .0) (hazardGiven (a .1 .0))))) (λ κ m a. result κ m a .reply) (λ κ m a. add-shell m (a .0) (hazardGiven (a .1 .0))) code.env #f code.function (code.unfolded 𝓤 H 𝓜 𝓡)
+    shell 𝓤 H 𝓜 𝓖 𝓡 Asked (λ κ m a. memoryAfter (addIn m (a .0) (hazardGiven (a .1 .0))) m) made
+    (λ κ m a. replyOf (replied (addIn m (a .0) (hazardGiven (a .1 .0))))) (λ κ m a. result κ m a .reply) (λ κ m a. add-shell m (a .0) (hazardGiven (a .1 .0)))
+    code.env #f code.function (code.unfolded 𝓤 H 𝓜 𝓡)
     (λ W fm. walk 𝓤 H (𝓖 .A) W (tables 𝓤 H 𝓜 𝓡 code.env .C) (tables 𝓤 H 𝓜 𝓡 code.env .Λ) fm
     (cited 𝓤 H (Tells 𝓤 H (𝓖 .A)) 𝓜 𝓡 code.env #all-sound all-sound-routine code.calls-barrier-engine·open·all-sound (all-sound-met 𝓤 H 𝓜 𝓖 𝓡))
     (cited 𝓤 H (Gives 𝓤 H (𝓖 .A) Added changed added) 𝓜 𝓡 code.env #added added-routine code.calls-replies·open·added (added-met 𝓤 H 𝓜 𝓖 𝓡)))

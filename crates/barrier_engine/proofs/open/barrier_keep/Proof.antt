@@ -1,4 +1,5 @@
--- `barrier_engine::open::barrier_keep` meets its contract: a walk of its code. The memory is tested, the present state and the number go through `kept` by value, and each kept state is chosen again.
+-- `barrier_engine::open::barrier_keep` meets its contract: a walk of its code. The memory is tested, the present state and the number go through `kept` by
+-- value, and each kept state is chosen again.
 -- All that the proof knows of the functions called is that they meet their contracts. Assumes nothing.
 use denote.Struct.Laws as LL
 use mathlib.Core.Bool.{_&&_}
@@ -18,7 +19,8 @@ use Rattle.replies.proofs.open.Keeping as Keeping·t
 use Rattle.replies.proofs.open.Keeping.Laws as Keeping·t′
 use Rattle.replies.proofs.ShellLaws.{tested, keep-shell}
 use Rattle.replies.proofs.open.kept.{Symbol.name as #kept, Symbol.routine as kept-routine, Met.met as kept-met}
-use Rattle.barrier_engine.proofs.Walks.{refl, List, [], _∷_, URA, w64, Lft, Heap, Calls, Loops, Atoms, tables, Given, _$_, _∵_, !, qed, by, move, look, init, store, stop, fld, from, load, of-opd, assigns, and-then, no-more, returns, enter}
+use Rattle.barrier_engine.proofs.Walks.{refl, List, [], _∷_, URA, w64, Lft, Heap, Calls, Loops, Atoms, tables, Given, _$_, _∵_, !, qed, by, move, look}
+use Rattle.barrier_engine.proofs.Walks.{init, store, stop, fld, from, load, of-opd, assigns, and-then, no-more, returns, enter}
 use Rattle.barrier_engine.proofs.Walks.{alloc1, alloc0, params1, pass1, pass0, free0, all, sub, look-in, FmC, Denots, Triple, cited}
 use Rattle.barrier_engine.proofs.Data.{Data, Fits, struct, truth, uint, rows}
 use Rattle.barrier_engine.proofs.ByValue.{Gives}
@@ -66,20 +68,27 @@ module _ {M : Type 1} (𝓤 : URA M) (H : Heap 𝓤) (A : Atoms 𝓤) (W : Given
       let r : Keeping = result κ m a in
       let x : KeptState = keptFrom (m .present) in
       qed W (lent 𝓤 H A κ q b o γ m) ∵ enter ! C Λ code.function _ _ $
-      alloc1 ! (λ l0. alloc1 ! (λ l1. alloc1 ! (λ l2. alloc1 ! (λ l3. alloc1 ! (λ l4. alloc1 ! (λ l5. alloc1 ! (λ l6. alloc1 ! (λ l7. alloc1 ! (λ l8. alloc1 ! (λ l9. alloc1 ! (λ l10. alloc0 ! $ params1 ! $
+      alloc1 ! (λ l0. alloc1 ! (λ l1. alloc1 !
+      (λ l2. alloc1 ! (λ l3. alloc1 ! (λ l4. alloc1 !
+      (λ l5. alloc1 ! (λ l6. alloc1 ! (λ l7. alloc1 ! (λ l8. alloc1 ! (λ l9. alloc1 ! (λ l10. alloc0 ! $ params1 ! $
       pass1 ! (init ! 18 refl (tt, tt)) $ pass1 ! (init ! 16 refl (uint w64 .typed 𝓤 H A W (a .0) (fits .0))) $ pass0 ! $
       move ! (22 ∷ 23 ∷ 24 ∷ []) $ takes ! tt b o m (λ was.
       let p : Parts m = parts m was in
       -- [the memory; job, sound, its reference, slot, now, state, keeping, new, done, old, the result; ..]
       move ! (0 ∷ 22 ∷ 18 ∷ 10 ∷ 6 ∷ 8 ∷ 20 ∷ 16 ∷ 14 ∷ 12 ∷ 4 ∷ 24 ∷ []) $ tells ! fm known 1 7 3 refl refl refl (tt, tt) m was $
       copies ! 0 refl refl refl refl (look ! 1 refl) refl (init ! 5 refl (stored .typed 𝓤 H A W (m .present) (p .present-fits))) $
-      asks ! fm Kept keeping keepingOf known-kept (allSound m, (m .present, a)) (refl, (p .present-fits, fits)) (and-then ! (var ! 2 refl) (and-then ! (var ! 5 refl) (and-then ! (var ! 6 refl) (no-more !)))) (from ! (stop !)) (init ! 7 refl) (λ i.
+      asks ! fm Kept keeping keepingOf known-kept (allSound m, (m .present, a)) (refl, (p .present-fits, fits))
+      (and-then ! (var ! 2 refl) (and-then ! (var ! 5 refl) (and-then ! (var ! 6 refl) (no-more !)))) (from ! (stop !)) (init ! 7 refl) (λ i.
       copies ! 0 refl refl refl refl (look ! 1 refl) refl (store ! 5 refl (stored .typed 𝓤 H A W (m .present) (p .present-fits))) $
-      asks ! fm (stored ∷ []) kept fresh known-fresh (m .present, tt) (p .present-fits, tt) (and-then ! (var ! 5 refl) (no-more !)) (from ! (stop !)) (init ! 8 refl) (λ j.
-      assigns ! (of-opd ! (load ! (from ! (fld ! refl (stop !))) (look-in ! 7 (sub ! 1 refl (all !))))) (from ! (stop !)) (init ! 9 refl (truth .typed 𝓤 H A W (r .done) (keeping-fits r i .1))) $
+      asks ! fm (stored ∷ []) kept fresh known-fresh (m .present, tt) (p .present-fits, tt) (and-then ! (var ! 5 refl) (no-more !)) (from ! (stop !))
+      (init ! 8 refl) (λ j.
+      assigns ! (of-opd ! (load ! (from ! (fld ! refl (stop !))) (look-in ! 7 (sub ! 1 refl (all !))))) (from ! (stop !))
+      (init ! 9 refl (truth .typed 𝓤 H A W (r .done) (keeping-fits r i .1))) $
       -- [the memory; job, slot, old, state, new, done, keeping, the result, sound, its reference, now; ..]
-      move ! (0 ∷ 1 ∷ 4 ∷ 10 ∷ 6 ∷ 8 ∷ 9 ∷ 7 ∷ 11 ∷ []) $ each-kept ! fm known-choice 1 2 5 6 10 9 refl refl refl refl refl refl (a .0) (fits .0) x j (r .done) m p (λ p′.
-      assigns ! (of-opd ! (load ! (from ! (fld ! refl (stop !))) (look-in ! 7 (sub ! 0 refl (all !))))) (from ! (stop !)) (init ! 8 refl (reply .typed 𝓤 H A W (r .reply) (keeping-fits r i .0))) $
+      move ! (0 ∷ 1 ∷ 4 ∷ 10 ∷ 6 ∷ 8 ∷ 9 ∷ 7 ∷ 11 ∷ []) $
+      each-kept ! fm known-choice 1 2 5 6 10 9 refl refl refl refl refl refl (a .0) (fits .0) x j (r .done) m p (λ p′.
+      assigns ! (of-opd ! (load ! (from ! (fld ! refl (stop !))) (look-in ! 7 (sub ! 0 refl (all !))))) (from ! (stop !))
+      (init ! 8 refl (reply .typed 𝓤 H A W (r .reply) (keeping-fits r i .0))) $
       move ! (0 ∷ 12 ∷ 13 ∷ 14 ∷ []) $ puts ! tt b o (made κ m a) (whole (made κ m a) p′) $
       -- [the reference; the locals; what frees each]
       returns ! (look ! 10 refl) $ move ! (10 ∷ 24 ∷ 3 ∷ 23 ∷ 6 ∷ 22 ∷ 11 ∷ 21 ∷ 9 ∷ 20 ∷ 7 ∷ 19 ∷ 8 ∷ 18 ∷ 12 ∷ 17 ∷ 13 ∷ 16 ∷ 4 ∷ 15 ∷ 5 ∷ 14 ∷ []) $
@@ -89,9 +98,11 @@ module _ {M : Type 1} (𝓤 : URA M) (H : Heap 𝓤) (A : Atoms 𝓤) (W : Given
 pub barrier-keep-spec : {M : Type 1} → stated.statement M
 unfolding code.routine
 barrier-keep-spec 𝓤 H 𝓜 𝓖 𝓡 =
-    shell 𝓤 H 𝓜 𝓖 𝓡 Asked (λ κ m a. memoryAfter (keepIn m (a .0)) m) made (λ κ m a. replyOf (replied (keepIn m (a .0)))) (λ κ m a. result κ m a .reply) (λ κ m a. keep-shell m (a .0)) code.env #f code.function (code.unfolded 𝓤 H 𝓜 𝓡)
+    shell 𝓤 H 𝓜 𝓖 𝓡 Asked (λ κ m a. memoryAfter (keepIn m (a .0)) m) made (λ κ m a. replyOf (replied (keepIn m (a .0)))) (λ κ m a. result κ m a .reply)
+    (λ κ m a. keep-shell m (a .0)) code.env #f code.function (code.unfolded 𝓤 H 𝓜 𝓡)
     (λ W fm. walk 𝓤 H (𝓖 .A) W (tables 𝓤 H 𝓜 𝓡 code.env .C) (tables 𝓤 H 𝓜 𝓡 code.env .Λ) fm
     (cited 𝓤 H (Tells 𝓤 H (𝓖 .A)) 𝓜 𝓡 code.env #all-sound all-sound-routine code.calls-barrier-engine·open·all-sound (all-sound-met 𝓤 H 𝓜 𝓖 𝓡))
-    (cited 𝓤 H (Gives 𝓤 H (𝓖 .A) (stored ∷ []) kept fresh) 𝓜 𝓡 code.env #kept-from kept-from-routine code.calls-open-job·kept·kept-from (kept-from-met 𝓤 H 𝓜 𝓖 𝓡))
+    (cited 𝓤 H (Gives 𝓤 H (𝓖 .A) (stored ∷ []) kept fresh) 𝓜 𝓡 code.env #kept-from kept-from-routine code.calls-open-job·kept·kept-from
+    (kept-from-met 𝓤 H 𝓜 𝓖 𝓡))
     (choice-known 𝓤 H 𝓜 𝓖 𝓡 code.env code.calls-open-job·kept·choose)
     (cited 𝓤 H (Gives 𝓤 H (𝓖 .A) Kept keeping keepingOf) 𝓜 𝓡 code.env #kept kept-routine code.calls-replies·open·kept (kept-met 𝓤 H 𝓜 𝓖 𝓡)))

@@ -1,4 +1,5 @@
--- `barrier_engine::open::barrier_open` meets its contract: a walk of its code. The present state and the bytes go through `opened`, what comes of it is stored, and each kept state is emptied.
+-- `barrier_engine::open::barrier_open` meets its contract: a walk of its code. The present state and the bytes go through `opened`, what comes of it is stored,
+-- and each kept state is emptied.
 -- All that the proof knows of the functions called is that they meet their contracts. Assumes nothing.
 use mathlib.Core.List.{_++_}
 use contract.Running.{tablesOf}
@@ -21,11 +22,16 @@ use Rattle.replies.proofs.open.Opening as Opening·t
 use Rattle.replies.proofs.open.Opening.Laws as Opening·t′
 use Rattle.replies.proofs.open.opened as opened·f
 use Rattle.replies.proofs.open.opened.{Symbol.name as #opened, Symbol.routine as opened-routine, Met.met as opened-met}
-use Rattle.barrier_engine.proofs.Walks.{_≡_, refl, ap, _∙_, ℕ, List, [], _∷_, URA, named, Val, WT, hasTy, vptr, Holds, SProp, ent, emp, via, fst∗, snd∗, exE, id⊢, GName, Lft, Share, flft, Memory, Routine, Heap, Calls, Loops}
-use Rattle.barrier_engine.proofs.Walks.{WpFn, Tables, Atoms, sem, Fun, fact, givenOf, tables, Given, Item, ‵, ⋆, raw, some, later, _⊛_, _$_, _∵_, !, qed, by, move, keep, drop, use1, use2, split, join, pick, fsplit, fsplit3, fjoin, fjoin3}
-use Rattle.barrier_engine.proofs.Walks.{feqI, suffices, frame, await, done, look, init, stop, hop, fld, from, load, of-opd, and-then, no-more, assigns, land, returns, enter, alloc1, alloc0, params1, pass1, pass0, free0, all, sub, look-in}
-use Rattle.barrier_engine.proofs.Walks.{store-in, FmC, fmOf, WpFn-mono, owns, Is, shows, lone, u8, RefT, now, ptr, MutRef, ptr-vals, mut-tells, plain, slice-vals, owned, facts, heard, nothing, onEntry, Meets, tripleOf, Contract}
-use Rattle.barrier_engine.proofs.Walks.{Triple, calls-at, ensured, lasts, entered, cited, says, Stays, stay-ref, walkOf, goes-ref, ends-at, walked, walk-meets, yes}
+use Rattle.barrier_engine.proofs.Walks.{_≡_, refl, ap, _∙_, ℕ, List, [], _∷_, URA, named, Val, WT, hasTy, vptr, Holds, SProp, ent, emp, via, fst∗, snd∗}
+use Rattle.barrier_engine.proofs.Walks.{exE, id⊢, GName, Lft, Share, flft, Memory, Routine, Heap, Calls, Loops}
+use Rattle.barrier_engine.proofs.Walks.{WpFn, Tables, Atoms, sem, Fun, fact, givenOf, tables, Given, Item, ‵, ⋆, raw, some, later, _⊛_, _$_, _∵_, !, qed}
+use Rattle.barrier_engine.proofs.Walks.{by, move, keep, drop, use1, use2, split, join, pick, fsplit, fsplit3, fjoin, fjoin3}
+use Rattle.barrier_engine.proofs.Walks.{feqI, suffices, frame, await, done, look, init, stop, hop, fld, from, load, of-opd, and-then, no-more, assigns}
+use Rattle.barrier_engine.proofs.Walks.{land, returns, enter, alloc1, alloc0, params1, pass1, pass0, free0, all, sub, look-in}
+use Rattle.barrier_engine.proofs.Walks.{store-in, FmC, fmOf, WpFn-mono, owns, Is, shows, lone, u8, RefT, now, ptr, MutRef, ptr-vals, mut-tells, plain}
+use Rattle.barrier_engine.proofs.Walks.{slice-vals, owned, facts, heard, nothing, onEntry, Meets, tripleOf, Contract}
+use Rattle.barrier_engine.proofs.Walks.{Triple, calls-at, ensured, lasts, entered, cited, says, Stays, stay-ref, walkOf, goes-ref, ends-at, walked}
+use Rattle.barrier_engine.proofs.Walks.{walk-meets, yes}
 use Rattle.barrier_engine.proofs.Data.{Data, Fits, struct, truth}
 use Rattle.barrier_engine.proofs.ByValue.{Gives, lands-as}
 use Rattle.barrier_engine.proofs.Steps.{var, copies, freed}
@@ -61,7 +67,8 @@ module _ {M : Type 1} (𝓤 : URA M) (H : Heap 𝓤) (A : Atoms 𝓤) (at-mem : 
     given = (((κ′, tt), (q′, tt), tt, (a, (y, tt)), (stored .val a ∷ [], (sliced y ∷ [], tt))), tt)
 
     goes-in : Given 𝓤 H A → Fits stored a → ent 𝓤 (⋆ 𝓤 H A (Bytes κ′ y ∷ Token κ′ q′ ∷ [])) (Opens .pre given)
-    goes-in W fits = qed W (Bytes κ′ y ∷ Token κ′ q′ ∷ []) ∵ nothing ! $ move ! (1 ∷ 0 ∷ []) $ fjoin ! $ owned ! (stored .row) (Is (stored .row)) (stored .makes 𝓤 H A W) a _ fits $ fjoin ! $ move ! (1 ∷ 0 ∷ []) $ join ! $ frame ! $ done !
+    goes-in W fits = qed W (Bytes κ′ y ∷ Token κ′ q′ ∷ []) ∵ nothing ! $ move ! (1 ∷ 0 ∷ []) $ fjoin ! $
+        owned ! (stored .row) (Is (stored .row)) (stored .makes 𝓤 H A W) a _ fits $ fjoin ! $ move ! (1 ∷ 0 ∷ []) $ join ! $ frame ! $ done !
 
     abbrev Ensured : Opening → SProp 𝓤
     Ensured r = ensured 𝓤 H A opened·f.ended (opened·f.clauses 𝓤 H A at-mem run) (κ′, tt) (a, (y, tt)) tt r
@@ -69,7 +76,8 @@ module _ {M : Type 1} (𝓤 : URA M) (H : Heap 𝓤) (A : Atoms 𝓤) (at-mem : 
     ensures : (r : Opening) → ent 𝓤 (Ensured r) (fact 𝓤 (r ≡ openedBy a (now y)))
     ensures r = exE 𝓤 _ (λ ws. snd∗ 𝓤 (sem 𝓤 H A (lasts opened·f.ended (κ′, tt) (a, (y, tt)) ws)) (fact 𝓤 (r ≡ openedBy a (now y))))
 
-module _ {M : Type 1} (𝓤 : URA M) (H : Heap 𝓤) (A : Atoms 𝓤) (W : Given 𝓤 H A) (at-mem : Memory → SProp 𝓤) (run : Routine → Fun 𝓤) (κ κ′ : Lft) (q q′ : Share) (b o : ℕ) (γ : GName) (m : OpenStates) (y : RefT (List ℕ)) where
+module _ {M : Type 1} (𝓤 : URA M) (H : Heap 𝓤) (A : Atoms 𝓤) (W : Given 𝓤 H A) (at-mem : Memory → SProp 𝓤) (run : Routine → Fun 𝓤) (κ κ′ : Lft) (q q′ : Share)
+    (b o : ℕ) (γ : GName) (m : OpenStates) (y : RefT (List ℕ)) where
   abbrev x : RefT OpenStates × (RefT (List ℕ) × Unit {0})
   x = (record { ptr = (b, o); name = γ; now = m }, (y, tt))
 
@@ -83,52 +91,73 @@ module _ {M : Type 1} (𝓤 : URA M) (H : Heap 𝓤) (A : Atoms 𝓤) (W : Given
   abbrev Lent : OpenStates → List (Item 𝓤)
   Lent d = lent 𝓤 H A κ q b o γ d ++ (Token κ′ q′ ∷ Bytes κ′ y ∷ [])
 
-  exits : (d : OpenStates) (r : Reply) → (d ≡ memoryAfter (openStates (now y)) m) × (r ≡ replyOf (replied (openStates (now y)))) → Fits reply r → ent 𝓤 (⋆ 𝓤 H A (Lent d)) (Post (reply .val r))
+  exits : (d : OpenStates) (r : Reply) → (d ≡ memoryAfter (openStates (now y)) m) × (r ≡ replyOf (replied (openStates (now y)))) → Fits reply r
+      → ent 𝓤 (⋆ 𝓤 H A (Lent d)) (Post (reply .val r))
   exits d r e fits =
       qed W (Lent d) ∵
-      suffices ! _ (ends-at 𝓤 H A f.ended stayed (f.clauses 𝓤 H A at-mem run) W (((κ, (κ′, tt)), (q, (q′, tt)), tt, x, at), tt) (reply .val r) r (d, (tt, tt)) (tt, (tt, tt))) $ says ! e $ move ! (2 ∷ 3 ∷ []) $ join ! $
+      suffices ! _ (ends-at 𝓤 H A f.ended stayed (f.clauses 𝓤 H A at-mem run) W (((κ, (κ′, tt)), (q, (q′, tt)), tt, x, at), tt) (reply .val r) r (d, (tt, tt))
+      (tt, (tt, tt))) $ says ! e $ move ! (2 ∷ 3 ∷ []) $ join ! $
       frame ! $ feqI ! (List Val) (vptr b o ∷ []) (vptr b o ∷ []) refl $ fjoin3 ! $ nothing ! $ move ! (2 ∷ 0 ∷ []) $ fjoin ! $ move ! (1 ∷ 0 ∷ []) $ fjoin ! $
       owned ! (reply .row) (Is (reply .row)) (reply .makes 𝓤 H A W) r _ fits $ move ! (1 ∷ 0 ∷ []) $ done !
 
-  module _ (C : Calls 𝓤 H) (Λ : Loops 𝓤 H) (fm : FmC 𝓤 H (W .laws) C) (known-opened : Triple 𝓤 (C #opened) (Opens 𝓤 H A at-mem run)) (known-emptied : Triple 𝓤 (C #empty) (Gives 𝓤 H A Emptied kept emptying)) where
-    walk : Holds (hasTy (lone (ShrSlice (named 1) κ′ u8 .mir)) (sliced y)) × WT (sliced y) → ent 𝓤 (onEntry 𝓤 H A f.signature (κ, (κ′, tt)) (q, (q′, tt)) x at) (WpFn 𝓤 H C Λ code.function (vptr b o ∷ sliced y ∷ []) Post)
+  module _ (C : Calls 𝓤 H) (Λ : Loops 𝓤 H) (fm : FmC 𝓤 H (W .laws) C) (known-opened : Triple 𝓤 (C #opened) (Opens 𝓤 H A at-mem run))
+      (known-emptied : Triple 𝓤 (C #empty) (Gives 𝓤 H A Emptied kept emptying)) where
+    walk : Holds (hasTy (lone (ShrSlice (named 1) κ′ u8 .mir)) (sliced y)) × WT (sliced y)
+        → ent 𝓤 (onEntry 𝓤 H A f.signature (κ, (κ′, tt)) (q, (q′, tt)) x at) (WpFn 𝓤 H C Λ code.function (vptr b o ∷ sliced y ∷ []) Post)
     walk typed =
-        qed W ((‵ (flft κ q) ⊛ Token κ′ q′) ∷ ‵ (owns (MutRef (named 0) κ (memory .row) ∷ ShrSlice (named 1) κ′ u8 ∷ []) x at) ∷ []) ∵ split ! $ move ! (2 ∷ []) $ fsplit ! $ fsplit3 ! $ drop ! $ move ! (0 ∷ 1 ∷ 3 ∷ []) $
+        qed W ((‵ (flft κ q) ⊛ Token κ′ q′) ∷ ‵ (owns (MutRef (named 0) κ (memory .row) ∷ ShrSlice (named 1) κ′ u8 ∷ []) x at) ∷ []) ∵ split ! $
+        move ! (2 ∷ []) $ fsplit ! $ fsplit3 ! $ drop ! $ move ! (0 ∷ 1 ∷ 3 ∷ []) $
         enter ! C Λ code.function (vptr b o ∷ sliced y ∷ []) _ $
-        alloc1 ! (λ l0. alloc1 ! (λ l1. alloc1 ! (λ l2. alloc1 ! (λ l3. alloc1 ! (λ l4. alloc1 ! (λ l5. alloc1 ! (λ l6. alloc1 ! (λ l7. alloc0 ! $ params1 ! $ pass1 ! (init ! 12 refl (tt, tt)) $ pass1 ! (init ! 10 refl typed) $ pass0 ! $
+        alloc1 ! (λ l0. alloc1 ! (λ l1. alloc1 !
+        (λ l2. alloc1 ! (λ l3. alloc1 ! (λ l4. alloc1 !
+        (λ l5. alloc1 ! (λ l6. alloc1 ! (λ l7. alloc0 ! $ params1 ! $ pass1 ! (init ! 12 refl (tt, tt)) $ pass1 ! (init ! 10 refl typed) $ pass0 ! $
         move ! (16 ∷ 17 ∷ 18 ∷ []) $ takes ! tt b o m (λ was.
         let p : Parts m = parts m was in
         -- [the memory; job, new, old, done, now, bytes, opening, the result; what the bytes own; their token; ..]
-        move ! (0 ∷ 16 ∷ 6 ∷ 4 ∷ 10 ∷ 8 ∷ 14 ∷ 12 ∷ 18 ∷ 20 ∷ 21 ∷ []) $ copies ! 0 refl refl refl refl (look ! 1 refl) refl (init ! 5 refl (stored .typed 𝓤 H A W (m .present) (p .present-fits))) $
+        move ! (0 ∷ 16 ∷ 6 ∷ 4 ∷ 10 ∷ 8 ∷ 14 ∷ 12 ∷ 18 ∷ 20 ∷ 21 ∷ []) $
+        copies ! 0 refl refl refl refl (look ! 1 refl) refl (init ! 5 refl (stored .typed 𝓤 H A W (m .present) (p .present-fits))) $
         -- replies::open::opened
         move ! (9 ∷ []) $ fsplit ! $ use1 W (Bytes κ′ y ⊛ Bytes κ′ y) (shr-slice-copy 𝓤 H A W (named 1) κ′ u8 .twice y (sliced y ∷ [])) $ split ! $
-        move ! (0 ∷ 12 ∷ []) $ use2 W (raw (Opens 𝓤 H A at-mem run .pre (given 𝓤 H A at-mem run κ′ q′ (m .present) y))) (goes-in 𝓤 H A at-mem run κ′ q′ (m .present) y W (p .present-fits)) $
-        calls-at ! fm (Opens 𝓤 H A at-mem run) known-opened (given 𝓤 H A at-mem run κ′ q′ (m .present) y) (and-then ! (var ! 8 refl) (and-then ! (var ! 9 refl) (no-more !))) (λ w.
-        use1 W (later (some (λ (r : Opening). (Token κ′ q′ ⊛ ‵ (opening .row .own r (w ∷ []))) ⊛ raw (Ensured 𝓤 H A at-mem run κ′ q′ (m .present) y r)))) (id⊢ 𝓤 _) $ await ! tt $ pick ! (λ r.
-        split ! $ move ! (1 ∷ []) $ use1 W (raw (fact 𝓤 (r ≡ openedBy (m .present) (now y)))) (ensures 𝓤 H A at-mem run κ′ q′ (m .present) y r) $ heard ! (r ≡ openedBy (m .present) (now y)) (λ e.
+        move ! (0 ∷ 12 ∷ []) $ use2 W (raw (Opens 𝓤 H A at-mem run .pre (given 𝓤 H A at-mem run κ′ q′ (m .present) y)))
+        (goes-in 𝓤 H A at-mem run κ′ q′ (m .present) y W (p .present-fits)) $
+        calls-at ! fm (Opens 𝓤 H A at-mem run) known-opened (given 𝓤 H A at-mem run κ′ q′ (m .present) y)
+        (and-then ! (var ! 8 refl) (and-then ! (var ! 9 refl) (no-more !))) (λ w.
+        use1 W (later (some (λ (r : Opening). (Token κ′ q′ ⊛ ‵ (opening .row .own r (w ∷ []))) ⊛ raw (Ensured 𝓤 H A at-mem run κ′ q′ (m .present) y r))))
+        (id⊢ 𝓤 _) $ await ! tt $ pick ! (λ r.
+        split ! $ move ! (1 ∷ []) $ use1 W (raw (fact 𝓤 (r ≡ openedBy (m .present) (now y)))) (ensures 𝓤 H A at-mem run κ′ q′ (m .present) y r) $
+        heard ! (r ≡ openedBy (m .present) (now y)) (λ e.
         split ! $ move ! (1 ∷ []) $ facts ! (opening .row) (Is (opening .row)) (shows 𝓤 H A (opening .row)) r (w ∷ []) (λ is. lands-as ! opening r w is (λ i.
         let d : OpenStates = eachEmptied m (r .done) (r .next) in
         let g = opening-fits r i in
         land ! (from ! (stop !)) (init ! 10 refl (opening .typed 𝓤 H A W r i)) $
         -- [the memory; job, new, old, done, opening, the result; the token and what the bytes own; ..]
         move ! (3 ∷ 4 ∷ 5 ∷ 6 ∷ 7 ∷ 10 ∷ 11 ∷ []) $
-        assigns ! (of-opd ! (load ! (from ! (fld ! refl (stop !))) (look-in ! 5 (sub ! 0 refl (all !))))) (from ! (hop ! (look ! 1 refl) (fld ! refl (stop !)))) (store-in ! 0 (sub ! 0 refl (all !)) (stored .typed 𝓤 H A W (r .next) (g .0))) $
-        assigns ! (of-opd ! (load ! (from ! (fld ! refl (stop !))) (look-in ! 5 (sub ! 2 refl (all !))))) (from ! (stop !)) (init ! 4 refl (truth .typed 𝓤 H A W (r .done) (g .2))) $
+        assigns ! (of-opd ! (load ! (from ! (fld ! refl (stop !))) (look-in ! 5 (sub ! 0 refl (all !))))) (from ! (hop ! (look ! 1 refl) (fld ! refl (stop !))))
+        (store-in ! 0 (sub ! 0 refl (all !)) (stored .typed 𝓤 H A W (r .next) (g .0))) $
+        assigns ! (of-opd ! (load ! (from ! (fld ! refl (stop !))) (look-in ! 5 (sub ! 2 refl (all !))))) (from ! (stop !))
+        (init ! 4 refl (truth .typed 𝓤 H A W (r .done) (g .2))) $
         each-emptied ! fm known-emptied 1 4 7 6 refl refl refl refl (r .done) (statesFrom (r .next) (keptStates m)) (with-now m (r .next) p (g .0)) (λ p′.
-        assigns ! (of-opd ! (load ! (from ! (fld ! refl (stop !))) (look-in ! 5 (sub ! 1 refl (all !))))) (from ! (stop !)) (init ! 6 refl (reply .typed 𝓤 H A W (r .reply) (g .1))) $
+        assigns ! (of-opd ! (load ! (from ! (fld ! refl (stop !))) (look-in ! 5 (sub ! 1 refl (all !))))) (from ! (stop !))
+        (init ! 6 refl (reply .typed 𝓤 H A W (r .reply) (g .1))) $
         move ! (0 ∷ 12 ∷ 13 ∷ 14 ∷ []) $ puts ! tt b o d (whole d p′) $
         -- [the reference; the locals, with the token and what the bytes own; what frees each]
         returns ! (look ! 8 refl) $ move ! (8 ∷ 21 ∷ 3 ∷ 20 ∷ 13 ∷ 19 ∷ 7 ∷ 18 ∷ 6 ∷ 17 ∷ 12 ∷ 16 ∷ 4 ∷ 15 ∷ 5 ∷ 14 ∷ []) $
         freed ! $ freed ! $ freed ! $ freed ! $ freed ! $ freed ! $ freed ! $ freed ! $ free0 ! $ keep ! (0 ∷ 1 ∷ 2 ∷ 3 ∷ 4 ∷ []) $
-        by ! (exits d (r .reply) (ap (λ (z : Opening). eachEmptied m (z .done) (z .next)) e ∙ open-shell m (now y) .0, ap (λ (z : Opening). z .reply) e ∙ open-shell m (now y) .1) (g .1)))))))))))))))))
+        by ! (exits d (r .reply) (
+          ap (λ (z : Opening). eachEmptied m (z .done) (z .next)) e ∙ open-shell m (now y) .0,
+          ap (λ (z : Opening). z .reply) e ∙ open-shell m (now y) .1,
+        ) (g .1)))))))))))))))))
 
-f-meets : {M : Type 1} (𝓤 : URA M) (H : Heap 𝓤) (A : Atoms 𝓤) (W : Given 𝓤 H A) (at-mem : Memory → SProp 𝓤) (run : Routine → Fun 𝓤) (𝓣 : Tables 𝓤 H) → Triple 𝓤 (𝓣 .C #opened) (Opens 𝓤 H A at-mem run) → Triple 𝓤 (𝓣 .C #empty) (Gives 𝓤 H A Emptied kept emptying)
+f-meets : {M : Type 1} (𝓤 : URA M) (H : Heap 𝓤) (A : Atoms 𝓤) (W : Given 𝓤 H A) (at-mem : Memory → SProp 𝓤) (run : Routine → Fun 𝓤) (𝓣 : Tables 𝓤 H)
+    → Triple 𝓤 (𝓣 .C #opened) (Opens 𝓤 H A at-mem run) → Triple 𝓤 (𝓣 .C #empty) (Gives 𝓤 H A Emptied kept emptying)
     → Meets 𝓤 H A f.signature (WpFn 𝓤 H (𝓣 .C) (𝓣 .Λ) code.function) (f.spec 𝓤 H A at-mem run)
 f-meets 𝓤 H A W at-mem run 𝓣 known-opened known-emptied =
-    walk-meets 𝓤 H A f.ended stayed W (goes-ref 𝓤 H A W 2 0 tt (plain (λ _. memory .row)), (goes-none-slice 𝓤 H A W 2 (1 ∷ []) tt (plain (λ _. u8)) yes, tt)) (f.clauses 𝓤 H A at-mem run) (WpFn 𝓤 H (𝓣 .C) (𝓣 .Λ) code.function) (WpFn-mono 𝓤 H (W .laws) 𝓣 code.function)
+    walk-meets 𝓤 H A f.ended stayed W (goes-ref 𝓤 H A W 2 0 tt (plain (λ _. memory .row)), (goes-none-slice 𝓤 H A W 2 (1 ∷ []) tt (plain (λ _. u8)) yes, tt))
+    (f.clauses 𝓤 H A at-mem run) (WpFn 𝓤 H (𝓣 .C) (𝓣 .Λ) code.function) (WpFn-mono 𝓤 H (W .laws) 𝓣 code.function)
     (walked 𝓤 H A f.ended stayed (f.clauses 𝓤 H A at-mem run) (WpFn 𝓤 H (𝓣 .C) (𝓣 .Λ) code.function) (λ κs. (ptr-vals, (slice-vals, tt)))
     (λ κs. (mut-tells (named 0) (κs .0) (memory .row), (shr-slice-tells (named 1) (κs .1 .0) u8, tt))) (λ κs qs bounds a g are.
-    via 𝓤 _ (fst∗ 𝓤 _ (emp 𝓤)) (walk 𝓤 H A W at-mem run (κs .0) (κs .1 .0) (qs .0) (qs .1 .0) (a .0 .ptr .0) (a .0 .ptr .1) (a .0 .name) (a .0 .now) (a .1 .0) (𝓣 .C) (𝓣 .Λ) (fmOf 𝓤 H (W .laws) 𝓣) known-opened known-emptied
+    via 𝓤 _ (fst∗ 𝓤 _ (emp 𝓤)) (walk 𝓤 H A W at-mem run (κs .0) (κs .1 .0) (qs .0) (qs .1 .0) (a .0 .ptr .0) (a .0 .ptr .1) (a .0 .name) (a .0 .now) (a .1 .0)
+    (𝓣 .C) (𝓣 .Λ) (fmOf 𝓤 H (W .laws) 𝓣) known-opened known-emptied
     (shr-slice-lawful 𝓤 H A W (named 1) (κs .1 .0) u8 .typed (a .1 .0) _ (are .1 .0) .0))))
 
 pub barrier-open-spec : {M : Type 1} → stated.statement M

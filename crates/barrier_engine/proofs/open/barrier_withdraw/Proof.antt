@@ -1,4 +1,5 @@
--- `barrier_engine::open::barrier_withdraw` meets its contract: a walk of its code. The memory is tested, the present state goes through `withdrawn` by value, and what comes of it is stored.
+-- `barrier_engine::open::barrier_withdraw` meets its contract: a walk of its code. The memory is tested, the present state goes through `withdrawn` by value,
+-- and what comes of it is stored.
 -- All that the proof knows of the functions called is that they meet their contracts. Assumes nothing.
 use mathlib.Core.Bool.{_&&_}
 use Rattle.open_memory.specs.Memory.{isOpenJob}
@@ -11,7 +12,8 @@ use Rattle.replies.specs.OpenInterface.{changedBy}
 use Rattle.replies.specs.declared.open.Changed.{Changed}
 use Rattle.replies.proofs.ShellLaws.{tested, withdraw-shell}
 use Rattle.replies.proofs.open.withdrawn.{Symbol.name as #withdrawn, Symbol.routine as withdrawn-routine, Met.met as withdrawn-met}
-use Rattle.barrier_engine.proofs.Walks.{refl, List, [], _∷_, URA, w16, Lft, Heap, Calls, Loops, Atoms, tables, Given, _$_, _∵_, !, qed, by, move, look, init, stop, from, and-then, no-more, returns, enter, alloc1, alloc0, params1, pass1, pass0}
+use Rattle.barrier_engine.proofs.Walks.{refl, List, [], _∷_, URA, w16, Lft, Heap, Calls, Loops, Atoms, tables, Given, _$_, _∵_, !, qed, by, move, look}
+use Rattle.barrier_engine.proofs.Walks.{init, stop, from, and-then, no-more, returns, enter, alloc1, alloc0, params1, pass1, pass0}
 use Rattle.barrier_engine.proofs.Walks.{free0, FmC, Denots, Triple, cited}
 use Rattle.barrier_engine.proofs.Data.{Data, truth, uint, rows}
 use Rattle.barrier_engine.proofs.ByValue.{Gives}
@@ -66,7 +68,9 @@ module _ {M : Type 1} (𝓤 : URA M) (H : Heap 𝓤) (A : Atoms 𝓤) (W : Given
 pub barrier-withdraw-spec : {M : Type 1} → stated.statement M
 unfolding code.routine
 barrier-withdraw-spec 𝓤 H 𝓜 𝓖 𝓡 =
-    shell 𝓤 H 𝓜 𝓖 𝓡 Asked (λ κ m a. memoryAfter (withdrawIn m (a .0)) m) made (λ κ m a. replyOf (replied (withdrawIn m (a .0)))) (λ κ m a. result κ m a .reply) (λ κ m a. withdraw-shell m (a .0)) code.env #f code.function (code.unfolded 𝓤 H 𝓜 𝓡)
+    shell 𝓤 H 𝓜 𝓖 𝓡 Asked (λ κ m a. memoryAfter (withdrawIn m (a .0)) m) made (λ κ m a. replyOf (replied (withdrawIn m (a .0)))) (λ κ m a. result κ m a .reply)
+    (λ κ m a. withdraw-shell m (a .0)) code.env #f code.function (code.unfolded 𝓤 H 𝓜 𝓡)
     (λ W fm. walk 𝓤 H (𝓖 .A) W (tables 𝓤 H 𝓜 𝓡 code.env .C) (tables 𝓤 H 𝓜 𝓡 code.env .Λ) fm
     (cited 𝓤 H (Tells 𝓤 H (𝓖 .A)) 𝓜 𝓡 code.env #all-sound all-sound-routine code.calls-barrier-engine·open·all-sound (all-sound-met 𝓤 H 𝓜 𝓖 𝓡))
-    (cited 𝓤 H (Gives 𝓤 H (𝓖 .A) Withdrawn changed withdrawn) 𝓜 𝓡 code.env #withdrawn withdrawn-routine code.calls-replies·open·withdrawn (withdrawn-met 𝓤 H 𝓜 𝓖 𝓡)))
+    (cited 𝓤 H (Gives 𝓤 H (𝓖 .A) Withdrawn changed withdrawn) 𝓜 𝓡 code.env #withdrawn withdrawn-routine code.calls-replies·open·withdrawn
+    (withdrawn-met 𝓤 H 𝓜 𝓖 𝓡)))

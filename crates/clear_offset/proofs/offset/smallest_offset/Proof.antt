@@ -18,7 +18,8 @@ header c = c .header .given .0 .0
 abbrev asked : tie.After-header → Hazard
 asked c = c .header .given .0 .1 .0
 
-found : (c : tie.After-header) → let a = c .before .before .before .before .args in indexedHazard (a .job .now) (a .hazard) ≡ accepted (record { header = header c; hazard = asked c })
+found : (c : tie.After-header) → let a = c .before .before .before .before .args in
+    indexedHazard (a .job .now) (a .hazard) ≡ accepted (record { header = header c; hazard = asked c })
 found c = sym (c .before .before .indexed-hazard .ensures) ∙ ap indexedAnswer (c .header .given .1)
 
 returns : tie.Need-returns

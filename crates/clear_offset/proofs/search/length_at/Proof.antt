@@ -8,7 +8,8 @@ use Rattle.clear_offset.proofs.search.length_at.Statement.{statement}
 use Rattle.clear_offset.proofs.search.length_at.Tie as tie
 
 -- The runout length is that of the adjacent traffic.
-own-runout : (c : tie.After-runout-length) → let a = c .before .before .args in c .runout-length .result ≡ runout (a .header) (adjacentTraffic (a .header) (a .hazard .side))
+own-runout : (c : tie.After-runout-length) → let a = c .before .before .args in
+    c .runout-length .result ≡ runout (a .header) (adjacentTraffic (a .header) (a .hazard .side))
 own-runout c = let a = c .before .before .args in c .runout-length .ensures ∙ ap (runout (a .header)) (c .before .adjacent-traffic .ensures)
 
 raised-length-requires : tie.Need-raised-length-requires

@@ -5,7 +5,8 @@ use native.Mathlib.Omega.{arith}
 use mathlib.Core.Path.{sym, ap}
 use borrow.Author.Needs.{needs}
 use Rattle.base.specs.Answer.{accepted}
-use Rattle.clear_offset.proofs.SearchLaws.{Searched, searched-none, middle-free, length-left, searched-lower, searched-upper, searched-smallest, searched-nothing}
+use Rattle.clear_offset.proofs.SearchLaws.{Searched, searched-none, middle-free, length-left, searched-lower, searched-upper, searched-smallest}
+use Rattle.clear_offset.proofs.SearchLaws.{searched-nothing}
 use Rattle.clear_offset.proofs.search.smallest_of.Statement.{statement}
 use Rattle.clear_offset.proofs.search.smallest_of.Tie as tie
 
@@ -37,25 +38,29 @@ loop-again : tie.Need-loop-again Inv-loop μ-loop
 loop-again c =
     let loop = c .before .before .before in
     let start = loop .before .before .before .before in
-    searched-lower _ _ (start .pre) _ _ (omega (arith, loop .before .min .ensures)) _ _ _ (loop .loop .inv) (c .before .before .loop-test .taken) (omega (arith, c .before .length-at .ensures))
+    searched-lower _ _ (start .pre) _ _ (omega (arith, loop .before .min .ensures)) _ _ _ (loop .loop .inv) (c .before .before .loop-test .taken)
+    (omega (arith, c .before .length-at .ensures))
 
 loop-again-2 : tie.Need-loop-again-2 Inv-loop μ-loop
 loop-again-2 c =
     let loop = c .before .before .before in
     let start = loop .before .before .before .before in
-    searched-upper _ _ (start .pre) _ _ (omega (arith, loop .before .min .ensures)) _ _ _ (loop .loop .inv) (c .before .before .loop-test .taken) (omega (arith, c .before .length-at .ensures))
+    searched-upper _ _ (start .pre) _ _ (omega (arith, loop .before .min .ensures)) _ _ _ (loop .loop .inv) (c .before .before .loop-test .taken)
+    (omega (arith, c .before .length-at .ensures))
 
 returns : tie.Need-returns Inv-loop μ-loop
 returns c =
     let loop = c .before .before in
     let start = loop .before .before .before .before in
-    ap accepted (sym (searched-smallest _ _ (start .pre) _ _ (omega (arith, loop .before .min .ensures)) _ _ _ (loop .loop .inv) (c .before .loop-test .left) (c .if2 .taken)))
+    ap accepted (sym (searched-smallest _ _ (start .pre) _ _ (omega (arith, loop .before .min .ensures)) _ _ _ (loop .loop .inv) (c .before .loop-test .left)
+    (c .if2 .taken)))
 
 returns-2 : tie.Need-returns-2 Inv-loop μ-loop
 returns-2 c =
     let loop = c .before .before in
     let start = loop .before .before .before .before in
-    ap accepted (sym (searched-nothing _ _ (start .pre) _ _ (omega (arith, loop .before .min .ensures)) _ _ _ (loop .loop .inv) (c .before .loop-test .left) (c .if2 .left)))
+    ap accepted (sym (searched-nothing _ _ (start .pre) _ _ (omega (arith, loop .before .min .ensures)) _ _ _ (loop .loop .inv) (c .before .loop-test .left)
+    (c .if2 .left)))
 
 pub smallest-of-spec : {M : Type 1} → statement M
 smallest-of-spec =

@@ -16,7 +16,8 @@ use Rattle.corners.proofs.call.corners.Tie as tie
 returns : tie.Need-returns
 returns c =
     let a = c .before .before .before .args in
-    rw (off-sheet (a .sheet-station) (a .sheet-offset) (a .job .now) (a .hazard) (off-tested (a .sheet-station) (a .sheet-offset) (c .before .if1 .taken))) (c .refused .ensures)
+    rw (off-sheet (a .sheet-station) (a .sheet-offset) (a .job .now) (a .hazard) (off-tested (a .sheet-station) (a .sheet-offset) (c .before .if1 .taken)))
+    (c .refused .ensures)
 
 on : (c : tie.Else1) → let a = c .before .before .args in (a .sheet-station ≤ sheetTop) × (a .sheet-offset ≤ sheetTop)
 on c = let a = c .before .before .args in on-tested (a .sheet-station) (a .sheet-offset) (c .if1 .left)
@@ -28,7 +29,8 @@ header c = c .header .given .0 .0
 abbrev asked : tie.After-header → Hazard
 asked c = c .header .given .0 .1 .0
 
-found : (c : tie.After-header) → let a = c .before .before .before .before .before .args in indexedHazard (a .job .now) (a .hazard) ≡ accepted (record { header = header c; hazard = asked c })
+found : (c : tie.After-header) → let a = c .before .before .before .before .before .args in
+    indexedHazard (a .job .now) (a .hazard) ≡ accepted (record { header = header c; hazard = asked c })
 found c = sym (c .before .before .indexed-hazard .ensures) ∙ ap indexedAnswer (c .header .given .1)
 
 returns-2 : tie.Need-returns-2
@@ -36,7 +38,8 @@ returns-2 c =
     let f = c .before .before .before .before .before in
     let e = f .before .before .before in
     let a = e .before .before .args in
-    rw (corners-unreached (a .sheet-station) (a .sheet-offset) (a .job .now) (a .hazard) (on e .0) (on e .1) (header f) (asked f) (found f) (omega (arith, c .before .if2 .taken))) (c .refused2 .ensures)
+    rw (corners-unreached (a .sheet-station) (a .sheet-offset) (a .job .now) (a .hazard) (on e .0) (on e .1) (header f) (asked f) (found f)
+    (omega (arith, c .before .if2 .taken))) (c .refused2 .ensures)
 
 hazard-corners-requires : tie.Need-hazard-corners-requires
 hazard-corners-requires c κs =
@@ -50,16 +53,19 @@ returns-3 c =
     let f = c .before .before .before .before .before in
     let e = f .before .before .before in
     let a = e .before .before .args in
-    rw (corners-reached (a .sheet-station) (a .sheet-offset) (a .job .now) (a .hazard) (on e .0) (on e .1) (header f) (asked f) (found f) (omega (arith, c .before .if2 .left))) (c .hazard-corners .ensures)
+    rw (corners-reached (a .sheet-station) (a .sheet-offset) (a .job .now) (a .hazard) (on e .0) (on e .1) (header f) (asked f) (found f)
+    (omega (arith, c .before .if2 .left))) (c .hazard-corners .ensures)
 
 returns-4 : tie.Need-returns-4
 returns-4 c =
     let r = c .before .before .before .before in
     let e = r .before in
     let a = e .before .before .args in
-    rw (corners-refused (a .sheet-station) (a .sheet-offset) (a .job .now) (a .hazard) (on e .0) (on e .1) (sym (r .indexed-hazard .ensures) ∙ ap indexedAnswer (c .before .before .refusal .given .1))) (c .refused3 .ensures)
+    rw (corners-refused (a .sheet-station) (a .sheet-offset) (a .job .now) (a .hazard) (on e .0) (on e .1)
+    (sym (r .indexed-hazard .ensures) ∙ ap indexedAnswer (c .before .before .refusal .given .1))) (c .refused3 .ensures)
 
 pub corners-spec : {M : Type 1} → statement M
 corners-spec =
     tie.close
-    (tie.spec (λ c κs. search needs) returns (λ c κs. search needs) (λ c. search needs) (λ c. search needs) (λ c κs. search needs) returns-2 hazard-corners-requires (λ c. search needs) (λ c κs. search needs) returns-3 returns-4)
+    (tie.spec (λ c κs. search needs) returns (λ c κs. search needs) (λ c. search needs) (λ c. search needs) (λ c κs. search needs) returns-2
+    hazard-corners-requires (λ c. search needs) (λ c κs. search needs) returns-3 returns-4)

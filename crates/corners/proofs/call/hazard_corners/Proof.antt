@@ -24,7 +24,8 @@ returns : tie.Need-returns
 returns c =
     let a = c .before .before .before .args in
     c .approach-corners .ensures
-    ∙ ap (λ (t : Traffic). cornersReplied (accepted (approachPoints (a .sheet .station) (a .sheet .offset) (a .header) (a .hazard) t))) (c .before .before .adjacent-traffic .ensures)
+    ∙ ap (λ (t : Traffic). cornersReplied (accepted (approachPoints (a .sheet .station) (a .sheet .offset) (a .header) (a .hazard) t)))
+    (c .before .before .adjacent-traffic .ensures)
 
 pub hazard-corners-spec : {M : Type 1} → statement M
 hazard-corners-spec = tie.close (tie.spec (λ c κs. search needs) approach-lengths-requires (λ c κs. search needs) returns)

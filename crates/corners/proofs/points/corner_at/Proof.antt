@@ -31,7 +31,8 @@ returns c =
     λ i. record {
       station = (
           ap (λ (from : Float). sub binary64 from (ofInt binary64 (pos (a .sheet .station)))) (c .before .before .before .station-upstream .ensures)
-          ∙ sub-cast binary64 upstream (pos (a .sheet .station)) (omega (arith, size, station .start, station .end, station .near)) (omega (arith, sheet .station))
+          ∙ sub-cast binary64 upstream (pos (a .sheet .station)) (omega (arith, size, station .start, station .end, station .near))
+          (omega (arith, sheet .station))
           ) i;
       offset = sub-cast binary64 (pos (a .offset)) (pos (a .sheet .offset)) (omega (arith, s .pre .1 .0)) (omega (arith, sheet .offset)) i;
     }

@@ -24,13 +24,15 @@ hazard-range-requires c κs = (c .loop-test .taken, omega (arith, c .before .loo
 returns : tie.Need-returns Inv-loop μ-loop
 returns c =
     let r = c .before .before .before in
-    hazard-refused _ (r .before .before .before .loop .inv) (r .before .before .loop-test .taken) (r .read-field .result) (r .before .hazard-range .ensures) (r .read-field .ensures) (c .before .refusal .given .1)
+    hazard-refused _ (r .before .before .before .loop .inv) (r .before .before .loop-test .taken) (r .read-field .result) (r .before .hazard-range .ensures)
+    (r .read-field .ensures) (c .before .refusal .given .1)
 
 loop-again : tie.Need-loop-again Inv-loop μ-loop
 loop-again c =
     let r = c .before .before .before in
     let l = r .before .before .before in
-    hazard-number (l .before .before .args .header) (l .loop .inv) (r .before .before .loop-test .taken) (r .read-field .result) (r .before .hazard-range .ensures) (r .read-field .ensures) (c .before .reading .given .1)
+    hazard-number (l .before .before .args .header) (l .loop .inv) (r .before .before .loop-test .taken) (r .read-field .result)
+    (r .before .hazard-range .ensures) (r .read-field .ensures) (c .before .reading .given .1)
 
 -- The six numbers lie in their ranges, so each fits the bits that it is stored in.
 bounds : (c : tie.After-loop Inv-loop μ-loop) → HazardBounds (c .before .before .before .args .header) (hazardOf (c .before .loop .numbers))

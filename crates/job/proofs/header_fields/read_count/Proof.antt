@@ -10,13 +10,15 @@ returns c =
     let r = c .before .before .before .before in
     let start = r .before .before .before in
     rw (c .header-with .ensures)
-    (count-read (start .args .s .now) _ (start .args .at) (r .read-field .result) (start .pre .0) (start .pre .1) (r .read-field .ensures) (c .before .before .reading .given .1))
+    (count-read (start .args .s .now) _ (start .args .at) (r .read-field .result) (start .pre .0) (start .pre .1) (r .read-field .ensures)
+    (c .before .before .reading .given .1))
 
 returns-2 : tie.Need-returns-2
 returns-2 c =
     let r = c .before .before .before in
     let start = r .before .before .before in
-    count-refused (start .args .s .now) _ (start .args .at) (r .read-field .result) (start .pre .0) (start .pre .1) (r .read-field .ensures) (c .before .refusal .given .1)
+    count-refused (start .args .s .now) _ (start .args .at) (r .read-field .result) (start .pre .0) (start .pre .1) (r .read-field .ensures)
+    (c .before .refusal .given .1)
 
 pub read-count-spec : {M : Type 1} → statement M
 read-count-spec =

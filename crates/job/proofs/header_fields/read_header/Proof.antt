@@ -24,12 +24,14 @@ header-range-requires c κs = (search needs, (refl, search needs))
 returns : tie.Need-returns Inv-loop μ-loop
 returns c =
     let r = c .before .before .before in
-    header-refused (r .before .before .before .before .loop .inv) (r .before .before .before .loop-test .taken) (r .read-field .result) (r .before .header-range .ensures) (r .read-field .ensures) (c .before .refusal .given .1)
+    header-refused (r .before .before .before .before .loop .inv) (r .before .before .before .loop-test .taken) (r .read-field .result)
+    (r .before .header-range .ensures) (r .read-field .ensures) (c .before .refusal .given .1)
 
 loop-again : tie.Need-loop-again Inv-loop μ-loop
 loop-again c =
     let r = c .before .before .before in
-    header-number (r .before .before .before .before .loop .inv) (r .before .before .before .loop-test .taken) (r .read-field .result) (r .before .header-range .ensures) (r .read-field .ensures) (c .before .reading .given .1)
+    header-number (r .before .before .before .before .loop .inv) (r .before .before .before .loop-test .taken) (r .read-field .result)
+    (r .before .header-range .ensures) (r .read-field .ensures) (c .before .reading .given .1)
 
 read-count-requires : tie.Need-read-count-requires Inv-loop μ-loop
 read-count-requires c κs = (c .before .before .loop .inv .room, c .if1 .taken)
@@ -43,6 +45,7 @@ returns-3 c = rw (c .header-with .ensures) (header-plain (c .before .before .bef
 pub read-header-spec : {M : Type 1} → statement M
 read-header-spec =
     tie.close
-    (tie.spec Inv-loop μ-loop (λ c. all-left _ refl (omega arith)) (λ c. search needs) (λ c. search needs) (λ c. search needs) (λ c. search needs) header-range-requires (λ c. omega arith) (λ c κs. search needs)
+    (tie.spec Inv-loop μ-loop (λ c. all-left _ refl (omega arith)) (λ c. search needs) (λ c. search needs) (λ c. search needs) (λ c. search needs)
+    header-range-requires (λ c. omega arith) (λ c κs. search needs)
     (λ c. search needs) (λ c. omega arith) (λ c. search needs) (λ c. search needs) returns
     (λ c. omega arith) (λ c. omega arith) loop-again (λ c. search needs) read-count-requires returns-2 (λ c. search needs) (λ c κs. search needs) returns-3)

@@ -26,7 +26,8 @@ returns c =
     let start = c .before .before .before .before .before in
     let a = start .args in
     let sure = c .before .before .sure-indices in
-    let few : length (givenHazards (a .given .now)) ≤ a .index = let e = none _ _ _ (start .pre .1 .1 .0) (start .pre .1 .1 .1) (omega (arith, c .before .if1 .taken, sure .ensures)) in omega arith in
+    let few : length (givenHazards (a .given .now)) ≤ a .index =
+    let e = none _ _ _ (start .pre .1 .1 .0) (start .pre .1 .1 .1) (omega (arith, c .before .if1 .taken, sure .ensures)) in omega arith in
     c .read-hazard-within .ensures ∙ sym (next-read (a .header) (givenHazards (a .given .now)) (a .index) (a .s .now) (a .at) few)
 
 returns-2 : tie.Need-returns-2
@@ -34,17 +35,20 @@ returns-2 c =
     let start = c .before .before .before .before .before .before .before .before .before in
     let a = start .args in
     let there : a .index < length (givenHazards (a .given .now)) = omega (arith, start .pre .1 .1 .0, c .before .before .before .before .if2 .taken) in
-    ap (λ (z : Hazard). accepted (let r : HazardReading = record { hazard = z; next = a .at } in r)) (c .unpacked .ensures ∙ sym (given-at (a .given .now) (a .index) (a .index * 3) refl there))
+    ap (λ (z : Hazard). accepted (let r : HazardReading = record { hazard = z; next = a .at } in r))
+    (c .unpacked .ensures ∙ sym (given-at (a .given .now) (a .index) (a .index * 3) refl there))
     ∙ sym (next-given (a .header) (givenHazards (a .given .now)) (a .index) (a .s .now) (a .at) there)
 
 returns-3 : tie.Need-returns-3
 returns-3 c =
     let start = c .before .before .before .before .before .before in
     let a = start .args in
-    c .read-hazard .ensures ∙ sym (next-read (a .header) (givenHazards (a .given .now)) (a .index) (a .s .now) (a .at) (omega (arith, start .pre .1 .1 .0, c .before .if2 .left)))
+    c .read-hazard .ensures ∙ sym (next-read (a .header) (givenHazards (a .given .now)) (a .index) (a .s .now) (a .at)
+    (omega (arith, start .pre .1 .1 .0, c .before .if2 .left)))
 
 pub next-hazard-spec : {M : Type 1} → statement M
 next-hazard-spec =
     tie.close
-    (tie.spec (λ c κs. search needs) (λ c κs. search needs) returns (λ c. search needs) (λ c. search needs) (λ c. search needs) (λ c. search needs) (λ c. search needs)
+    (tie.spec (λ c κs. search needs) (λ c κs. search needs) returns (λ c. search needs) (λ c. search needs) (λ c. search needs) (λ c. search needs)
+    (λ c. search needs)
     (λ c. search needs) (λ c. search needs) (λ c. search needs) (λ c. search needs) (λ c κs. search needs) returns-2 (λ c κs. search needs) returns-3)

@@ -10,7 +10,8 @@ use Rattle.job.proofs.read.read_opening.Statement.{statement}
 use Rattle.job.proofs.read.read_opening.Tie as tie
 
 -- The header was read.
-read : (c : tie.After-header) → headerAt (c .before .before .before .before .args .s .now) ≡ accepted (record { header = c .header .given .0 .0; next = c .header .given .0 .1 .0 })
+read : (c : tie.After-header) → headerAt (c .before .before .before .before .args .s .now)
+    ≡ accepted (record { header = c .header .given .0 .0; next = c .header .given .0 .1 .0 })
 read c = sym (c .before .before .read-header .ensures) ∙ ap headerAnswer (c .header .given .1)
 
 returns : tie.Need-returns

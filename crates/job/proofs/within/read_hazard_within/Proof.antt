@@ -40,7 +40,8 @@ returns c =
     let next : first + 13 + 1 ≡ first + 14 = omega arith in
     hazard-whole _ _ s first _ (first + 1) (first + 5) (first + 9) (first + 11) (first + 13) (first + 14) fits
     (read-one s first (omega arith) (omega (arith, bounds .side)))
-    (read-word s byte 3 (first + 1) (omega arith) (w .before .before .word .ensures) (made .before .before .before .of-four .ensures) (omega arith) (omega arith)
+    (read-word s byte 3 (first + 1) (omega arith) (w .before .before .word .ensures) (made .before .before .before .of-four .ensures) (omega arith)
+    (omega arith)
     (sym (t .before .before .before .before .is-four .ensures) ∙ stations .0) start-long)
     (read-word s byte 3 (first + 5) (omega arith) (w .before .word2 .ensures) (made .before .before .of-four2 .ensures) (omega arith) (omega arith)
     (sym (t .before .before .before .is-four2 .ensures) ∙ stations .1) (omega (arith, bounds .long)))
@@ -54,6 +55,7 @@ pub read-hazard-within-spec : {M : Type 1} → statement M
 read-hazard-within-spec =
     tie.close
     (tie.spec (λ c. search needs) (λ c κs. search needs) (λ c. search needs) (λ c κs. search needs) (λ c. search needs) (λ c κs. search needs)
-    (λ c κs. search needs) (λ c κs. search needs) (λ c κs. search needs) (λ c κs. search needs) (λ c κs. search needs) (λ c κs. search needs) (λ c κs. search needs) (λ c κs. search needs)
+    (λ c κs. search needs) (λ c κs. search needs) (λ c κs. search needs) (λ c κs. search needs) (λ c κs. search needs) (λ c κs. search needs)
+    (λ c κs. search needs) (λ c κs. search needs)
     (λ c. search needs) (λ c. search needs) (λ c. search needs) (λ c. search needs) (λ c. search needs) (λ c κs. search needs)
     (λ c. search needs) returns (λ c κs. search needs) (λ c. search needs))

@@ -28,13 +28,15 @@ read-field-within-requires c κs = omega (arith, c .before .loop-test .taken, c 
 returns : tie.Need-returns Inv-loop μ-loop
 returns c =
     let r = c .before .before .before in
-    hazard-refused _ (r .before .before .before .loop .inv .0) (r .before .before .loop-test .taken) (r .read-field-within .result) (r .before .hazard-range .ensures) (r .read-field-within .ensures) (c .before .refusal .given .1)
+    hazard-refused _ (r .before .before .before .loop .inv .0) (r .before .before .loop-test .taken) (r .read-field-within .result)
+    (r .before .hazard-range .ensures) (r .read-field-within .ensures) (c .before .refusal .given .1)
 
 loop-again : tie.Need-loop-again Inv-loop μ-loop
 loop-again c =
     let r = c .before .before .before in
     let l = r .before .before .before in (
-      hazard-number (l .before .before .args .header) (l .loop .inv .0) (r .before .before .loop-test .taken) (r .read-field-within .result) (r .before .hazard-range .ensures) (r .read-field-within .ensures) (c .before .reading .given .1),
+      hazard-number (l .before .before .args .header) (l .loop .inv .0) (r .before .before .loop-test .taken) (r .read-field-within .result)
+          (r .before .hazard-range .ensures) (r .read-field-within .ensures) (c .before .reading .given .1),
       omega (arith, l .loop .inv .1, field-near _ _ _ _ (r .read-field-within .result) _ (r .read-field-within .ensures) (c .before .reading .given .1)),
     )
 
@@ -45,7 +47,8 @@ bounds c = numbers-bounds _ (c .before .loop .inv .0) (c .loop-test .left)
 pub read-numbers-within-spec : {M : Type 1} → statement M
 read-numbers-within-spec =
     tie.close
-    (tie.spec Inv-loop μ-loop (λ c. (all-left _ refl (omega arith), omega arith)) (λ c. search needs) (λ c. search needs) hazard-range-requires read-field-within-requires
+    (tie.spec Inv-loop μ-loop (λ c. (all-left _ refl (omega arith), omega arith)) (λ c. search needs) (λ c. search needs) hazard-range-requires
+    read-field-within-requires
     (λ c. search needs) (λ c. omega arith) (λ c. search needs) (λ c. search needs) returns
     (λ c. omega arith) (λ c. omega arith) loop-again
     (λ c. search needs) (λ c. omega (arith, bounds c .side)) (λ c. search needs) (λ c. search needs)

@@ -104,7 +104,8 @@ returns-2 : tie.Need-returns-2 Inv-loop μ-loop
 returns-2 c =
     let b = c .before .before in
     let l = b .before .before .loop in
-    sym (l .inv .7 ∙ read-needless (Sum b - Tops b) (Weight b) (Passed b) (S b) (At b) (omega arith) (there b) (omega arith) (counts b) (l .inv .6) (omega (arith, stands b)))
+    sym (l .inv .7 ∙ read-needless (Sum b - Tops b) (Weight b) (Passed b) (S b) (At b) (omega arith) (there b) (omega arith) (counts b) (l .inv .6)
+    (omega (arith, stands b)))
 
 returns-3 : tie.Need-returns-3 Inv-loop μ-loop
 returns-3 c =
@@ -113,7 +114,8 @@ returns-3 c =
     let value : Sum b + Weight b * B b - Tops b ≡ Sum b - Tops b + Weight b * B b = omega (arith, l .inv .4) in
     ap₂ Number (ap (λ (m : ℕ). Sum b + Weight b * m - Tops b) (stands b) ∙ value) (omega arith)
     ∙ sym (l .inv .7
-    ∙ read-whole (Sum b - Tops b) (Weight b) (Passed b) (S b) (At b) (omega arith) (there b) (omega arith) (counts b) (l .inv .6) (omega (arith, stands b)) (omega (arith, stands b)) (omega (arith, weight-le b, room-last b (omega (arith, stands b)))))
+    ∙ read-whole (Sum b - Tops b) (Weight b) (Passed b) (S b) (At b) (omega arith) (there b) (omega arith) (counts b) (l .inv .6) (omega (arith, stands b))
+    (omega (arith, stands b)) (omega (arith, weight-le b, room-last b (omega (arith, stands b)))))
 
 loop-again : tie.Need-loop-again Inv-loop μ-loop
 loop-again c =
@@ -139,7 +141,8 @@ returns-4 c =
     let l = c .before .loop in
     let a = c .before .before .before .before .args in
     let six : l .passed ≡ 6 = omega arith in
-    sym (l .inv .7 ∙ ap (λ (k : ℕ). readAfterGroups (l .sum - l .tops) (l .weight) k (a .s .now) (a .at)) six ∙ read-overlong (l .sum - l .tops) (l .weight) (a .s .now) (a .at))
+    sym (l .inv .7 ∙ ap (λ (k : ℕ). readAfterGroups (l .sum - l .tops) (l .weight) k (a .s .now) (a .at)) six
+    ∙ read-overlong (l .sum - l .tops) (l .weight) (a .s .now) (a .at))
 
 pub read-within-spec : {M : Type 1} → statement M
 read-within-spec =

@@ -51,12 +51,14 @@ returns-2 c =
     let t = c .before in
     let e = t .before .before .before in
     let s = e .before .before .before in
-    rw (fresh e, full-count (s .args .job) (s .pre) (size s) ∙ le-leb 256 (s .args .job .header .count) (t .if2 .taken)) (changes-refused (s .args .job) Full refl (c .unchanged2 .ensures))
+    rw (fresh e, full-count (s .args .job) (s .pre) (size s) ∙ le-leb 256 (s .args .job .header .count) (t .if2 .taken))
+    (changes-refused (s .args .job) Full refl (c .unchanged2 .ensures))
 
 test-given-requires : tie.Need-test-given-requires
 test-given-requires c κs = let s = c .before .before .before .before .before .before in open-header (s .args .job) (s .pre)
 
-may : (c : tie.After-enum-told) → let a = c .before .before .before .before .before .before .before .before .before .args in accepted tt ≡ admit (a .job .header) (a .name) (hazardGiven (a .hazard))
+may : (c : tie.After-enum-told) → let a = c .before .before .before .before .before .before .before .before .before .args in
+    accepted tt ≡ admit (a .job .header) (a .name) (hazardGiven (a .hazard))
 may c = ap (λ (o : Outcome). outcome o tt) (sym (c .enum-told .given .1)) ∙ c .before .before .test-given .ensures
 
 under-name-requires : tie.Need-under-name-requires
@@ -71,15 +73,21 @@ put-in-requires c κs =
     let e = t .before .before .before .before .before .before in
     let s = e .before .before .before in
     let few = open-count (s .args .job) (s .pre) in
-    let at = e .before .before .place-of .ensures in
-    (open-clear (s .args .job) (s .pre) (size s), (omega (arith, t .before .before .before .if2 .left), omega (arith, rank-most (s .args .name) (standing (s .args .job)), standing-length (s .args .job) (size s) few)))
+    let at = e .before .before .place-of .ensures in (
+      open-clear (s .args .job) (s .pre) (size s),
+      (
+        omega (arith, t .before .before .before .if2 .left),
+        omega (arith, rank-most (s .args .name) (standing (s .args .job)), standing-length (s .args .job) (size s) few),
+      ),
+    )
 
 returns-3 : tie.Need-returns-3
 returns-3 c =
     let t = c .before .before in
     let e = t .before .before .before .before .before .before in
     let s = e .before .before .before in
-    let done = add-done (s .args .job) (s .pre) (s .args .name) (hazardGiven (s .args .hazard)) (fresh e) (room (t .before .before .before)) (may t) _ (e .before .before .place-of .ensures) in
+    let done = add-done (s .args .job) (s .pre) (s .args .name) (hazardGiven (s .args .hazard)) (fresh e) (room (t .before .before .before)) (may t)
+    _ (e .before .before .place-of .ensures) in
     rw (c .put-in .ensures, c .before .under-name .ensures) (changes-done (s .args .job) done)
 
 returns-4 : tie.Need-returns-4
@@ -89,10 +97,12 @@ returns-4 c =
     let r = c .before .before .before .before in
     let e = r .before .before .before .before in
     let s = e .before .before .before in
-    rw (fresh e, room (r .before), sym (r .test-given .ensures) ∙ ap (λ (o : Outcome). outcome o tt) (x .1)) (changes-refused (s .args .job) (x .0 .0) refl (c .unchanged3 .ensures))
+    rw (fresh e, room (r .before), sym (r .test-given .ensures) ∙ ap (λ (o : Outcome). outcome o tt) (x .1))
+    (changes-refused (s .args .job) (x .0 .0) refl (c .unchanged3 .ensures))
 
 pub add-named-spec : {M : Type 1} → statement M
 add-named-spec =
     tie.close
-    (tie.spec place-of-requires stands-at-requires (λ c κs. search needs) returns (λ c κs. search needs) returns-2 test-given-requires (λ c. search needs) under-name-requires put-in-requires (λ c. search needs)
+    (tie.spec place-of-requires stands-at-requires (λ c κs. search needs) returns (λ c κs. search needs) returns-2 test-given-requires (λ c. search needs)
+    under-name-requires put-in-requires (λ c. search needs)
     (λ c κs. search needs) returns-3 returns-4)

@@ -23,7 +23,8 @@ loop-again : tie.Need-loop-again Inv-loop μ-loop
 loop-again c =
     let l = c .before .before .before .loop in
     let s = c .before .before .before .before .before .before in
-    let next = numbers-more (s .args .t1) (s .pre .0) (l .i) (omega arith) _ (l .given) (omega (arith, size s)) (omega arith) (l .inv .3) (c .packed .ensures) in
+    let next =
+    numbers-more (s .args .t1) (s .pre .0) (l .i) (omega arith) _ (l .given) (omega (arith, size s)) (omega arith) (l .inv .3) (c .packed .ensures) in
     (omega arith, l .inv .1, simp length-set (l .inv .2), next)
 
 returns : tie.Need-returns Inv-loop μ-loop
@@ -38,7 +39,12 @@ numbers-of-spec =
     (tie.spec
     Inv-loop
     μ-loop
-    (λ c. let s = c .before .before in (omega arith, header-bounds (s .args .t1 .header) (s .pre .0 .header) .count, s .pre .1, numbers-none (s .args .t1) (s .args .given .now)))
+    (λ c. let s = c .before .before in (
+      omega arith,
+      header-bounds (s .args .t1 .header) (s .pre .0 .header) .count,
+      s .pre .1,
+      numbers-none (s .args .t1) (s .args .given .now),
+    ))
     (λ c. search needs)
     (λ c. search needs)
     (λ c. search needs)

@@ -38,7 +38,8 @@ returns : tie.Need-returns
 returns c =
     let t = c .before .before .before .before in
     let s = t .before .before .before in
-    reach-done (s .args .t1) (s .pre) (size s) (s .args .name) (there t) _ (t .before .before .place-of .ensures) _ (c .before .unnamed .ensures) (c .hazard-reach .ensures)
+    reach-done (s .args .t1) (s .pre) (size s) (s .args .name) (there t) _ (t .before .before .place-of .ensures) _ (c .before .unnamed .ensures)
+    (c .hazard-reach .ensures)
 
 returns-2 : tie.Need-returns-2
 unfolding reachUnder

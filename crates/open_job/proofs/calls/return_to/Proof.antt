@@ -23,14 +23,23 @@ returns : tie.Need-returns
 returns c =
     let t = c .before .before .before .before in
     let a = t .before .before .before .args in
-    rw (return-tested (isOpenJob (a .job) && a .sound) (a .job .header) (a .number) (a .kept), may t, sym (c .before .before .before .is-used .ensures) ∙ c .before .before .if1 .taken, c .state-of .ensures)
+    rw (
+      return-tested (isOpenJob (a .job) && a .sound) (a .job .header) (a .number) (a .kept),
+      may t,
+      sym (c .before .before .before .is-used .ensures) ∙ c .before .before .if1 .taken,
+      c .state-of .ensures,
+    )
     (changes-done _ refl)
 
 returns-2 : tie.Need-returns-2
 returns-2 c =
     let t = c .before .before .before in
     let a = t .before .before .before .args in
-    rw (return-tested (isOpenJob (a .job) && a .sound) (a .job .header) (a .number) (a .kept), may t, sym (c .before .before .is-used .ensures) ∙ c .before .if1 .left)
+    rw (
+      return-tested (isOpenJob (a .job) && a .sound) (a .job .header) (a .number) (a .kept),
+      may t,
+      sym (c .before .before .is-used .ensures) ∙ c .before .if1 .left,
+    )
     (changes-refused _ State refl (c .unchanged .ensures))
 
 returns-3 : tie.Need-returns-3
@@ -44,4 +53,5 @@ returns-3 c =
 pub return-to-spec : {M : Type 1} → statement M
 return-to-spec =
     tie.close
-    (tie.spec (λ c κs. search needs) (λ c. search needs) (λ c κs. search needs) (λ c κs. search needs) (λ c κs. search needs) (λ c. search needs) (λ c κs. search needs) returns returns-2 returns-3)
+    (tie.spec (λ c κs. search needs) (λ c. search needs) (λ c κs. search needs) (λ c κs. search needs) (λ c κs. search needs) (λ c. search needs)
+    (λ c κs. search needs) returns returns-2 returns-3)

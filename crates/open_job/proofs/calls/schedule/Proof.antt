@@ -73,7 +73,8 @@ returns-2 c =
     rw (
       good t,
       t .before .before .if1 .taken,
-      schedule-done (s .args .job) (fits t) _ (n .numbers-of .ensures .0) (s .args .side) _ _ (w .walk .result) (w .walk .ensures .answer) (length (s .args .out .now)) side,
+      schedule-done (s .args .job) (fits t) _ (n .numbers-of .ensures .0) (s .args .side) _ _ (w .walk .result) (w .walk .ensures .answer)
+          (length (s .args .out .now)) side,
     )
     (c .before .before .plan-side .ensures)
 

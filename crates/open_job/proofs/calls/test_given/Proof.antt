@@ -25,8 +25,10 @@ stands-near-requires c κs =
     (s .pre, rw (given c) (ranged (c .before .before)))
 
 -- What the test said.
-told : (c : tie.After-stands-near) (b : Bool) → c .stands-near .result ≡ b → let a = c .before .before .before .before .before .args in standsNear (a .header) (hazardGiven (a .hazard)) ≡ b
-told c b e = let a = c .before .before .before .before .before .args in ap (standsNear (a .header)) (sym (given (c .before))) ∙ sym (c .stands-near .ensures) ∙ e
+told : (c : tie.After-stands-near) (b : Bool) → c .stands-near .result ≡ b → let a = c .before .before .before .before .before .args in
+    standsNear (a .header) (hazardGiven (a .hazard)) ≡ b
+told c b e = let a = c .before .before .before .before .before .args in
+    ap (standsNear (a .header)) (sym (given (c .before))) ∙ sym (c .stands-near .ensures) ∙ e
 
 returns : tie.Need-returns
 returns c =
@@ -47,4 +49,5 @@ returns-3 c =
 
 pub test-given-spec : {M : Type 1} → statement M
 test-given-spec =
-    tie.close (tie.spec (λ c κs. search needs) (λ c κs. (c .before .before .pre, ranged c)) (λ c κs. search needs) stands-near-requires returns returns-2 returns-3)
+    tie.close (tie.spec (λ c κs. search needs) (λ c κs. (c .before .before .pre, ranged c)) (λ c κs. search needs) stands-near-requires returns returns-2
+    returns-3)

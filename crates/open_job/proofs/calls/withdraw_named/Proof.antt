@@ -31,14 +31,24 @@ taken-out-requires : tie.Need-taken-out-requires
 taken-out-requires c κs =
     let s = c .before .before .before in
     let few = open-count (s .args .job) (s .pre) in
-    let at = c .before .before .place-of .ensures in
-    (open-clear (s .args .job) (s .pre) (size s), (few, omega (arith, rank-within (s .args .job .header) (s .args .name) 0 (standing (s .args .job)) (open-standing (s .args .job) (s .pre)) (there c), standing-length (s .args .job) (size s) few)))
+    let at = c .before .before .place-of .ensures in (
+      open-clear (s .args .job) (s .pre) (size s),
+      (
+        few,
+        omega (
+          arith,
+          rank-within (s .args .job .header) (s .args .name) 0 (standing (s .args .job)) (open-standing (s .args .job) (s .pre)) (there c),
+          standing-length (s .args .job) (size s) few,
+        ),
+      ),
+    )
 
 returns : tie.Need-returns
 returns c =
     let t = c .before in
     let s = t .before .before .before in
-    rw (c .taken-out .ensures) (changes-done (s .args .job) (withdraw-done (s .args .job) (s .pre) (s .args .name) (there t) _ (t .before .before .place-of .ensures)))
+    rw (c .taken-out .ensures) (changes-done (s .args .job)
+    (withdraw-done (s .args .job) (s .pre) (s .args .name) (there t) _ (t .before .before .place-of .ensures)))
 
 returns-2 : tie.Need-returns-2
 unfolding withdrawFrom

@@ -10,7 +10,8 @@ returns : tie.Need-returns
 returns c =
     let t = c .before .before .before in
     let a = t .before .args in
-    c .is-open-job .ensures ∙ ap isOpenJob (c .before .state-of .ensures) ∙ sound-used (a .kept) (a .header) (sym (t .is-used .ensures) ∙ c .before .before .if1 .taken)
+    c .is-open-job .ensures ∙ ap isOpenJob (c .before .state-of .ensures)
+    ∙ sound-used (a .kept) (a .header) (sym (t .is-used .ensures) ∙ c .before .before .if1 .taken)
 
 returns-2 : tie.Need-returns-2
 returns-2 c =

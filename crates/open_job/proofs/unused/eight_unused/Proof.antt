@@ -6,7 +6,8 @@ use Rattle.open_job.proofs.unused.eight_unused.Tie as tie
 
 returns : tie.Need-returns
 returns w8 =
-    let w7 = w8 .before in let w6 = w7 .before in let w5 = w6 .before in let w4 = w5 .before in let w3 = w4 .before in let w2 = w3 .before in let w1 = w2 .before in
+    let w7 = w8 .before in let w6 = w7 .before in let w5 = w6 .before in let w4 = w5 .before in let w3 = w4 .before in let w2 = w3 .before in
+    let w1 = w2 .before in
     let x = w1 .before .args in
     rw (
       w1 .place-unused .ensures,
@@ -23,4 +24,5 @@ returns w8 =
 pub eight-unused-spec : {M : Type 1} → statement M
 eight-unused-spec =
     tie.close
-    (tie.spec (λ c κs. search needs) (λ c κs. search needs) (λ c κs. search needs) (λ c κs. search needs) (λ c κs. search needs) (λ c κs. search needs) (λ c κs. search needs) (λ c κs. search needs) returns)
+    (tie.spec (λ c κs. search needs) (λ c κs. search needs) (λ c κs. search needs) (λ c κs. search needs) (λ c κs. search needs) (λ c κs. search needs)
+    (λ c κs. search needs) (λ c κs. search needs) returns)

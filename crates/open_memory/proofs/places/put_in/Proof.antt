@@ -1,4 +1,5 @@
--- `open_memory::places::put_in` meets its contract. The invariant: the hazards before the index are in place, and the one moved is next. The measure is how many are left. Assumes nothing.
+-- `open_memory::places::put_in` meets its contract. The invariant: the hazards before the index are in place, and the one moved is next. The measure is how
+-- many are left. Assumes nothing.
 use Prim.Native.Nat.{_-_}
 use native.Mathlib.Omega.{arith}
 use mathlib.Core.Path.{_≡_}
@@ -40,10 +41,12 @@ returns : tie.Need-returns Inv-loop μ-loop
 returns c =
     let t = c .before .before .before in
     let s = t .before .before .before in
-    rw (c .with-count .ensures) (up-end (s .args .job) (size s) (s .pre .0) (s .pre .1 .0) (s .args .at) (s .pre .1 .1) (s .args .new) (t .loop .inv) (c .before .before .loop-test .left))
+    rw (c .with-count .ensures) (up-end (s .args .job) (size s) (s .pre .0) (s .pre .1 .0) (s .args .at) (s .pre .1 .1) (s .args .new) (t .loop .inv)
+    (c .before .before .loop-test .left))
 
 pub put-in-spec : {M : Type 1} → statement M
 put-in-spec =
     tie.close
-    (tie.spec Inv-loop μ-loop loop-holds (λ c. search needs) array-copy-out-p (λ c. search needs) array-set-from-hazards (λ c. search needs) (λ c. search needs) loop-again
+    (tie.spec Inv-loop μ-loop loop-holds (λ c. search needs) array-copy-out-p (λ c. search needs) array-set-from-hazards (λ c. search needs) (λ c. search needs)
+    loop-again
     (λ c. search needs) array-set-from-hazards-2 (λ c. search needs) (λ c κs. search needs) returns)

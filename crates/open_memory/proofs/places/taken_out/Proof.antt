@@ -1,4 +1,5 @@
--- `open_memory::places::taken_out` meets its contract. The invariant: the hazards before the index are in place, and the one there is to go. The measure is how many are left. Assumes nothing.
+-- `open_memory::places::taken_out` meets its contract. The invariant: the hazards before the index are in place, and the one there is to go. The measure is how
+-- many are left. Assumes nothing.
 use Prim.Native.Nat.{_-_}
 use native.Mathlib.Omega.{arith}
 use mathlib.Core.Path.{_≡_}
@@ -45,5 +46,6 @@ returns c =
 pub taken-out-spec : {M : Type 1} → statement M
 taken-out-spec =
     tie.close
-    (tie.spec Inv-loop μ-loop (λ c. search needs) loop-holds (λ c. search needs) (λ c. search needs) array-copy-out-hazards (λ c. search needs) array-set-from-hazards (λ c. search needs) loop-again
+    (tie.spec Inv-loop μ-loop (λ c. search needs) loop-holds (λ c. search needs) (λ c. search needs) array-copy-out-hazards (λ c. search needs)
+    array-set-from-hazards (λ c. search needs) loop-again
     (λ c. search needs) array-set-from-hazards-2 (λ c. search needs) (λ c κs. search needs) returns)

@@ -1,4 +1,5 @@
--- `open_memory::rules::all_in_order` meets its contract. The invariant: what is left to test gives the answer. The measure is how many hazards are left. Assumes nothing.
+-- `open_memory::rules::all_in_order` meets its contract. The invariant: what is left to test gives the answer. The measure is how many hazards are left.
+-- Assumes nothing.
 use Prim.Native.Nat.{_-_}
 use native.Mathlib.Omega.{arith}
 use mathlib.Core.Path.{_≡_, sym, _∙_}
@@ -32,7 +33,8 @@ loop-again : tie.Need-loop-again Inv-loop μ-loop
 loop-again c =
     let t = c .before .before .before .before .before in
     let s = t .before .before in
-    order-next (s .args .t1) (size s) (header-bounds _ (s .pre) .count) (t .loop .inv) (omega arith) (sym (c .before .before .in-order-from .ensures) ∙ c .before .if1 .taken)
+    order-next (s .args .t1) (size s) (header-bounds _ (s .pre) .count) (t .loop .inv) (omega arith)
+    (sym (c .before .before .in-order-from .ensures) ∙ c .before .if1 .taken)
 
 returns : tie.Need-returns Inv-loop μ-loop
 returns c =
@@ -49,5 +51,6 @@ returns-2 c =
 pub all-in-order-spec : {M : Type 1} → statement M
 all-in-order-spec =
     tie.close
-    (tie.spec Inv-loop μ-loop loop-holds mul-p element-copy-out-p (λ c κs. search needs) (λ c. search needs) (λ c. search needs) (λ c. search needs) (λ c. search needs)
+    (tie.spec Inv-loop μ-loop loop-holds mul-p element-copy-out-p (λ c κs. search needs) (λ c. search needs) (λ c. search needs) (λ c. search needs)
+    (λ c. search needs)
     loop-again returns returns-2)

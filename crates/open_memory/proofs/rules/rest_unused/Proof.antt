@@ -1,4 +1,5 @@
--- `open_memory::rules::rest_unused` meets its contract. The invariant: what is left to test gives the answer. The measure is how many places are left. Assumes nothing.
+-- `open_memory::rules::rest_unused` meets its contract. The invariant: what is left to test gives the answer. The measure is how many places are left. Assumes
+-- nothing.
 use Prim.Native.Nat.{_-_}
 use native.Mathlib.Omega.{arith}
 use mathlib.Core.Path.{_≡_, sym, _∙_}
@@ -42,4 +43,5 @@ returns-2 c =
 pub rest-unused-spec : {M : Type 1} → statement M
 rest-unused-spec =
     tie.close
-    (tie.spec Inv-loop μ-loop loop-holds (λ c. search needs) (λ c. search needs) (λ c κs. search needs) (λ c. search needs) (λ c. search needs) loop-again returns returns-2)
+    (tie.spec Inv-loop μ-loop loop-holds (λ c. search needs) (λ c. search needs) (λ c κs. search needs) (λ c. search needs) (λ c. search needs) loop-again
+    returns returns-2)

@@ -13,7 +13,8 @@ returns c = sym (begin-out (c .before .before .args .h) (c .if1 .taken))
 returns-2 : tie.Need-returns-2
 unfolding headerRanges sharedRanges
 returns-2 c =
-    let top = c .before .before .before .before .before .before .before .before .before .before .before .before .before .before .before .before .before .before .before .before .before .before .before .before .before .before .before .road-top in
+    let top = c .before .before .before .before .before .before .before .before .before .before .before .before .before .before .before .before .before .before
+    .before .before .before .before .before .before .before .before .before .road-top in
     rw (top .ensures) (in-ranges nextInHeader [] _)
 
 pub shared-in-range-spec : {M : Type 1} → statement M

@@ -13,14 +13,20 @@ rem-rest c = omega (arith, c .gcd-of .ensures, gcd-some _ (c .before .before .pr
 
 returns : tie.Need-returns
 unfolding floor
-returns c = rw (sym (c .before .gcd-of .ensures)) (distance-whole _ _ (omega (arith, c .before .gcd-of .ensures, gcd-some _ (c .before .before .before .pre))) (c .if1 .taken))
+returns c = rw (sym (c .before .gcd-of .ensures))
+    (distance-whole _ _ (omega (arith, c .before .gcd-of .ensures, gcd-some _ (c .before .before .before .pre))) (c .if1 .taken))
 
 sub-result : tie.Need-sub-result
-sub-result c = omega (arith, mod-lt (c .before .before .before .args .run) {m = c .before .gcd-of .result} (omega (arith, c .before .gcd-of .ensures, gcd-some _ (c .before .before .before .pre))))
+sub-result c = omega (
+  arith,
+  mod-lt (c .before .before .before .args .run) {m = c .before .gcd-of .result}
+      (omega (arith, c .before .gcd-of .ensures, gcd-some _ (c .before .before .before .pre))),
+)
 
 returns-2 : tie.Need-returns-2
 unfolding floor
-returns-2 c = rw (sym (c .before .gcd-of .ensures)) (distance-rest _ _ (omega (arith, c .before .gcd-of .ensures, gcd-some _ (c .before .before .before .pre))) (omega arith))
+returns-2 c = rw (sym (c .before .gcd-of .ensures))
+    (distance-rest _ _ (omega (arith, c .before .gcd-of .ensures, gcd-some _ (c .before .before .before .pre))) (omega arith))
 
 pub floor-of-spec : {M : Type 1} → statement M
 floor-of-spec =

@@ -17,7 +17,8 @@ returns c =
     let end = t .before in
     let floor = end .before .before .floor-of in
     let p = end .before .before .before .before .pre in
-    found-replied _ _ _ (p .0) (p .1) (t .try-layouts .result) _ (floor .result) (t .try-layouts .ensures) (ends end) (floor .ensures) _ (c .before .if1 .taken) (c .counts-at .ensures)
+    found-replied _ _ _ (p .0) (p .1) (t .try-layouts .result) _ (floor .result) (t .try-layouts .ensures) (ends end) (floor .ensures) _ (c .before .if1 .taken)
+    (c .counts-at .ensures)
 
 returns-2 : tie.Need-returns-2
 returns-2 c =

@@ -21,10 +21,15 @@ returns : tie.Need-returns Inv-loop μ-loop
 returns c = sym (c .before .before .before .loop .inv .1 ∙ found-here outOfRange _ _ (c .before .before .loop-test .taken) (too-low _ (c .if1 .taken)))
 
 returns-2 : tie.Need-returns-2 Inv-loop μ-loop
-returns-2 c = sym (c .before .before .before .before .loop .inv .1 ∙ found-here outOfRange _ _ (c .before .before .before .loop-test .taken) (too-high _ (c .if2 .taken)))
+returns-2 c = sym (c .before .before .before .before .loop .inv .1
+    ∙ found-here outOfRange _ _ (c .before .before .before .loop-test .taken) (too-high _ (c .if2 .taken)))
 
 loop-again : tie.Need-loop-again Inv-loop μ-loop
-loop-again c = (omega arith, c .before .before .before .before .loop .inv .1 ∙ passed-here outOfRange _ _ (c .before .before .before .loop-test .taken) (in-range _ (c .before .if1 .left) (c .if2 .left)))
+loop-again c = (
+  omega arith,
+  c .before .before .before .before .loop .inv .1
+      ∙ passed-here outOfRange _ _ (c .before .before .before .loop-test .taken) (in-range _ (c .before .if1 .left) (c .if2 .left)),
+)
 
 returns-3 : tie.Need-returns-3 Inv-loop μ-loop
 unfolding someOf

@@ -15,13 +15,15 @@ returns-2 c =
     let e = c .before .before .before in
     let a = e .before .args in
     let test = leb (a .kept .overrun) (a .total - a .run) in
-    judge-same (a .kept) (a .total) (a .run) (a .place) (e .if1 .left) (and-left (a .kept .found) test (c .if2 .taken)) (leb-true _ _ (and-right (a .kept .found) test (c .if2 .taken)))
+    judge-same (a .kept) (a .total) (a .run) (a .place) (e .if1 .left) (and-left (a .kept .found) test (c .if2 .taken))
+    (leb-true _ _ (and-right (a .kept .found) test (c .if2 .taken)))
 
 returns-3 : tie.Need-returns-3
 returns-3 c =
     let e = c .before .before .before in
     let a = e .before .args in
-    judge-smaller (a .kept) (a .total) (a .run) (a .place) (e .if1 .left) (λ f. leb-false _ _ (right-false (a .kept .found) (leb (a .kept .overrun) (a .total - a .run)) f (c .if2 .left)))
+    judge-smaller (a .kept) (a .total) (a .run) (a .place) (e .if1 .left)
+    (λ f. leb-false _ _ (right-false (a .kept .found) (leb (a .kept .overrun) (a .total - a .run)) f (c .if2 .left)))
 
 pub judge-spec : {M : Type 1} → statement M
 judge-spec = tie.close (tie.spec returns returns-2 returns-3)

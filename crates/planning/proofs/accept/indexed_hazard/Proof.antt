@@ -23,7 +23,8 @@ use Rattle.planning.proofs.accept.indexed_hazard.Statement.{statement}
 use Rattle.planning.proofs.accept.indexed_hazard.Tie as tie
 
 -- The header was read.
-read : (c : tie.After-header) → headerAt (c .before .before .before .before .args .s .now) ≡ accepted (record { header = c .header .given .0 .0; next = c .header .given .0 .1 .0 })
+read : (c : tie.After-header) → headerAt (c .before .before .before .before .args .s .now)
+    ≡ accepted (record { header = c .header .given .0 .0; next = c .header .given .0 .1 .0 })
 read c = sym (c .before .before .read-header .ensures) ∙ ap headerAnswer (c .header .given .1)
 
 walk-requires : tie.Need-walk-requires
@@ -50,7 +51,8 @@ record Found (c : tie.After-enum-told) : Type 0 where
   is-accepted : acceptJob (header c .before .before .before .before .args .s .now) ≡ accepted job
   its-header : job .header ≡ header c .header .given .0 .0
   number : length (job .hazards) ≡ header c .header .given .0 .0 .count
-  noted : hazardOf (c .before .before .before .before .before .walk .last .1 .1 .1 .1 .1 .1 .1 .1 .0) ≡ hazardAt job (header c .before .before .before .before .args .index)
+  noted : hazardOf (c .before .before .before .before .before .walk .last .1 .1 .1 .1 .1 .1 .1 .1 .0)
+      ≡ hazardAt job (header c .before .before .before .before .args .index)
 
 found : (c : tie.After-enum-told) → Found c
 unfolding givenHazards
@@ -80,8 +82,12 @@ returns-2 c =
     let f = found (c .before .before) in
     let l = c .if1 .left in
     sym (indexed-found _ _ (f .is-accepted) (omega (arith, l, f .number))
-    ∙ ap (λ (h : Header). let a : AcceptedHazard = record { header = h; hazard = hazardAt (f .job) (header (c .before .before) .before .before .before .before .args .index) } in accepted a) (f .its-header)
-    ∙ ap (λ (z : Hazard). let a : AcceptedHazard = record { header = header (c .before .before) .header .given .0 .0; hazard = z } in accepted a) (sym (f .noted)))
+    ∙ ap (λ (h : Header). let a : AcceptedHazard = record {
+      header = h;
+      hazard = hazardAt (f .job) (header (c .before .before) .before .before .before .before .args .index);
+    } in accepted a) (f .its-header)
+    ∙ ap (λ (z : Hazard). let a : AcceptedHazard = record { header = header (c .before .before) .header .given .0 .0; hazard = z } in accepted a)
+    (sym (f .noted)))
 
 returns-3 : tie.Need-returns-3
 unfolding givenHazards
@@ -101,7 +107,10 @@ returns-4 c =
 pub indexed-hazard-spec : {M : Type 1} → statement M
 indexed-hazard-spec =
     tie.close
-    (tie.spec (λ c κs. search needs) (λ c. search needs) (λ c. search needs) (λ c. search needs) (λ c. search needs) (λ c. search needs) walk-requires (λ c. search needs) returns
-    (λ c. search needs) (λ c. search needs) (λ c. search needs) (λ c. omega (arith, bounds (c .before .before) (found (c .before .before)) (c .if1 .left))) (λ c. search needs) (λ c. omega (arith, bounds (c .before .before) (found (c .before .before)) (c .if1 .left)))
-    (λ c. search needs) (λ c. omega (arith, bounds (c .before .before) (found (c .before .before)) (c .if1 .left))) (λ c. search needs) (λ c. omega (arith, bounds (c .before .before) (found (c .before .before)) (c .if1 .left)))
+    (tie.spec (λ c κs. search needs) (λ c. search needs) (λ c. search needs) (λ c. search needs) (λ c. search needs) (λ c. search needs) walk-requires
+    (λ c. search needs) returns
+    (λ c. search needs) (λ c. search needs) (λ c. search needs) (λ c. omega (arith, bounds (c .before .before) (found (c .before .before)) (c .if1 .left)))
+    (λ c. search needs) (λ c. omega (arith, bounds (c .before .before) (found (c .before .before)) (c .if1 .left)))
+    (λ c. search needs) (λ c. omega (arith, bounds (c .before .before) (found (c .before .before)) (c .if1 .left))) (λ c. search needs)
+    (λ c. omega (arith, bounds (c .before .before) (found (c .before .before)) (c .if1 .left)))
     (λ c. search needs) (λ c. search needs) returns-2 returns-3 returns-4)

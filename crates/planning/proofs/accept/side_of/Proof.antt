@@ -13,7 +13,8 @@ use Rattle.planning.proofs.accept.side_of.Statement.{statement}
 use Rattle.planning.proofs.accept.side_of.Tie as tie
 
 -- The header was read.
-read : (c : tie.After-header) → headerAt (c .before .before .before .before .before .before .args .s .now) ≡ accepted (record { header = c .header .given .0 .0; next = c .header .given .0 .1 .0 })
+read : (c : tie.After-header) → headerAt (c .before .before .before .before .before .before .args .s .now)
+    ≡ accepted (record { header = c .header .given .0 .0; next = c .header .given .0 .1 .0 })
 read c = sym (c .before .before .read-header .ensures) ∙ ap headerAnswer (c .header .given .1)
 
 walk-requires : tie.Need-walk-requires
@@ -44,10 +45,13 @@ returns-2 : tie.Need-returns-2
 returns-2 c =
     let r = c .before .before .before in
     let a = r .before .before .before .before .args in
-    let x = c .before .refusal .given in
-    (sym (side-unread (a .s .now) (a .side) (x .0 .0) (accept-unread (a .s .now) (x .0 .0) (sym (r .read-header .ensures) ∙ ap headerAnswer (x .1)))), none-keyed (a .keys .now) (a .ends .now))
+    let x = c .before .refusal .given in (
+      sym (side-unread (a .s .now) (a .side) (x .0 .0) (accept-unread (a .s .now) (x .0 .0) (sym (r .read-header .ensures) ∙ ap headerAnswer (x .1)))),
+      none-keyed (a .keys .now) (a .ends .now),
+    )
 
 pub side-of-spec : {M : Type 1} → statement M
 side-of-spec =
     tie.close
-    (tie.spec (λ c κs. search needs) (λ c. search needs) (λ c. search needs) (λ c. search needs) walk-requires (λ c. search needs) (λ c. search needs) (λ c. search needs) returns returns-2)
+    (tie.spec (λ c κs. search needs) (λ c. search needs) (λ c. search needs) (λ c. search needs) walk-requires (λ c. search needs) (λ c. search needs)
+    (λ c. search needs) returns returns-2)

@@ -13,7 +13,8 @@ returns c =
     let second = early .before .before in
     let first = second .before in
     let a = first .before .args in
-    cut-by-sums (a .header) (a .hazard) (first .lengthened-by .ensures .0) (second .lengthened-by2 .ensures .0) (early .saturating-sub .ensures) (late .saturating-sub2 .ensures)
+    cut-by-sums (a .header) (a .hazard) (first .lengthened-by .ensures .0) (second .lengthened-by2 .ensures .0) (early .saturating-sub .ensures)
+    (late .saturating-sub2 .ensures)
 
 -- The road and the hazard lie below the last station, so that no sum leaves 64 bits.
 of-header : (s : tie.Start) → HeaderBounds (s .args .header)
@@ -32,7 +33,8 @@ cut-envelope-spec =
     (λ c κs. search needs)
     (λ c. let s = c .before .before .before .before .before in omega (arith, of-hazard s .ends, of-header s .road-end))
     (λ c κs. search needs)
-    (λ c. let s = c .before .before .before .before .before .before .before in omega (arith, of-hazard s .long, of-hazard s .ends, of-header s .road, of-header s .road-end))
+    (λ c. let s = c .before .before .before .before .before .before .before in
+    omega (arith, of-hazard s .long, of-hazard s .ends, of-header s .road, of-header s .road-end))
     (λ c. let s = c .before .before .before .before .before .before .before in omega (arith, of-hazard s .begins))
     (λ c. let s = c .before .before .before .before .before .before .before .before in omega (arith, of-hazard s .ends, of-header s .road-end))
     (λ c. search needs)

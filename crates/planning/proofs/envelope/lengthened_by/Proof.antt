@@ -19,7 +19,12 @@ returns c =
 farther-small : (c : tie.After-farther-by) → c .farther-by .result ≤ 20000
 farther-small c =
     let s = c .before .before in
-    omega (arith, c .farther-by .ensures, farther-top (s .args .header) (s .pre .0) (s .args .hazard .side) (trafficOf (s .args .traffic)), header-bounds (s .args .header) (s .pre .0) .way-top)
+    omega (
+      arith,
+      c .farther-by .ensures,
+      farther-top (s .args .header) (s .pre .0) (s .args .hazard .side) (trafficOf (s .args .traffic)),
+      header-bounds (s .args .header) (s .pre .0) .way-top,
+    )
 
 add-offset : tie.Need-add-offset
 add-offset c =

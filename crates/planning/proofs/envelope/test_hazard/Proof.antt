@@ -52,4 +52,5 @@ returns-4 c =
     tested-other (s .args .header) (s .args .hazard) (side s) (s .args .side) (s .args .index) (passed e) (c .if3 .left)
 
 pub test-hazard-spec : {M : Type 1} → statement M
-test-hazard-spec = tie.close (tie.spec (λ c κs. search needs) returns (λ c. search needs) returns-2 (λ c. search needs) cut-envelope-requires returns-3 returns-4)
+test-hazard-spec =
+    tie.close (tie.spec (λ c κs. search needs) returns (λ c. search needs) returns-2 (λ c. search needs) cut-envelope-requires returns-3 returns-4)

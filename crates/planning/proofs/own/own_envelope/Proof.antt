@@ -31,7 +31,8 @@ returns-2 c =
     let w = c .before .before .before .before .before .before .before in
     let p = w .before .before .before .before .before .before .before in
     let s = p .before .before in
-    walk-found (s .args .header) (s .args .hazard) (s .pre .1 .0) (rest p) (s .pre .1 .1) _ _ _ _ _ (w .walk .ensures) (c .before .before .before .before .before .before .keys2 .given) (c .if1 .left)
+    walk-found (s .args .header) (s .args .hazard) (s .pre .1 .0) (rest p) (s .pre .1 .1) _ _ _ _ _ (w .walk .ensures)
+    (c .before .before .before .before .before .before .keys2 .given) (c .if1 .left)
 
 pub own-envelope-spec : {M : Type 1} → statement M
 own-envelope-spec =

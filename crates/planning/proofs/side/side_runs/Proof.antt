@@ -23,7 +23,8 @@ returns c =
     let r = c .before .before .before .before .before .before .before in
     let a = r .before .before .before .before .args in
     let e = side-done _ _ (r .side-of .result) (a .s .now) (a .side) (r .side-of .ensures .0) (c .before .before .before .enum-told .given .1) in
-    let runs = requiredRuns (keyedEnvelopes (r .side-of .last .1 .1 .0) (r .side-of .last .1 .1 .1 .0) (r .side-of .result .count)) (r .side-of .result .continuity) in
+    let runs = requiredRuns (keyedEnvelopes (r .side-of .last .1 .1 .0) (r .side-of .last .1 .1 .1 .0) (r .side-of .result .count))
+    (r .side-of .result .continuity) in
     let whole : acceptedRuns (a .s .now) (a .side) ≡ accepted runs = runs-side (a .s .now) (a .side) ∙ rw e in
     rw (whole, c .required-runs .ensures) (ap accepted (runs-stored runs), refl)
 
@@ -39,4 +40,5 @@ returns-2 c =
 pub side-runs-spec : {M : Type 1} → statement M
 side-runs-spec =
     tie.close
-    (tie.spec (λ c. search needs) (λ c. search needs) (λ c κs. search needs) (λ c. search needs) (λ c. search needs) required-runs-requires (λ c. search needs) returns returns-2)
+    (tie.spec (λ c. search needs) (λ c. search needs) (λ c κs. search needs) (λ c. search needs) (λ c. search needs) required-runs-requires (λ c. search needs)
+    returns returns-2)

@@ -13,4 +13,5 @@ pub note-spec : {M : Type 1} → statement M
 note-spec =
     tie.close
     (tie.spec (λ c. search needs) (λ c. search needs) (λ c. search needs) (λ c. search needs) (λ c. search needs) (λ c. search needs) (λ c. search needs)
-    (λ c. simp length-set (omega (arith, c .before .before .before .pre))) (λ c. search needs) (λ c. simp length-set (omega (arith, c .before .before .before .before .pre))) (λ c. search needs) returns)
+    (λ c. simp length-set (omega (arith, c .before .before .before .pre))) (λ c. search needs)
+    (λ c. simp length-set (omega (arith, c .before .before .before .before .pre))) (λ c. search needs) returns)

@@ -40,13 +40,16 @@ own s e o p =
       on = on-side (a .header) (a .side) (a .index) (a .hazard) e o p;
       low = z .side;
       level = omega (arith, level, z .level-top);
-      start = start-given (a .header) (a .side) (a .index) (a .hazard) e o p (omega (arith, road .road, road .road-end)) (omega (arith, z .long, z .ends, road .road-end));
+      start = start-given (a .header) (a .side) (a .index) (a .hazard) e o p (omega (arith, road .road, road .road-end))
+          (omega (arith, z .long, z .ends, road .road-end));
     }
 
-taken : (c : tie.After-envelope) → Own (c .before .before .before .before .before .before) (c .envelope .given .0 .0 .stretch) (c .envelope .given .0 .0 .overhangs)
+taken : (c : tie.After-envelope) → Own (c .before .before .before .before .before .before) (c .envelope .given .0 .0 .stretch)
+    (c .envelope .given .0 .0 .overhangs)
 taken c = own _ _ _ (told (c .before .before) _ (c .envelope .given .1))
 
-room : (c : tie.After-envelope) → let s = c .before .before .before .before .before .before in (s .args .before .count < length (s .args .keys .now)) × (s .args .before .count < length (s .args .ends .now))
+room : (c : tie.After-envelope) → let s = c .before .before .before .before .before .before in
+    (s .args .before .count < length (s .args .keys .now)) × (s .args .before .count < length (s .args .ends .now))
 room c =
     let s = c .before .before .before .before .before .before in
     s .pre .1 .1 .1 .1 .1 .1 .0 (omega (arith, taken c .on, taken c .low))
@@ -56,7 +59,8 @@ returns c =
     let s = c .before .before .before .before .before .before .before .before in
     let a = s .args in
     let t = c .before .before .enum-told2 .given in
-    five-held (a .header) (a .side) (a .asked) (a .index) (a .hazard) (a .keys .now) (a .ends .now) (a .noted .now) (a .before) (s .pre .1 .1 .1 .1 .1 .0) (s .pre .1 .1 .1 .1 .0)
+    five-held (a .header) (a .side) (a .asked) (a .index) (a .hazard) (a .keys .now) (a .ends .now) (a .noted .now) (a .before) (s .pre .1 .1 .1 .1 .1 .0)
+    (s .pre .1 .1 .1 .1 .0)
     (t .0 .0) (told (c .before .before .before .before) _ (t .1)) (c .if2 .taken)
 
 returns-2 : tie.Need-returns-2
@@ -66,23 +70,28 @@ returns-2 c =
     let a = s .args in
     let z = e .envelope .given .0 .0 in
     rw (c .before .key-of .ensures)
-    (envelope-taken (a .header) (a .side) (a .asked) (a .index) (a .hazard) (a .keys .now) (a .ends .now) (a .noted .now) (a .before) (s .pre .1 .1 .1 .1 .1 .0) (s .pre .1 .1 .1 .1 .0)
-    (z .stretch) (z .overhangs) (c .greater-of .result) (told (e .before .before) _ (e .envelope .given .1)) (c .greater-of .ensures) (taken e .low) (omega (arith, s .pre .1 .1 .0, s .pre .1 .1 .1 .0)) (room e .0) (room e .1) (omega (arith, taken e .level)))
+    (envelope-taken (a .header) (a .side) (a .asked) (a .index) (a .hazard) (a .keys .now) (a .ends .now) (a .noted .now) (a .before) (s .pre .1 .1 .1 .1 .1 .0)
+    (s .pre .1 .1 .1 .1 .0)
+    (z .stretch) (z .overhangs) (c .greater-of .result) (told (e .before .before) _ (e .envelope .given .1)) (c .greater-of .ensures) (taken e .low)
+    (omega (arith, s .pre .1 .1 .0, s .pre .1 .1 .1 .0)) (room e .0) (room e .1) (omega (arith, taken e .level)))
 
 returns-3 : tie.Need-returns-3
 returns-3 c =
     let t = c .before .before .before .before .before in
     let s = t .before .before .before .before .before .before in
     let a = s .args in
-    none-taken (a .header) (a .side) (a .asked) (a .index) (a .hazard) (a .keys .now) (a .ends .now) (a .noted .now) (a .before) (s .pre .1 .1 .1 .1 .1 .0) (s .pre .1 .1 .1 .1 .0)
-    _ (told (t .before .before) _ (t .enum-told .given .1)) (λ high. simp (eq-eqb (a .index) (a .asked) (c .before .before .before .before .if1 .taken)) (c .before .before .note .ensures))
+    none-taken (a .header) (a .side) (a .asked) (a .index) (a .hazard) (a .keys .now) (a .ends .now) (a .noted .now) (a .before) (s .pre .1 .1 .1 .1 .1 .0)
+    (s .pre .1 .1 .1 .1 .0)
+    _ (told (t .before .before) _ (t .enum-told .given .1))
+    (λ high. simp (eq-eqb (a .index) (a .asked) (c .before .before .before .before .if1 .taken)) (c .before .before .note .ensures))
 
 returns-4 : tie.Need-returns-4
 returns-4 c =
     let t = c .before in
     let s = t .before .before .before .before .before .before in
     let a = s .args in
-    none-taken (a .header) (a .side) (a .asked) (a .index) (a .hazard) (a .keys .now) (a .ends .now) (a .noted .now) (a .before) (s .pre .1 .1 .1 .1 .1 .0) (s .pre .1 .1 .1 .1 .0)
+    none-taken (a .header) (a .side) (a .asked) (a .index) (a .hazard) (a .keys .now) (a .ends .now) (a .noted .now) (a .before)
+    (s .pre .1 .1 .1 .1 .1 .0) (s .pre .1 .1 .1 .1 .0)
     (a .noted .now) (told (t .before .before) _ (t .enum-told .given .1)) (λ high. simp (ne-eqb (a .index) (a .asked) (c .if1 .left)))
 
 returns-5 : tie.Need-returns-5
@@ -90,14 +99,20 @@ returns-5 c =
     let t = c .before .before .before in
     let s = t .before .before .before .before .before .before in
     let a = s .args in
-    five-first (a .header) (a .side) (a .asked) (a .index) (a .hazard) (a .keys .now) (a .ends .now) (a .noted .now) (a .before) (s .pre .1 .1 .1 .1 .1 .0) (s .pre .1 .1 .1 .1 .0)
+    five-first (a .header) (a .side) (a .asked) (a .index) (a .hazard) (a .keys .now) (a .ends .now) (a .noted .now) (a .before) (s .pre .1 .1 .1 .1 .1 .0)
+    (s .pre .1 .1 .1 .1 .0)
     (t .enum-told2 .given .0 .0) (told (t .before .before) _ (t .enum-told2 .given .1)) (c .before .if2 .left) (s .pre .1 .1 .0)
 
 pub take-spec : {M : Type 1} → statement M
 take-spec =
     tie.close
     (tie.spec (λ c κs. search needs) (λ c. search needs) (λ c. omega (arith, taken (c .before .before .before .before .before) .level))
-    (λ c κs. let e = c .before .before .before .before .before in (taken e .start, omega (arith, e .before .before .before .before .before .before .pre .1 .1 .0, e .before .before .before .before .before .before .pre .1 .1 .1 .0)))
-    (λ c. search needs) (λ c. room (c .before .before .before .before .before .before) .0) (λ c. search needs) (λ c. room (c .before .before .before .before .before .before) .1)
-    (λ c. search needs) (λ c κs. search needs) (λ c. search needs) (λ c κs. c .before .before .before .before .before .before .before .before .pre .1 .1 .1 .1 .1 .1 .1 (c .before .if1 .taken))
+    (λ c κs. let e = c .before .before .before .before .before in (
+      taken e .start,
+      omega (arith, e .before .before .before .before .before .before .pre .1 .1 .0, e .before .before .before .before .before .before .pre .1 .1 .1 .0),
+    ))
+    (λ c. search needs) (λ c. room (c .before .before .before .before .before .before) .0) (λ c. search needs)
+    (λ c. room (c .before .before .before .before .before .before) .1)
+    (λ c. search needs) (λ c κs. search needs) (λ c. search needs)
+    (λ c κs. c .before .before .before .before .before .before .before .before .pre .1 .1 .1 .1 .1 .1 .1 (c .before .if1 .taken))
     (λ c. search needs) returns (λ c. search needs) (λ c. search needs) returns-2 (λ c. search needs) returns-3 returns-4 returns-5)

@@ -17,7 +17,8 @@ use Rattle.planning.proofs.walk.walk.Tie as tie
 
 abbrev Inv-loop : tie.InvT-loop
 Inv-loop s first header given side asked keys₀ ends₀ noted₀ count taken₀ at₀ i₀ keys ends noted taken at i =
-    SoFar header (givenHazards given) side asked s first noted₀ keys ends noted taken at i × (length keys ≡ length keys₀) × (length ends ≡ length ends₀) × (length noted ≡ length noted₀)
+    SoFar header (givenHazards given) side asked s first noted₀ keys ends noted taken at i × (length keys ≡ length keys₀) × (length ends ≡ length ends₀)
+    × (length noted ≡ length noted₀)
 
 abbrev μ-loop : tie.MeasureT-loop
 μ-loop s first header given side asked keys₀ ends₀ noted₀ count taken₀ at₀ i₀ keys ends noted taken at i = header .count - i
@@ -28,8 +29,13 @@ begin c = c .before .before .before .before .before .before
 loop-holds : tie.Need-loop-holds Inv-loop μ-loop
 loop-holds c =
     let s = begin c in
-    let a = s .args in
-    (rw (c .nothing .ensures) (walk-begun (a .header) (givenHazards (a .given .now)) (a .side) (a .asked) (a .s .now) (a .first) (a .noted .now) (a .keys .now) (a .ends .now) (s .pre .1 .1)), refl, refl, refl)
+    let a = s .args in (
+      rw (c .nothing .ensures) (walk-begun (a .header) (givenHazards (a .given .now)) (a .side) (a .asked) (a .s .now) (a .first) (a .noted .now) (a .keys .now)
+          (a .ends .now) (s .pre .1 .1)),
+      refl,
+      refl,
+      refl,
+    )
 
 next-hazard-requires : tie.Need-next-hazard-requires Inv-loop μ-loop
 next-hazard-requires c κs =
@@ -44,7 +50,8 @@ hazard-fits c =
     let s = begin (t .before .before .before) in
     let a = s .args in
     let l = t .before .before .loop in
-    next-fits (a .header) (givenHazards (a .given .now)) (l .i) (a .s .now) (l .at) _ (s .pre .1 .0 .fit) (sym (t .next-hazard .ensures) ∙ ap hazardAnswer (c .hazard .given .1))
+    next-fits (a .header) (givenHazards (a .given .now)) (l .i) (a .s .now) (l .at) _ (s .pre .1 .0 .fit)
+    (sym (t .next-hazard .ensures) ∙ ap hazardAnswer (c .hazard .given .1))
 
 take-requires : tie.Need-take-requires Inv-loop μ-loop
 take-requires c κs =
@@ -86,7 +93,8 @@ loop-again c =
     let a = s .args in
     let l = t .before .before .loop in (
       walk-next (a .header) (givenHazards (a .given .now)) (a .side) (a .asked) (a .s .now) (a .first) (a .noted .now) (l .inv .0) (t .before .loop-test .taken)
-          (hazardAnswer (t .next-hazard .result)) (t .next-hazard .ensures) (ap hazardAnswer (h .hazard .given .1)) (k .take .ensures) (k .take .kept .0) (k .take .kept .1 .0) (k .take .kept .1 .1 .0),
+          (hazardAnswer (t .next-hazard .result)) (t .next-hazard .ensures) (ap hazardAnswer (h .hazard .given .1)) (k .take .ensures) (k .take .kept .0)
+          (k .take .kept .1 .0) (k .take .kept .1 .1 .0),
       k .take .kept .0 ∙ l .inv .1,
       k .take .kept .1 .0 ∙ l .inv .2,
       k .take .kept .1 .1 .0 ∙ l .inv .3,
@@ -98,7 +106,8 @@ returns c =
     let t = r .before .before in
     let a = begin (t .before .before .before) .args in
     rw (c .refused .ensures)
-    (walk-refused (a .header) (givenHazards (a .given .now)) (a .side) (a .asked) (a .s .now) (a .first) (a .noted .now) (t .before .before .loop .inv .0) (t .before .loop-test .taken)
+    (walk-refused (a .header) (givenHazards (a .given .now)) (a .side) (a .asked) (a .s .now) (a .first) (a .noted .now) (t .before .before .loop .inv .0)
+    (t .before .loop-test .taken)
     (hazardAnswer (t .next-hazard .result)) (t .next-hazard .ensures) (r .refusal .given .0 .0) (ap hazardAnswer (r .refusal .given .1)))
 
 returns-2 : tie.Need-returns-2 Inv-loop μ-loop
@@ -106,7 +115,8 @@ returns-2 c =
     let l = c .before .before .before in
     let a = begin (l .before) .args in
     rw (c .refused2 .ensures)
-    (walk-over (a .header) (givenHazards (a .given .now)) (a .side) (a .asked) (a .s .now) (a .first) (a .noted .now) (l .loop .inv .0) (c .before .before .loop-test .left) (c .before .if1 .taken))
+    (walk-over (a .header) (givenHazards (a .given .now)) (a .side) (a .asked) (a .s .now) (a .first) (a .noted .now) (l .loop .inv .0)
+    (c .before .before .loop-test .left) (c .before .if1 .taken))
 
 returns-3 : tie.Need-returns-3 Inv-loop μ-loop
 returns-3 c =
@@ -120,16 +130,22 @@ returns-4 : tie.Need-returns-4 Inv-loop μ-loop
 returns-4 c =
     let l = c .before .before .before .before in
     let a = begin (l .before) .args in
-    walk-done (a .header) (givenHazards (a .given .now)) (a .side) (a .asked) (a .s .now) (a .first) (a .noted .now) (l .loop .inv .0) (c .before .before .before .loop-test .left) (c .before .before .if1 .left) (c .if2 .left)
+    walk-done (a .header) (givenHazards (a .given .now)) (a .side) (a .asked) (a .s .now) (a .first) (a .noted .now) (l .loop .inv .0)
+    (c .before .before .before .loop-test .left) (c .before .before .if1 .left) (c .if2 .left)
 
 pub walk-spec : {M : Type 1} → statement M
 walk-spec =
     tie.close
-    (tie.spec Inv-loop μ-loop (λ c κs. search needs) loop-holds next-hazard-requires (λ c. search needs) take-requires (λ c. search needs) (λ c κs. search needs)
-    (λ c. c .before .before .before .before .before .before .loop .inv .1) (λ c. c .before .before .before .before .before .before .loop .inv .2) (λ c. c .before .before .before .before .before .before .loop .inv .3)
+    (tie.spec Inv-loop μ-loop (λ c κs. search needs) loop-holds next-hazard-requires (λ c. search needs) take-requires (λ c. search needs)
+    (λ c κs. search needs)
+    (λ c. c .before .before .before .before .before .before .loop .inv .1) (λ c. c .before .before .before .before .before .before .loop .inv .2)
+    (λ c. c .before .before .before .before .before .before .loop .inv .3)
     returns
-    (λ c. let t = c .before .before .before .before .before .before .before .before .before .before .before .before .before in let s = begin (t .before .before .before) in omega (arith, t .before .loop-test .taken, header-bounds (s .args .header) (s .pre .0) .count))
+    (λ c. let t = c .before .before .before .before .before .before .before .before .before .before .before .before .before in
+    let s = begin (t .before .before .before) in omega (arith, t .before .loop-test .taken, header-bounds (s .args .header) (s .pre .0) .count))
     (λ c. omega arith) loop-again (λ c κs. search needs)
     (λ c. c .before .before .before .loop .inv .1) (λ c. c .before .before .before .loop .inv .2) (λ c. c .before .before .before .loop .inv .3)
-    returns-2 (λ c κs. search needs) (λ c. c .before .before .before .before .before .loop .inv .1) (λ c. c .before .before .before .before .before .loop .inv .2) (λ c. c .before .before .before .before .before .loop .inv .3)
-    returns-3 (λ c. c .before .before .before .before .loop .inv .1) (λ c. c .before .before .before .before .loop .inv .2) (λ c. c .before .before .before .before .loop .inv .3) returns-4)
+    returns-2 (λ c κs. search needs) (λ c. c .before .before .before .before .before .loop .inv .1)
+    (λ c. c .before .before .before .before .before .loop .inv .2) (λ c. c .before .before .before .before .before .loop .inv .3)
+    returns-3 (λ c. c .before .before .before .before .loop .inv .1) (λ c. c .before .before .before .before .loop .inv .2)
+    (λ c. c .before .before .before .before .loop .inv .3) returns-4)

@@ -22,12 +22,15 @@ chosen c =
     ⊎-elim (λ w. rw (eq-eqb side 1 (w .0 .taken)) (w .1)) (λ w. rw (ne-eqb side 1 (w .0 .left)) (w .1)) (c .if1 .came)
 
 -- Where a record is found: in order, and within the slice.
-place : (c : tie.After-known-told) → let p = c .before .start .given .0 in (p .0 ≤ p .1 .0) × (p .1 .0 ≤ length (now (c .before .before .before .before .if1 .asked)))
+place : (c : tie.After-known-told) → let p = c .before .start .given .0 in
+    (p .0 ≤ p .1 .0) × (p .1 .0 ≤ length (now (c .before .before .before .before .if1 .asked)))
 place c =
     let k = c .before .before .before .before in
     let a = k .before .before .before .args in
-    let w = lookup-within (now (a .right)) (now (a .left)) (a .side) (a .station) (partBetween (c .before .start .given .0 .0) (c .before .start .given .0 .1 .0))
-    (index-bytes _ (λ i. omega (arith, k .before .before .shared-slice-known .given i))) (index-bytes _ (λ i. omega (arith, k .before .shared-slice-known2 .given i)))
+    let w =
+    lookup-within (now (a .right)) (now (a .left)) (a .side) (a .station) (partBetween (c .before .start .given .0 .0) (c .before .start .given .0 .1 .0))
+    (index-bytes _ (λ i. omega (arith, k .before .before .shared-slice-known .given i)))
+    (index-bytes _ (λ i. omega (arith, k .before .shared-slice-known2 .given i)))
     (sym (c .before .before .before .locate .ensures) ∙ ap locatedReply (c .before .start .given .1)) in
     (omega (arith, w .some), omega (arith, w .some, w .ends, ap length (ap now (chosen k) ∙ asked-now (a .side) (a .right) (a .left))))
 
@@ -35,12 +38,14 @@ returns : tie.Need-returns
 returns c =
     let k = c .before .before .before .before in
     let p = c .before .before .start .given in
-    is-part _ _ _ (locatedReply (Located.Found (p .0 .0) (p .0 .1 .0))) _ (chosen (k .before)) (sym (ap locatedReply (p .1)) ∙ k .locate .ensures) (search needs)
+    is-part _ _ _ (locatedReply (Located.Found (p .0 .0) (p .0 .1 .0))) _ (chosen (k .before)) (sym (ap locatedReply (p .1)) ∙ k .locate .ensures)
+    (search needs)
 
 returns-2 : tie.Need-returns-2
 returns-2 c =
     let k = c .before .before .before in
-    is-part _ _ _ (locatedReply Located.Nothing) _ (chosen (k .before)) (sym (ap locatedReply (c .before .enum-told .given .1)) ∙ k .locate .ensures) (search needs)
+    is-part _ _ _ (locatedReply Located.Nothing) _ (chosen (k .before)) (sym (ap locatedReply (c .before .enum-told .given .1)) ∙ k .locate .ensures)
+    (search needs)
 
 returns-3 : tie.Need-returns-3
 returns-3 c =

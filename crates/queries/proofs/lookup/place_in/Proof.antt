@@ -11,10 +11,12 @@ returns : tie.Need-returns
 returns c = sym (ap (placeReply _) (c .enum-told .given .1)) ∙ c .before .before .walk .ensures .1
 
 returns-2 : tie.Need-returns-2
-returns-2 c = sym (ap accepted (so-far _ _ _ _ (c .if1 .taken))) ∙ sym (ap (placeReply _) (c .before .before .from .given .1)) ∙ c .before .before .before .before .walk .ensures .1
+returns-2 c = sym (ap accepted (so-far _ _ _ _ (c .if1 .taken))) ∙ sym (ap (placeReply _) (c .before .before .from .given .1))
+    ∙ c .before .before .before .before .walk .ensures .1
 
 returns-3 : tie.Need-returns-3
-returns-3 c = sym (ap accepted (so-far-none _ _ _ _ (c .if1 .left))) ∙ sym (ap (placeReply _) (c .before .before .from .given .1)) ∙ c .before .before .before .before .walk .ensures .1
+returns-3 c = sym (ap accepted (so-far-none _ _ _ _ (c .if1 .left))) ∙ sym (ap (placeReply _) (c .before .before .from .given .1))
+    ∙ c .before .before .before .before .walk .ensures .1
 
 pub place-in-spec : {M : Type 1} → statement M
 place-in-spec = tie.close (tie.spec (λ c κs. search needs) (λ c. search needs) (λ c. search needs) returns returns-2 returns-3)

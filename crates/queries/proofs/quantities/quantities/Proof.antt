@@ -21,7 +21,8 @@ good c = all-ranged _ _ .0 (sym (c .before .well-asked .ensures) ∙ not-false _
 returns : tie.Need-returns
 returns c =
     c .no-quantities .ensures
-    ∙ sym (ap quantitiesReplied (quantities-argument _ _ _ (λ (h : AllRanged _ _). false≢true (sym (not-true _ (c .before .if1 .taken)) ∙ c .before .before .well-asked .ensures ∙ all-ranged _ _ .1 h))))
+    ∙ sym (ap quantitiesReplied (quantities-argument
+    _ _ _ (λ (h : AllRanged _ _). false≢true (sym (not-true _ (c .before .if1 .taken)) ∙ c .before .before .well-asked .ensures ∙ all-ranged _ _ .1 h))))
 
 returns-2 : tie.Need-returns-2
 returns-2 c =
@@ -48,4 +49,5 @@ pub quantities-spec : {M : Type 1} → statement M
 quantities-spec =
     tie.close
     (tie.spec (λ c κs. search needs) (λ c κs. search needs) returns (λ c κs. search needs) returns-2
-    (λ c. omega (arith, good (c .before) .1)) (λ c κs. sums-none _ (omega arith)) (λ c. search needs) (λ c. search needs) (λ c κs. search needs) returns-3 returns-4)
+    (λ c. omega (arith, good (c .before) .1)) (λ c κs. sums-none _ (omega arith)) (λ c. search needs) (λ c. search needs) (λ c κs. search needs) returns-3
+    returns-4)

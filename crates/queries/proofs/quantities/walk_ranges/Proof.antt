@@ -18,10 +18,12 @@ abbrev μ-loop : tie.MeasureT-loop
 μ-loop s level numbers sums₀ count first records₀ at₀ end₀ last₀ sums records at end last = count - records
 
 returns : tie.Need-returns Inv-loop μ-loop
-returns c = tallied-head _ _ _ _ (sym (c .before .before .read-head .ensures) ∙ ap headReply (c .enum-told .given .1)) (c .before .before .before .before .before .pre)
+returns c =
+    tallied-head _ _ _ _ (sym (c .before .before .read-head .ensures) ∙ ap headReply (c .enum-told .given .1)) (c .before .before .before .before .before .pre)
 
 loop-holds : tie.Need-loop-holds Inv-loop μ-loop
-loop-holds c = tallying-start _ _ _ _ _ (sym (c .before .before .before .read-head .ensures) ∙ ap headReply (c .before .count .given .1)) (c .before .before .before .before .before .before .pre)
+loop-holds c = tallying-start _ _ _ _ _ (sym (c .before .before .before .read-head .ensures) ∙ ap headReply (c .before .count .given .1))
+    (c .before .before .before .before .before .before .pre)
 
 next-record-requires : tie.Need-next-record-requires Inv-loop μ-loop
 next-record-requires c κs = c .before .loop .inv .ends
@@ -29,13 +31,15 @@ next-record-requires c κs = c .before .loop .inv .ends
 returns-2 : tie.Need-returns-2 Inv-loop μ-loop
 returns-2 c =
     let l = c .before .before .before .before .loop in
-    tallied-record _ _ _ _ _ _ _ _ _ (l .inv) (c .before .before .before .loop-test .taken) (sym (c .before .before .next-record .ensures) ∙ ap recordReply (c .enum-told2 .given .1))
+    tallied-record _ _ _ _ _ _ _ _ _ (l .inv) (c .before .before .before .loop-test .taken)
+    (sym (c .before .before .next-record .ensures) ∙ ap recordReply (c .enum-told2 .given .1))
 
 add-run-requires : tie.Need-add-run-requires Inv-loop μ-loop
 add-run-requires c κs =
     let l = c .before .before .before .before .before .before .loop in
     let passed : ReadRun = record { run = c .before .before .run .given .0 .0; next = c .before .before .run .given .0 .1 .0 } in
-    let next = record-follows _ _ _ _ passed (sym (c .before .before .before .before .next-record .ensures) ∙ ap recordReply (c .before .before .run .given .1)) in
+    let next =
+    record-follows _ _ _ _ passed (sym (c .before .before .before .before .next-record .ensures) ∙ ap recordReply (c .before .before .run .given .1)) in
     (omega (arith, next .long), record { few = l .inv .kept .few; places = l .inv .kept .places; fit = λ i. omega (arith, l .inv .kept .fit i, next .after) })
 
 loop-again : tie.Need-loop-again Inv-loop μ-loop

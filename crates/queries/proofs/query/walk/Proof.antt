@@ -39,7 +39,8 @@ returns c =
 
 loop-holds : tie.Need-loop-holds Inv-loop μ-loop
 loop-holds c =
-    walking-start _ _ _ _ _ _ (bytes (c .before .before .before .before)) (sym (c .before .before .before .read-head .ensures) ∙ ap headReply (c .before .count .given .1))
+    walking-start _ _ _ _ _ _ (bytes (c .before .before .before .before))
+    (sym (c .before .before .before .read-head .ensures) ∙ ap headReply (c .before .count .given .1))
 
 read-record-requires : tie.Need-read-record-requires Inv-loop μ-loop
 read-record-requires c κs = c .before .loop .inv .ends
@@ -52,7 +53,8 @@ abbrev read : Body → ReadRun
 read c = record { run = c .before .before .run .given .0 .0; next = c .before .before .run .given .0 .1 .0 }
 
 is-read : (c : Body) → let l = c .before .before .before .before .before .before .loop in
-    recordAt (l .end) (l .last) (c .before .before .before .before .before .before .before .before .before .before .before .before .args .s .now) (l .at) ≡ accepted (read c)
+    recordAt (l .end) (l .last) (c .before .before .before .before .before .before .before .before .before .before .before .before .args .s .now) (l .at)
+    ≡ accepted (read c)
 is-read c = sym (c .before .before .before .before .read-record .ensures) ∙ ap recordReply (c .before .before .run .given .1)
 
 follows : (c : Body) → let l = c .before .before .before .before .before .before .loop in MayFollow (l .end) (l .last) (read c .run)
@@ -85,7 +87,8 @@ loop-again : tie.Need-loop-again Inv-loop μ-loop
 loop-again c =
     let d = c .before .before in
     let e = d .before .before .before .before .before .before .before in
-    walking-turn _ _ _ _ _ _ _ _ _ _ _ _ _ (e .loop .inv) (bytes (e .before .before .before .before .before)) (read (d .before)) (d .before .before .before .before .before .before .loop-test .taken)
+    walking-turn _ _ _ _ _ _ _ _ _ _ _ _ _ (e .loop .inv) (bytes (e .before .before .before .before .before)) (read (d .before))
+    (d .before .before .before .before .before .before .loop-test .taken)
     (is-read (d .before)) _ _ _ _ (added d) (⊎-elim (λ w. inl (w .0 .taken, w .1, w .2, w .3)) (λ w. inr (w .0 .left, w .1, w .2, w .3)) (c .if2 .came))
 
 -- The overlap's sum has room in 64 bits.

@@ -15,7 +15,8 @@ abbrev Follows : tie.Start → Type 0
 Follows c = MayFollow (c .args .end) (c .args .level) (runAfter (c .args .end) (c .args .gap) (c .args .length) (c .args .own))
 
 -- Where it may not, the record is refused.
-refuse : (c : tie.Start) → (Follows c → ⊥) → refused 10 0 ≡ followingRun (c .args .end) (c .args .level) (c .args .gap) (c .args .length) (c .args .own) (c .args .next)
+refuse : (c : tie.Start) → (Follows c → ⊥)
+    → refused 10 0 ≡ followingRun (c .args .end) (c .args .level) (c .args .gap) (c .args .length) (c .args .own) (c .args .next)
 refuse c n = sym (run-refused (c .args .end) (c .args .level) (c .args .gap) (c .args .length) (c .args .own) (c .args .next) n)
 
 returns : tie.Need-returns
@@ -35,7 +36,8 @@ returns-5 c = refuse (c .before .before .before .before .before .before) (λ n. 
 
 -- Where it may, whether it touches the one before or not.
 follow : (c : tie.Start) → Follows c → let a = c .args in
-    recordReply (Record.Next (runAfter (a .end) (a .gap) (a .length) (a .own)) (a .next)) ≡ followingRun (a .end) (a .level) (a .gap) (a .length) (a .own) (a .next)
+    recordReply (Record.Next (runAfter (a .end) (a .gap) (a .length) (a .own)) (a .next))
+    ≡ followingRun (a .end) (a .level) (a .gap) (a .length) (a .own) (a .next)
 follow c n = let a = c .args in sym (run-follows (a .end) (a .level) (a .gap) (a .length) (a .own) (a .next) n)
 
 returns-6 : tie.Need-returns-6
@@ -46,7 +48,14 @@ returns-6 c =
 returns-7 : tie.Need-returns-7
 returns-7 c =
     follow (c .before .before .before .before .before)
-    (record { after = omega arith; long = omega arith; ends = omega arith; low = omega arith; top = omega arith; differs = λ touch same. c .if5 .left (omega arith) })
+    (record {
+      after = omega arith;
+      long = omega arith;
+      ends = omega arith;
+      low = omega arith;
+      top = omega arith;
+      differs = λ touch same. c .if5 .left (omega arith);
+    })
 
 pub following-run-spec : {M : Type 1} → statement M
 following-run-spec =

@@ -21,7 +21,8 @@ returns : tie.Need-returns
 returns c = sym (no-gap _ _ _ _ (c .before .read-number .result) (sym (c .before .read-number .ensures .0)) (c .match .keys2))
 
 returns-2 : tie.Need-returns-2
-returns-2 c = sym (no-length _ _ _ _ _ _ (first (c .before .before)) (c .before .read-number2 .result) (sym (c .before .read-number2 .ensures .0)) (c .match2 .keys2))
+returns-2 c =
+    sym (no-length _ _ _ _ _ _ (first (c .before .before)) (c .before .read-number2 .result) (sym (c .before .read-number2 .ensures .0)) (c .match2 .keys2))
 
 -- What was read is a number's value.
 read-run-requires : tie.Need-read-run-requires

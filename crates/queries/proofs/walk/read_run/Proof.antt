@@ -20,4 +20,5 @@ returns-2 : tie.Need-returns-2
 returns-2 c = c .following-run .ensures ∙ sym (level-byte _ _ _ _ _ _ (index-bytes _ (byte (c .before))) (c .before .before .if1 .left))
 
 pub read-run-spec : {M : Type 1} → statement M
-read-run-spec = tie.close (tie.spec returns (λ c. omega arith) (λ c. omega (arith, byte c (c .before .before .before .args .at))) (λ c. omega arith) (λ c κs. search needs) returns-2)
+read-run-spec = tie.close (tie.spec returns (λ c. omega arith) (λ c. omega (arith, byte c (c .before .before .before .args .at))) (λ c. omega arith)
+    (λ c κs. search needs) returns-2)

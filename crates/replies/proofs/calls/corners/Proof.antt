@@ -20,7 +20,13 @@ returns : tie.Need-returns
 unfolding cornersReplyOf
 returns c =
     let r = c .before .before .before .before .corners in
-    ap (λ (how : Reply). record { number = how .number; value = how .value; upstream = r .result .upstream; flare = r .result .flare; hazard = r .result .hazard })
+    ap (λ (how : Reply). record {
+      number = how .number;
+      value = how .value;
+      upstream = r .result .upstream;
+      flare = r .result .flare;
+      hazard = r .result .hazard;
+    })
     (c .before .before .before .ended .ensures ∙ ap replyOf (no-value (r .result .outcome)))
     ∙ ap structOf (r .ensures)
 

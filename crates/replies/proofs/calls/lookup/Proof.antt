@@ -13,7 +13,8 @@ use Rattle.replies.proofs.calls.lookup.Statement.{statement}
 use Rattle.replies.proofs.calls.lookup.Tie as tie
 
 -- a found record by its two ends
-by-ends : (start end : ℕ) → end ≡ start + (end - start) → record { number = 0; found = 1; start = start; end = end } ≡ recordOf (accepted (found (partBetween start end)))
+by-ends : (start end : ℕ) → end ≡ start + (end - start)
+    → record { number = 0; found = 1; start = start; end = end } ≡ recordOf (accepted (found (partBetween start end)))
 unfolding recordOf
 by-ends start end e = ap (λ (n : ℕ). record { number = 0; found = 1; start = start; end = n }) e
 
@@ -24,7 +25,8 @@ returns c =
     let located = c .before .before .before .locate in
     let start = c .before .start .given .0 .0 in
     let end = c .before .start .given .0 .1 .0 in
-    let is : accepted (found (partBetween start end)) ≡ lookup (a .right .now) (a .left .now) (a .side) (a .station) = sym (ap locatedReply (c .before .start .given .1)) ∙ located .ensures in
+    let is : accepted (found (partBetween start end)) ≡ lookup (a .right .now) (a .left .now) (a .side) (a .station) =
+    sym (ap locatedReply (c .before .start .given .1)) ∙ located .ensures in
     let w = lookup-within (a .right .now) (a .left .now) (a .side) (a .station) (partBetween start end)
     (index-bytes _ (λ i. omega (arith, c .before .before .before .before .before .shared-slice-known .given i)))
     (index-bytes _ (λ i. omega (arith, c .before .before .before .before .shared-slice-known2 .given i))) (sym is) in

@@ -20,7 +20,8 @@ returns : tie.Need-returns
 unfolding quantitiesOf
 returns c =
     let r = c .before .before .quantities in
-    ap (λ (how : Reply). record { number = how .number; value = how .value; records = r .result .records; quantities = r .result .quantities }) (c .before .ended .ensures ∙ ap replyOf (no-value (r .result .outcome)))
+    ap (λ (how : Reply). record { number = how .number; value = how .value; records = r .result .records; quantities = r .result .quantities })
+    (c .before .ended .ensures ∙ ap replyOf (no-value (r .result .outcome)))
     ∙ ap structOf (r .ensures)
 
 pub quantities-spec : {M : Type 1} → statement M

@@ -12,7 +12,8 @@ returns c = ap replyOf (sym (ap quantityReply (c .before .millimetres .given .1)
 
 returns-2 : tie.Need-returns-2
 unfolding replyOf
-returns-2 c = c .refused .ensures ∙ ap replyOf (sym (ap quantityReply (c .before .before .refusal .given .1)) ∙ c .before .before .before .before .quantity .ensures)
+returns-2 c =
+    c .refused .ensures ∙ ap replyOf (sym (ap quantityReply (c .before .before .refusal .given .1)) ∙ c .before .before .before .before .quantity .ensures)
 
 pub quantity-spec : {M : Type 1} → statement M
 quantity-spec =

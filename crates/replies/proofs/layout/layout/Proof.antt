@@ -33,7 +33,15 @@ struct-replied r a e =
 returns : tie.Need-returns
 returns c =
     let r = c .before .before .before .layout in
-    ap (λ (how : Reply). record { number = how .number; value = how .value; found = boolByte (r .result .found); overrun = r .result .overrun; counts = r .result .counts; tries = r .result .tries; floor = r .result .floor })
+    ap (λ (how : Reply). record {
+      number = how .number;
+      value = how .value;
+      found = boolByte (r .result .found);
+      overrun = r .result .overrun;
+      counts = r .result .counts;
+      tries = r .result .tries;
+      floor = r .result .floor;
+    })
     (c .before .before .ended .ensures ∙ ap replyOf (no-value (r .result .outcome)))
     ∙ struct-replied _ _ (r .ensures)
 

@@ -6,7 +6,8 @@ use Rattle.replies.proofs.open.opened.Statement.{statement}
 use Rattle.replies.proofs.open.opened.Tie as tie
 
 returns : tie.Need-returns
-returns c = let call = c .before .before .before .open in ap (keepingBeside (call .result .next)) (c .before .before .ending .ensures) ∙ opening-seen _ _ (call .result) (call .ensures)
+returns c = let call = c .before .before .before .open in
+    ap (keepingBeside (call .result .next)) (c .before .before .ending .ensures) ∙ opening-seen _ _ (call .result) (call .ensures)
 
 pub opened-spec : {M : Type 1} → statement M
 opened-spec = tie.close (tie.spec (λ c κs. search needs) (λ c κs. search needs) returns)

@@ -20,22 +20,31 @@ abbrev μ-loop : tie.MeasureT-loop
 
 loop-holds : tie.Need-loop-holds Inv-loop μ-loop
 loop-holds c =
-    let l = c .args .t1 in
-    (omega arith, count-top (l .starts) (l .ends) (l .levels) (l .count) (c .pre), sym (ap covered (runs-none (l .starts) (l .ends) (l .levels)) ∙ covered-nothing))
+    let l = c .args .t1 in (
+      omega arith,
+      count-top (l .starts) (l .ends) (l .levels) (l .count) (c .pre),
+      sym (ap covered (runs-none (l .starts) (l .ends) (l .levels)) ∙ covered-nothing),
+    )
 
 -- in a turn run i is not empty, and the sum with it stays small
 record Small (start end sum : ℕ) : Type 0 where
   long : start < end
   fits : sum + (end - start) ≤ lastStation
 
-small : (c : tie.In-loop Inv-loop μ-loop) → Small (getD (c .before .before .args .t1 .starts) (c .before .loop .i) 0) (getD (c .before .before .args .t1 .ends) (c .before .loop .i) 0) (c .before .loop .sum)
+small : (c : tie.In-loop Inv-loop μ-loop)
+    → Small (getD (c .before .before .args .t1 .starts) (c .before .loop .i) 0) (getD (c .before .before .args .t1 .ends) (c .before .loop .i) 0)
+    (c .before .loop .sum)
 small c =
     let l = c .before .before .args .t1 in
     let i = c .before .loop .i in
     let all = firstRuns (l .starts) (l .ends) (l .levels) (l .count) in
     record {
       long = run-next (l .starts) (l .ends) (l .levels) (l .count) (c .before .before .pre) i (c .loop-test .taken) .long;
-      fits = omega (arith, covered-within (l .starts) (l .ends) (l .levels) i (l .count) (c .loop-test .taken), covered-top all (run-list-rising all (c .before .before .pre)));
+      fits = omega (
+        arith,
+        covered-within (l .starts) (l .ends) (l .levels) i (l .count) (c .loop-test .taken),
+        covered-top all (run-list-rising all (c .before .before .pre)),
+      );
     }
 
 loop-again : tie.Need-loop-again Inv-loop μ-loop

@@ -35,12 +35,17 @@ start c = c .before .before .before .before
 -- in a turn there is room for one line more
 room : (c : tie.In-loop Inv-loop μ-loop)
     → start c .args .at
-    + length (runLines (start c .args .word .now) (firstRuns (start c .args .t4 .starts) (start c .args .t4 .ends) (start c .args .t4 .levels) (c .before .loop .i))
+    + length (runLines (start c .args .word .now)
+    (firstRuns (start c .args .t4 .starts) (start c .args .t4 .ends) (start c .args .t4 .levels) (c .before .loop .i))
     ++ lineOf (start c .args .word .now) (run (start c .args .t4 .starts) (start c .args .t4 .ends) (start c .args .t4 .levels) (c .before .loop .i)))
     ≤ length (start c .args .text .now)
 room c =
     let l = start c .args .t4 in
-    omega (arith, start c .pre .1, lines-within (l .starts) (l .ends) (l .levels) (start c .args .word .now) (c .before .loop .i) (l .count) (c .loop-test .taken))
+    omega (
+      arith,
+      start c .pre .1,
+      lines-within (l .starts) (l .ends) (l .levels) (start c .args .word .now) (c .before .loop .i) (l .count) (c .loop-test .taken),
+    )
 
 put-run-line-requires : tie.Need-put-run-line-requires Inv-loop μ-loop
 put-run-line-requires c κs =
@@ -55,7 +60,8 @@ loop-again c =
     let at = t .before .loop in (
       omega arith,
       at .inv .1,
-      rw (lines-more (l .starts) (l .ends) (l .levels) (start t .args .word .now) (at .i)) (written-more (at .inv .2) (c .before .before .put-run-line .ensures) (room t)),
+      rw (lines-more (l .starts) (l .ends) (l .levels) (start t .args .word .now) (at .i))
+          (written-more (at .inv .2) (c .before .before .put-run-line .ensures) (room t)),
     )
 
 returns : tie.Need-returns Inv-loop μ-loop

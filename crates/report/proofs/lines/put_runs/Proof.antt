@@ -32,13 +32,16 @@ front-fits c = first-fits 0 (front (c .args .right) (c .args .left)) (back (c .a
 abbrev start : tie.After-put-run-lines2 → tie.Start
 start c = c .before .before .before .before .before .before .before .before .before
 
-front-written : (c : tie.After-put-run-lines2) → Written (start c .args .text .now) 0 (front (start c .args .right) (start c .args .left)) (c .put-run-lines2 .result) (c .put-run-lines2 .last .0)
+front-written : (c : tie.After-put-run-lines2)
+    → Written (start c .args .text .now) 0 (front (start c .args .right) (start c .args .left)) (c .put-run-lines2 .result) (c .put-run-lines2 .last .0)
 front-written c = written-more (c .before .before .before .before .before .put-run-lines .ensures) (c .put-run-lines2 .ensures) (front-fits (start c))
 
 put-run-lines-requires : tie.Need-put-run-lines-requires
 put-run-lines-requires c κs =
-    let s = c .before .before .before in
-    (s .pre .0, first-fits 0 (runLines rightWord (runsOf (s .args .right))) (runLines leftWord (runsOf (s .args .left))) (length (s .args .text .now)) (front-fits s))
+    let s = c .before .before .before in (
+      s .pre .0,
+      first-fits 0 (runLines rightWord (runsOf (s .args .right))) (runLines leftWord (runsOf (s .args .left))) (length (s .args .text .now)) (front-fits s),
+    )
 
 put-run-lines-requires-2 : tie.Need-put-run-lines-requires-2
 put-run-lines-requires-2 c κs =
@@ -47,7 +50,8 @@ put-run-lines-requires-2 c κs =
 
 -- the totals printed are those of the sides
 totals : (c : tie.After-covered-length2)
-    → totalLine (c .before .covered-length .result) (c .covered-length2 .result) ≡ back (start (c .before .before .before .before .before) .args .right) (start (c .before .before .before .before .before) .args .left)
+    → totalLine (c .before .covered-length .result) (c .covered-length2 .result)
+    ≡ back (start (c .before .before .before .before .before) .args .right) (start (c .before .before .before .before .before) .args .left)
 totals c = λ i. totalLine (c .before .covered-length .ensures i) (c .covered-length2 .ensures i)
 
 put-total-requires : tie.Need-put-total-requires

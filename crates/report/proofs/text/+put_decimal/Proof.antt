@@ -33,11 +33,13 @@ calls t = (digit-reads.Asked, digit-reads.Learnt, put-byte-reads.Asked, put-byte
 
 module _ (t : ℕ) where
   -- a number with several digits, and the room for them
-  more : (c : lts.Else1 (calls t) (at t) reads.Post) → decimal (c .before .before .args .x) ≡ decimal (c .before .before .args .x / 10) ++ digit (c .before .before .args .x) ∷ []
+  more : (c : lts.Else1 (calls t) (at t) reads.Post)
+      → decimal (c .before .before .args .x) ≡ decimal (c .before .before .args .x / 10) ++ digit (c .before .before .args .x) ∷ []
   more c = decimal-more (c .before .before .args .x) (c .if1 .left) (omega arith)
 
   room : (c : lts.Else1 (calls t) (at t) reads.Post)
-      → c .before .before .args .at + length (decimal (c .before .before .args .x / 10) ++ digit (c .before .before .args .x) ∷ []) ≤ length (c .before .before .args .text .now)
+      → c .before .before .args .at + length (decimal (c .before .before .args .x / 10) ++ digit (c .before .before .args .x) ∷ [])
+      ≤ length (c .before .before .args .text .now)
   room c = rw (more c) at (c .before .before .pre .1)
 
   put-byte-requires : lts.Need-put-byte-requires (calls t) (at t) reads.Post
@@ -48,7 +50,8 @@ module _ (t : ℕ) where
   returns : lts.Need-returns (calls t) (at t) reads.Post
   returns c =
       let x = c .before .before .before .before .before .before .before .args .x in
-      rw (decimal-one x (c .before .before .before .before .before .if1 .taken)) (rw (c .before .before .before .digit .ensures) at (c .before .before .put-byte .ensures))
+      rw (decimal-one x (c .before .before .before .before .before .if1 .taken))
+      (rw (c .before .before .before .digit .ensures) at (c .before .before .put-byte .ensures))
 
   put-decimal-requires : lts.Need-put-decimal-requires (calls t) (at t) reads.Post
   put-decimal-requires c κs =
@@ -70,5 +73,7 @@ module _ (t : ℕ) where
 pub +put-decimal-spec : {M : Type 1} → statement M
 +put-decimal-spec =
     close measure λ t.
-    lts.spec (calls t) (at t) reads.Post (λ c κs. tt) (put-byte-requires t) (λ c. written-length (c .before .before .put-byte .ensures)) (returns t) (put-decimal-requires t) (λ c κs. tt) (put-byte-requires-2 t)
-    (λ c. written-length (c .before .before .put-byte2 .ensures) ∙ written-length (c .before .before .before .before .before .before .before .put-decimal .ensures)) (returns-2 t)
+    lts.spec (calls t) (at t) reads.Post (λ c κs. tt) (put-byte-requires t) (λ c. written-length (c .before .before .put-byte .ensures)) (returns t)
+    (put-decimal-requires t) (λ c κs. tt) (put-byte-requires-2 t)
+    (λ c. written-length (c .before .before .put-byte2 .ensures)
+    ∙ written-length (c .before .before .before .before .before .before .before .put-decimal .ensures)) (returns-2 t)

@@ -33,8 +33,10 @@ put-byte-requires c κs =
 loop-again : tie.Need-loop-again Inv-loop μ-loop
 loop-again c =
     let t = c .before .before .before .before .before in
-    let l = t .before .loop in
-    (omega arith, rw (bytes-more (start t .args .bytes .now) (l .i) (t .loop-test .taken)) (written-more (l .inv .1) (c .before .before .put-byte .ensures) (room t)))
+    let l = t .before .loop in (
+      omega arith,
+      rw (bytes-more (start t .args .bytes .now) (l .i) (t .loop-test .taken)) (written-more (l .inv .1) (c .before .before .put-byte .ensures) (room t)),
+    )
 
 returns : tie.Need-returns Inv-loop μ-loop
 returns c =

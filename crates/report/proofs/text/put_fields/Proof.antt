@@ -22,7 +22,8 @@ start c = c .before .before .before .before
 
 -- in a turn there is room for one number more
 room : (c : tie.In-loop Inv-loop μ-loop)
-    → start c .args .at + length (fields (take (c .before .loop .i) (start c .args .numbers .now)) ++ field (getD (start c .args .numbers .now) (c .before .loop .i) 0))
+    → start c .args .at + length (fields (take (c .before .loop .i) (start c .args .numbers .now))
+    ++ field (getD (start c .args .numbers .now) (c .before .loop .i) 0))
     ≤ length (start c .args .text .now)
 room c = omega (arith, start c .pre, fields-within (start c .args .numbers .now) (c .before .loop .i) (c .loop-test .taken))
 
@@ -34,8 +35,10 @@ put-field-requires c κs =
 loop-again : tie.Need-loop-again Inv-loop μ-loop
 loop-again c =
     let t = c .before .before .before .before .before in
-    let l = t .before .loop in
-    (omega arith, rw (fields-more (start t .args .numbers .now) (l .i) (t .loop-test .taken)) (written-more (l .inv .1) (c .before .before .put-field .ensures) (room t)))
+    let l = t .before .loop in (
+      omega arith,
+      rw (fields-more (start t .args .numbers .now) (l .i) (t .loop-test .taken)) (written-more (l .inv .1) (c .before .before .put-field .ensures) (room t)),
+    )
 
 returns : tie.Need-returns Inv-loop μ-loop
 returns c =

@@ -15,10 +15,13 @@ unfolding line
 front-fits c = first-fits (c .args .at) (c .args .word .now ++ fields (c .args .numbers .now)) (0x0A ∷ []) (length (c .args .text .now)) (c .pre)
 
 front : (c : tie.After-put-fields)
-    → Written (c .before .before .before .before .before .before .before .before .before .args .text .now) (c .before .before .before .before .before .before .before .before .before .args .at)
-    (c .before .before .before .before .before .before .before .before .before .args .word .now ++ fields (c .before .before .before .before .before .before .before .before .before .args .numbers .now))
+    → Written (c .before .before .before .before .before .before .before .before .before .args .text .now)
+    (c .before .before .before .before .before .before .before .before .before .args .at)
+    (c .before .before .before .before .before .before .before .before .before .args .word .now
+    ++ fields (c .before .before .before .before .before .before .before .before .before .args .numbers .now))
     (c .put-fields .result) (c .put-fields .last .0)
-front c = written-more (c .before .before .before .before .put-bytes .ensures) (c .put-fields .ensures) (front-fits (c .before .before .before .before .before .before .before .before .before))
+front c = written-more (c .before .before .before .before .put-bytes .ensures) (c .put-fields .ensures)
+    (front-fits (c .before .before .before .before .before .before .before .before .before))
 
 put-bytes-requires : tie.Need-put-bytes-requires
 put-bytes-requires c κs =
@@ -33,7 +36,8 @@ put-fields-requires c κs =
 put-byte-requires : tie.Need-put-byte-requires
 unfolding line
 put-byte-requires c κs =
-    written-room (front (c .before .before .before)) (0x0A ∷ []) (c .before .before .before .before .before .before .before .before .before .before .before .before .pre)
+    written-room (front (c .before .before .before)) (0x0A ∷ [])
+    (c .before .before .before .before .before .before .before .before .before .before .before .before .pre)
 
 returns : tie.Need-returns
 unfolding line

@@ -22,7 +22,8 @@ returns c =
     let b = c .before .before .before in
     let s = b .before .before .before in
     c .swept-runs .ensures
-    ∙ ap storedRuns (sorted-runs (s .args .keys .now) (s .args .ends .now) (s .args .count) (s .pre .0) (s .pre .1 .1 .0) (s .pre .1 .1 .1) _ (b .sort .ensures) (s .args .continuity))
+    ∙ ap storedRuns (sorted-runs (s .args .keys .now) (s .args .ends .now) (s .args .count) (s .pre .0) (s .pre .1 .1 .0) (s .pre .1 .1 .1) _ (b .sort .ensures)
+    (s .args .continuity))
 
 pub required-runs-spec : {M : Type 1} → statement M
 required-runs-spec = tie.close (tie.spec sort-requires swept-runs-requires returns)

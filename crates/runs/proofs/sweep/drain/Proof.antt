@@ -17,8 +17,10 @@ use Rattle.runs.proofs.sweep.drain.Statement.{statement}
 use Rattle.runs.proofs.sweep.drain.Tie as tie
 
 abbrev Inv-loop : tie.InvT-loop
-Inv-loop starts₀ levels₀ tops s count₀ level₀ starts levels count level = (length starts ≡ length starts₀) × (length levels ≡ length levels₀) × (level ≤ 6) × (count + distinctTo tops level ≤ count₀ + distinctTo tops level₀)
-    × ((es : List Stretch) (G u : ℕ) → u ≤ s → SweptTo es G u tops level₀ (breaksTo starts₀ levels₀ count₀) → Standing es G s tops level (breaksTo starts levels count))
+Inv-loop starts₀ levels₀ tops s count₀ level₀ starts levels count level =
+    (length starts ≡ length starts₀) × (length levels ≡ length levels₀) × (level ≤ 6) × (count + distinctTo tops level ≤ count₀ + distinctTo tops level₀)
+    × ((es : List Stretch) (G u : ℕ) → u ≤ s → SweptTo es G u tops level₀ (breaksTo starts₀ levels₀ count₀)
+    → Standing es G s tops level (breaksTo starts levels count))
 
 abbrev μ-loop : tie.MeasureT-loop
 μ-loop starts₀ levels₀ tops s count₀ level₀ starts levels count level = level
@@ -39,7 +41,12 @@ loop-less : tie.Need-loop-less Inv-loop μ-loop
 loop-less c =
     let l = c .before .before .before .before .loop in
     let a = c .before .before .before .before .before .before .before .before .args in
-    omega (arith, count-falls (a .tops .now) (c .before .before .before .before .before .before .before .before .pre .falling) (l .level) (c .before .before .before .loop-test .taken), c .above .ensures .0)
+    omega (
+      arith,
+      count-falls (a .tops .now) (c .before .before .before .before .before .before .before .before .pre .falling) (l .level)
+          (c .before .before .before .loop-test .taken),
+      c .above .ensures .0,
+    )
 
 loop-again : tie.Need-loop-again Inv-loop μ-loop
 loop-again c =
@@ -53,7 +60,8 @@ loop-again c =
       search needs,
       c .above .ensures .1,
       omega (arith, fewer, ap (distinctTo (a .tops .now)) (c .above .ensures .0), l .inv .3),
-      λ es G u h st. subst (Standing es G (a .s) (a .tops .now) d) (sym pushed) (standing-fall (l .inv .4 es G u h st) d (c .above .ensures .0) (c .before .before .before .loop-test .taken) (c .before .if1 .left)),
+      λ es G u h st. subst (Standing es G (a .s) (a .tops .now) d) (sym pushed)
+          (standing-fall (l .inv .4 es G u h st) d (c .above .ensures .0) (c .before .before .before .loop-test .taken) (c .before .if1 .left)),
     )
 
 returns-2 : tie.Need-returns-2 Inv-loop μ-loop

@@ -15,9 +15,12 @@ returns c =
     let filling = c .before .before .before .before .before .before .before .before .before .before .before .fill in
     let least = c .before .before .before .before .before .before .before .before .before .before .before .before .min-usize in
     let near = c .before .before .before .before .before .before .before .before .before .before .before .before .before .before .before .above in
-    let far = c .before .before .before .before .before .before .before .before .before .before .before .before .before .before .before .before .saturating-sub in
-    let a = c .before .before .before .before .before .before .before .before .before .before .before .before .before .before .before .before .before .before .before .before .args in
-    let with : least .result ≡ min (aboveTo (a .tops .now) (a .s - a .g) 6) (a .l) = least .ensures ∙ ap (λ (n : ℕ). min n (a .l)) (near .ensures .0 ∙ ap (λ (t : ℕ). aboveTo (a .tops .now) t 6) (far .ensures)) in
+    let far =
+    c .before .before .before .before .before .before .before .before .before .before .before .before .before .before .before .before .saturating-sub in
+    let a = c .before .before .before .before .before .before .before .before .before .before .before .before .before .before .before .before .before .before
+    .before .before .args in
+    let with : least .result ≡ min (aboveTo (a .tops .now) (a .s - a .g) 6) (a .l) =
+    least .ensures ∙ ap (λ (n : ℕ). min n (a .l)) (near .ensures .0 ∙ ap (λ (t : ℕ). aboveTo (a .tops .now) t 6) (far .ensures)) in
     (omega (arith, setting .ensures .0, filling .ensures .0), rw (← with, ← filling .ensures .1) (setting .ensures .1))
 
 pub lift-spec : {M : Type 1} → statement M

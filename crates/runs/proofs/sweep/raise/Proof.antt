@@ -32,8 +32,11 @@ raised-requires c κs e =
 loop-again : tie.Need-loop-again Inv-loop μ-loop
 loop-again c =
     let l = c .before .before .before .loop in
-    let a = c .before .before .before .before .before .before .args in
-    (search needs, search needs, raising-turn (a .l) (a .end) (l .v) (c .raised .result) (a .tops .now) (l .tops) (l .inv .2) (search needs) (c .raised .ensures))
+    let a = c .before .before .before .before .before .before .args in (
+      search needs,
+      search needs,
+      raising-turn (a .l) (a .end) (l .v) (c .raised .result) (a .tops .now) (l .tops) (l .inv .2) (search needs) (c .raised .ensures),
+    )
 
 returns : tie.Need-returns Inv-loop μ-loop
 returns c =

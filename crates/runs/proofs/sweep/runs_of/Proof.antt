@@ -20,7 +20,8 @@ abbrev counting : RunList → (k : ℕ) → RunList
 counting l k = record { count = k; starts = l .starts; ends = l .ends; levels = l .levels }
 
 abbrev Inv-loop : tie.InvT-loop
-Inv-loop starts levels count list₀ k₀ i₀ list k i = (i ≤ count - 1) × (k ≤ mostRuns) × (length (list .starts) ≡ 512) × (length (list .ends) ≡ 512) × (length (list .levels) ≡ 512) × (cleared (counting list k) ≡ storedRuns (runsBelow (getD starts i 0) (breaksTo starts levels i)))
+Inv-loop starts levels count list₀ k₀ i₀ list k i = (i ≤ count - 1) × (k ≤ mostRuns) × (length (list .starts) ≡ 512) × (length (list .ends) ≡ 512)
+    × (length (list .levels) ≡ 512) × (cleared (counting list k) ≡ storedRuns (runsBelow (getD starts i 0) (breaksTo starts levels i)))
 
 abbrev μ-loop : tie.MeasureT-loop
 μ-loop starts levels count list₀ k₀ i₀ list k i = count - i
@@ -35,8 +36,15 @@ loop-again c =
     let start = c .before .before .before .before .before .before .before .before in
     let starts = start .args .starts .now in
     let levels = start .args .levels .now in
-    let turn = runs-turn starts levels (counting (l .list) (l .k)) (l .i) (getD starts (l .i + 1) 0) (c .one-if .result) (l .inv .5) (omega arith) (c .one-if .ensures .0) in
-    (omega arith, le-trans (runs-room starts levels (l .i + 1) (start .args .count - 1) turn (omega arith)) (start .pre .1 .1), search needs, search needs, search needs, turn)
+    let turn = runs-turn starts levels (counting (l .list) (l .k)) (l .i) (getD starts (l .i + 1) 0) (c .one-if .result) (l .inv .5) (omega arith)
+    (c .one-if .ensures .0) in (
+      omega arith,
+      le-trans (runs-room starts levels (l .i + 1) (start .args .count - 1) turn (omega arith)) (start .pre .1 .1),
+      search needs,
+      search needs,
+      search needs,
+      turn,
+    )
 
 returns : tie.Need-returns Inv-loop μ-loop
 returns c =

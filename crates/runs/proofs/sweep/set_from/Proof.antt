@@ -18,8 +18,11 @@ returns-2 : tie.Need-returns-2
 returns-2 c =
     let a = c .before .before .before .before .before .before .before .args in
     let k = c .before .before .before .kept in
-    let before = c .before .level-before .ensures (a .starts .now) in
-    (omega arith, set-push (a .starts .now) (a .levels .now) (a .t) (a .v) (k .result) (a .count) (k .ensures .1 (a .levels .now)) (λ e. c .if1 .left (before ∙ e)) (omega arith) (omega arith))
+    let before = c .before .level-before .ensures (a .starts .now) in (
+      omega arith,
+      set-push (a .starts .now) (a .levels .now) (a .t) (a .v) (k .result) (a .count) (k .ensures .1 (a .levels .now)) (λ e. c .if1 .left (before ∙ e))
+          (omega arith) (omega arith),
+    )
 
 pub set-from-spec : {M : Type 1} → statement M
 set-from-spec =

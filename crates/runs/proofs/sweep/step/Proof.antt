@@ -19,11 +19,13 @@ lift-requires c κs =
 
 returns-2 : tie.Need-returns-2
 returns-2 c =
-    let a = c .before .before .before .before .before .before .before .before .before .before .before .before .before .before .before .before .before .before .before .args in
+    let a = c .before .before .before .before .before .before .before .before .before .before .before .before .before .before .before .before .before .before
+    .before .args in
     let q = c .before .before .before .before .before .before .before .before .before .before .before .before .before .drain in
     λ es u e tops′ h st sound r.
     rw (c .before .before .before .before .lift .ensures .1)
-    (lift (q .ensures .stands es (a .g) u h st) (record { start = a .s; end = e; level = a .l }) refl sound tops′ r (c .before .before .before .before .before .before .before .if1 .left))
+    (lift (q .ensures .stands es (a .g) u h st) (record { start = a .s; end = e; level = a .l }) refl sound tops′ r
+    (c .before .before .before .before .before .before .before .if1 .left))
 
 pub step-spec : {M : Type 1} → statement M
 step-spec =

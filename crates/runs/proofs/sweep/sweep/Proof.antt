@@ -14,7 +14,8 @@ use Rattle.runs.proofs.sweep.sweep.Statement.{statement}
 use Rattle.runs.proofs.sweep.sweep.Tie as tie
 
 abbrev Inv-loop : tie.InvT-loop
-Inv-loop keys ends n g starts₀ levels₀ tops₀ p₀ i₀ starts levels tops p i = (i ≤ n) × (length starts ≡ length starts₀) × (length levels ≡ length levels₀) × (length tops ≡ 8) × Sweeping keys ends n g i tops (p .level) (breaksTo starts levels (p .count))
+Inv-loop keys ends n g starts₀ levels₀ tops₀ p₀ i₀ starts levels tops p i = (i ≤ n) × (length starts ≡ length starts₀) × (length levels ≡ length levels₀)
+    × (length tops ≡ 8) × Sweeping keys ends n g i tops (p .level) (breaksTo starts levels (p .count))
 
 abbrev μ-loop : tie.MeasureT-loop
 μ-loop keys ends n g starts₀ levels₀ tops₀ p₀ i₀ starts levels tops p i = n - i
@@ -43,7 +44,8 @@ raise-requires c κs =
 loop-again : tie.Need-loop-again Inv-loop μ-loop
 loop-again c =
     let l = c .before .before .before .before .before .before .before .before .before .before .before .before .before .before .loop in
-    let start = c .before .before .before .before .before .before .before .before .before .before .before .before .before .before .before .before .before .before .before in
+    let start = c .before .before .before .before .before .before .before .before .before .before .before .before .before .before .before .before .before
+    .before .before in
     let taken = c .before .before .before .before .before .before .before .before .before .before .before .before .before .loop-test .taken in
     let stepped = c .before .before .before .before .before .before .before .before .step in
     let raised = c .before .raise in (
@@ -51,14 +53,16 @@ loop-again c =
       search needs,
       search needs,
       search needs,
-      sweeping-turn (start .args .keys .now) (start .args .ends .now) (start .args .n) (start .args .g) (start .pre .0) (l .i) taken (l .inv .4) (stepped .ensures) (raised .ensures),
+      sweeping-turn (start .args .keys .now) (start .args .ends .now) (start .args .n) (start .args .g) (start .pre .0) (l .i) taken (l .inv .4)
+          (stepped .ensures) (raised .ensures),
     )
 
 drain-requires : tie.Need-drain-requires Inv-loop μ-loop
 drain-requires c κs =
     let l = c .before .before .before .before .loop in
     let pre = c .before .before .before .before .before .before .before .before .before .pre in
-    room-left _ _ _ _ _ _ _ (record { start-places = search needs; level-places = search needs }) (l .inv .3) (omega (arith, pre .0 .few, l .inv .0)) (l .inv .4)
+    room-left _ _ _ _ _ _ _ (record { start-places = search needs; level-places = search needs }) (l .inv .3) (omega (arith, pre .0 .few, l .inv .0))
+    (l .inv .4)
 
 returns : tie.Need-returns Inv-loop μ-loop
 returns c =
@@ -70,7 +74,8 @@ returns c =
       within = omega (arith, drained .ensures .within, sweeping-room _ _ _ _ _ _ _ (l .inv .4), l .inv .0, start .pre .0 .few);
       tops = l .tops;
       level = drained .result .level;
-      stands = rw same at (drained .ensures .stands (envelopesTo (start .args .keys .now) (start .args .ends .now) (l .i)) (start .args .g) (l .inv .4 .at) (l .inv .4 .early) (l .inv .4 .stands));
+      stands = rw same at (drained .ensures .stands (envelopesTo (start .args .keys .now) (start .args .ends .now) (l .i)) (start .args .g) (l .inv .4 .at)
+          (l .inv .4 .early) (l .inv .4 .stands));
     }
 
 pub sweep-spec : {M : Type 1} → statement M

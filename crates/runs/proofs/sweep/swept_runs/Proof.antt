@@ -12,14 +12,18 @@ runs-of-requires c κs =
     let start = c .before .before .before .before .before .before .before .before .before in
     let sweep = c .before .before .before .before .sweep in (
       record { start-places = search needs; level-places = search needs },
-      (sweep .ensures .within, swept-few (start .args .keys .now) (start .args .ends .now) (start .args .n) (start .args .g) _ _ (sweep .result) (sweep .ensures) (start .pre .few)),
+      (
+        sweep .ensures .within,
+        swept-few (start .args .keys .now) (start .args .ends .now) (start .args .n) (start .args .g) _ _ (sweep .result) (sweep .ensures) (start .pre .few),
+      ),
     )
 
 returns : tie.Need-returns
 returns c =
     let start = c .before .before .before .before .before .before .before .before .before .before in
     let sweep = c .before .before .before .before .before .sweep in
-    c .runs-of .ensures ∙ ap storedRuns (swept-runs (start .args .keys .now) (start .args .ends .now) (start .args .n) (start .args .g) _ _ (sweep .result) (sweep .ensures))
+    c .runs-of .ensures ∙ ap storedRuns (swept-runs (start .args .keys .now) (start .args .ends .now) (start .args .n) (start .args .g) _ _ (sweep .result)
+    (sweep .ensures))
 
 pub swept-runs-spec : {M : Type 1} → statement M
 swept-runs-spec =

@@ -35,7 +35,8 @@ returns-2 c =
     let w = writeSchedule (runsOf (a .t2)) in
     let fits : length w ≤ length (a .out .now) = e .before .bytes-needed .ensures .0 (e .if1 .left) in
     let put = c .before .before .put-schedule in
-    rw (fitted-fits w (a .overhangs) (length (a .out .now)) fits) (ap (λ (n : ℕ). accepted (record { bytes = n; overhangs = a .overhangs })) (put .ensures .0), put .ensures .1 ∙ placed-first (a .out .now) w fits)
+    rw (fitted-fits w (a .overhangs) (length (a .out .now)) fits)
+    (ap (λ (n : ℕ). accepted (record { bytes = n; overhangs = a .overhangs })) (put .ensures .0), put .ensures .1 ∙ placed-first (a .out .now) w fits)
 
 pub place-spec : {M : Type 1} → statement M
 place-spec = tie.close (tie.spec (λ c κs. search needs) returns put-schedule-requires (λ c. search needs) returns-2)

@@ -28,7 +28,9 @@ returns-2 c =
     let r = c .before .before .before .before .before .before .before .before .before .before .before in
     let a = r .before .before .before .before .before .before .args in
     let side : a .side ≤ 1 = omega arith in
-    rw (plan-done (a .job .now) (a .side) (length (a .out .now)) _ side (side-done _ _ (r .side-of .result) (a .job .now) (a .side) (r .side-of .ensures .0) (c .before .before .before .before .before .before .before .enum-told .given .1)))
+    rw (plan-done (a .job .now) (a .side) (length (a .out .now)) _ side
+    (side-done _ _ (r .side-of .result) (a .job .now) (a .side) (r .side-of .ensures .0)
+    (c .before .before .before .before .before .before .before .enum-told .given .1)))
     (c .before .before .plan-side .ensures)
 
 returns-3 : tie.Need-returns-3
@@ -38,10 +40,12 @@ returns-3 c =
     let a = r .before .before .before .before .before .before .args in
     let side : a .side ≤ 1 = omega arith in
     let x = c .before .outcome .given .0 .0 in
-    rw (plan-refused (a .job .now) (a .side) (length (a .out .now)) x side (side-refused _ _ (r .side-of .result) (a .job .now) (a .side) (r .side-of .ensures .0) x (c .before .outcome .given .1)))
+    rw (plan-refused (a .job .now) (a .side) (length (a .out .now)) x side
+    (side-refused _ _ (r .side-of .result) (a .job .now) (a .side) (r .side-of .ensures .0) x (c .before .outcome .given .1)))
     (refl, refl)
 
 pub plan-spec : {M : Type 1} → statement M
 plan-spec =
     tie.close
-    (tie.spec returns (λ c. search needs) (λ c. search needs) (λ c κs. search needs) (λ c. search needs) (λ c. search needs) plan-side-requires (λ c. search needs) (λ c. search needs) returns-2 returns-3)
+    (tie.spec returns (λ c. search needs) (λ c. search needs) (λ c κs. search needs) (λ c. search needs) (λ c. search needs) plan-side-requires
+    (λ c. search needs) (λ c. search needs) returns-2 returns-3)

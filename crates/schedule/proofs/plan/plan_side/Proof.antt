@@ -21,7 +21,8 @@ returns : tie.Need-returns
 returns c =
     let r = c .before .before in
     let a = r .before .before .before .before .before .before .args in
-    rw (r .before .required-runs .ensures, runs-stored (requiredRuns (keyedEnvelopes (a .keys .now) (a .ends .now) (a .count)) (a .continuity))) at (r .place .ensures)
+    rw (r .before .required-runs .ensures, runs-stored (requiredRuns (keyedEnvelopes (a .keys .now) (a .ends .now) (a .count)) (a .continuity))) at
+    (r .place .ensures)
 
 pub plan-side-spec : {M : Type 1} → statement M
 plan-side-spec = tie.close (tie.spec (λ c κs. search needs) place-requires (λ c. search needs) returns)

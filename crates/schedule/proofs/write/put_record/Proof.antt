@@ -56,7 +56,8 @@ returns c =
     let small : a .level < 128 = omega (arith, s .pre .0 .top) in
     let all = record-placed (a .out .now) (a .at) (a .end) (a .start) (a .stop) (a .level) (s .pre .1) in (
       omega (arith, record-sum (a .end) (a .start) (a .stop) (a .level), small-length (a .level) small),
-      level-placed (second .last .0) (second .result) (a .level) small (place t) ∙ rw (second .ensures .1, second .ensures .0, first .ensures .1, first .ensures .0) all,
+      level-placed (second .last .0) (second .result) (a .level) small (place t)
+          ∙ rw (second .ensures .1, second .ensures .0, first .ensures .1, first .ensures .0) all,
     )
 
 pub put-record-spec : {M : Type 1} → statement M

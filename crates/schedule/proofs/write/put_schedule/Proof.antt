@@ -57,7 +57,8 @@ top : (c : tie.Start Inv-loop μ-loop) → c .args .count ≤ 511
 top c = let l = list c in count-top (l .starts) (l .ends) (l .levels) (l .count) (c .pre .0)
 
 -- one record more
-turn : (l : RunList) (i at end next : ℕ) (out₀ out new : List ℕ) → at ≡ head l + length (records l i) → end ≡ lastEnd 0 (firstRuns (l .starts) (l .ends) (l .levels) i)
+turn : (l : RunList) (i at end next : ℕ) (out₀ out new : List ℕ) → at ≡ head l + length (records l i)
+    → end ≡ lastEnd 0 (firstRuns (l .starts) (l .ends) (l .levels) i)
     → out ≡ placed out₀ (head l) (records l i) → next ≡ at + length (writeRecord end (run (l .starts) (l .ends) (l .levels) i))
     → new ≡ placed out at (writeRecord end (run (l .starts) (l .ends) (l .levels) i)) → head l + length (records l i) + length (recordAt l i) ≤ length out₀
     → (next ≡ head l + length (records l (i + 1))) × (new ≡ placed out₀ (head l) (records l (i + 1)))
@@ -95,12 +96,19 @@ same c =
     let s = c .before .before .before .before .before .before in
     let l = list s in
     let first = c .before .before .before .put-number in
-    ap length (c .loop .inv .4) ∙ placed-length (first .last .0) (head l) (records l (c .loop .done)) ∙ ap length (first .ensures .1) ∙ placed-length (s .args .out .now) 0 (writeNumber (l .count))
+    ap length (c .loop .inv .4) ∙ placed-length (first .last .0) (head l) (records l (c .loop .done)) ∙ ap length (first .ensures .1)
+    ∙ placed-length (s .args .out .now) 0 (writeNumber (l .count))
 
 room : (c : Turn) → c .before .loop .at + length (recordAt (list (start c)) (c .before .loop .done)) ≤ length (c .before .loop .out)
 room c =
     let l = list (start c) in
-    omega (arith, same (c .before), whole-length l, start c .pre .1, records-within (l .starts) (l .ends) (l .levels) (c .before .loop .done) (l .count) (c .loop-test .taken))
+    omega (
+      arith,
+      same (c .before),
+      whole-length l,
+      start c .pre .1,
+      records-within (l .starts) (l .ends) (l .levels) (c .before .loop .done) (l .count) (c .loop-test .taken),
+    )
 
 put-record-requires : tie.Need-put-record-requires Inv-loop μ-loop
 put-record-requires c κs =
@@ -117,7 +125,8 @@ loop-again c =
     let written = c .before .before .put-record in
     let fits : head l + length (records l (at .done)) + length (recordAt l (at .done)) ≤ length (first .last .0) =
     omega (arith, room t, ap length (at .inv .4), placed-length (first .last .0) (head l) (records l (at .done))) in
-    let step = turn l (at .done) (at .at) (at .end) (written .result) (first .last .0) (at .out) (written .last .0) (at .inv .2) (at .inv .3) (at .inv .4) (written .ensures .0) (written .ensures .1) fits in
+    let step = turn l (at .done) (at .at) (at .end) (written .result) (first .last .0) (at .out) (written .last .0) (at .inv .2) (at .inv .3) (at .inv .4)
+    (written .ensures .0) (written .ensures .1) fits in
     (omega arith, at .inv .1, step .0, sym (last-more (l .starts) (l .ends) (l .levels) (at .done)), step .1)
 
 same-length : tie.Need-same-length Inv-loop μ-loop

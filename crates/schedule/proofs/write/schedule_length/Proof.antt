@@ -41,7 +41,8 @@ record-length-requires : tie.Need-record-length-requires Inv-loop μ-loop
 record-length-requires c κs =
     let l = c .before .before .before .before .before .before .args in
     let at = c .before .before .before .before .loop in
-    rw (at .inv .4) (run-fits (l .starts .now) (l .ends .now) (l .levels .now) (l .count) (at .i) (c .before .before .before .before .before .before .pre) (c .before .before .before .loop-test .taken))
+    rw (at .inv .4) (run-fits (l .starts .now) (l .ends .now) (l .levels .now) (l .count) (at .i) (c .before .before .before .before .before .before .pre)
+    (c .before .before .before .loop-test .taken))
 
 add-bytes : tie.Need-add-bytes Inv-loop μ-loop
 add-bytes c =

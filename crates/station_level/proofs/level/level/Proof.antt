@@ -36,9 +36,11 @@ returns-3 c =
     let a = r .before .before .before .before .before .args in
     let side : a .side ≤ 1 = omega arith in
     let x = c .before .outcome .given .0 .0 in
-    sym (level-refused (a .job .now) (a .side) (a .station) side x (side-refused _ _ (r .side-of .result) (a .job .now) (a .side) (r .side-of .ensures .0) x (c .before .outcome .given .1)))
+    sym (level-refused (a .job .now) (a .side) (a .station) side x
+    (side-refused _ _ (r .side-of .result) (a .job .now) (a .side) (r .side-of .ensures .0) x (c .before .outcome .given .1)))
 
 pub level-spec : {M : Type 1} → statement M
 level-spec =
     tie.close
-    (tie.spec returns (λ c. search needs) (λ c. search needs) (λ c κs. search needs) (λ c. search needs) (λ c. search needs) (λ c. search needs) required-level-requires (λ c. search needs) returns-2 returns-3)
+    (tie.spec returns (λ c. search needs) (λ c. search needs) (λ c κs. search needs) (λ c. search needs) (λ c. search needs) (λ c. search needs)
+    required-level-requires (λ c. search needs) returns-2 returns-3)

@@ -32,7 +32,8 @@ returns : tie.Need-returns Inv-loop μ-loop
 returns c =
     let start = c .before .before .before .before .before .before .before .before in
     let l = c .before .before .before .before .before .before .before .loop in
-    λ es sound kept. level-found es sound (start .args .t1) (start .args .continuity) (start .args .station) (l .v) (l .end) (l .start) kept (l .inv .2 es sound kept) (omega arith) (omega arith)
+    λ es sound kept. level-found es sound (start .args .t1) (start .args .continuity) (start .args .station) (l .v) (l .end) (l .start) kept
+    (l .inv .2 es sound kept) (omega arith) (omega arith)
     (c .before .before .before .before .max .ensures) (c .before .before .min .ensures) (omega arith) (sym (c .before .has-station .ensures) ∙ c .if1 .taken)
 
 loop-again : tie.Need-loop-again Inv-loop μ-loop
@@ -41,7 +42,8 @@ loop-again c =
     let l = c .before .before .before .before .before .before .before .loop in (
       omega arith,
       omega (arith, c .before .before .before .before .max .ensures, l .inv .1, start .pre .0 (l .v) (omega arith)),
-      λ es sound kept. level-lower es sound (start .args .t1) (start .args .continuity) (start .args .station) (l .v) (l .end) (l .start) kept (l .inv .2 es sound kept) (omega arith) (omega arith)
+      λ es sound kept. level-lower es sound (start .args .t1) (start .args .continuity) (start .args .station) (l .v) (l .end) (l .start) kept
+          (l .inv .2 es sound kept) (omega arith) (omega arith)
           (c .before .before .before .before .max .ensures) (c .before .before .min .ensures) (sym (c .before .has-station .ensures) ∙ c .if1 .left),
     )
 

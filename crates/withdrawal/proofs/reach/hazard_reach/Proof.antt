@@ -12,7 +12,12 @@ add-min c =
     let o = c .before .before .before .before .before in
     let s = o .before .before in
     let bounds = header-bounds (s .args .header) (s .pre .0) in
-    omega (arith, found-end (s .args .header) (s .args .hazard) (o .own-envelope .ensures) (c .before .before .before .if1 .taken), bounds .road-end, bounds .continuity-top)
+    omega (
+      arith,
+      found-end (s .args .header) (s .args .hazard) (o .own-envelope .ensures) (c .before .before .before .if1 .taken),
+      bounds .road-end,
+      bounds .continuity-top,
+    )
 
 returns : tie.Need-returns
 returns c =
