@@ -460,6 +460,9 @@ impl Checker {
         note_reply(&mut what, expected != got);
         note_input(&mut what, "job", job, &lent);
         if let Some(fewer) = reach::without(job, hazard) {
+            // Once more than is needed: an engine that remembers what it was asked
+            // before answers the second time for this job alone.
+            let _ = reach::both_sides(|side| self.own_plan(job, side));
             let sheets = Sheets {
                 before: reach::both_sides(|side| self.own_plan(job, side)),
                 after: reach::both_sides(|side| self.own_plan(&fewer.job, side)),
@@ -495,6 +498,8 @@ impl Checker {
         note_reply(&mut what, expected != got);
         note_memory(&mut what, &untouched, &lent);
         if expected.number == 0 {
+            // In a copy first, as in `reach`.
+            (self.calls.withdraw)(&mut untouched.clone(), name);
             let mut lent = untouched;
             let before = reach::both_sides(|side| self.own_open_schedule(&mut lent, side));
             (self.calls.withdraw)(&mut lent, name);
