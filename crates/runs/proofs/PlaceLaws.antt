@@ -4,20 +4,23 @@ use Prim.Native.Nat.{ℕ, zero, suc, _+_, _-_, _≤_, _<_}
 use native.Mathlib.Omega.{arith}
 use native.Mathlib.Numerals.{add-one}
 use native.Mathlib.Nat.{add-zero}
-use native.Mathlib.Decide.{decLe}
 use mathlib.Core.Path.{_≡_, refl, sym, ap, _∙_}
 use mathlib.Core.Logic.{_≢_}
 use mathlib.Core.Bool.{Bool, true, false}
 use mathlib.Core.List.{List, [], _∷_, _++_}
-use lib.ListN.{length, getD, set, length-append}
-use lib.Seq.{getD-set-same, getD-set-other}
+use lib.ListN.{length, getD, set, take}
+use lib.Seq.{getD-set-same, getD-set-other, set-set, take-set-le, take-suc-set, length-take-le}
 use lib.Dec.{ltb}
 use borrow.Author.Tests.{le-ltb, lt-leb, le-leb, eq-eqb, ne-eqb}
 use Rattle.base.specs.Choice.{if_then_else_}
+use Rattle.base.specs.Stored.{padded}
+use Rattle.base.proofs.StoredLaws.{padded-more, padded-clear}
+use Rattle.runs.specs.declared.Stretch.{Stretch}
 use Rattle.runs.specs.declared.RunList.{RunList}
 use Rattle.runs.specs.Stored.{storedRuns}
 use Rattle.runs.specs.Sweep.{bit}
 use Rattle.runs.specs.Breaks.{Break, levelOf, breaksTo, breaksBefore, setFrom, runsBelow}
+use Rattle.runs.proofs.TopLaws.{bit-small}
 use Rattle.runs.proofs.StoredLaws.{withNext, cleared, stored-more, stored-same}
 
 module _ (starts levels : List ℕ) where
@@ -106,31 +109,66 @@ module _ (starts levels : List ℕ) where
       go true = stored-more l (runsBelow (getD starts i 0) (breaksTo starts levels i)) _ h room
       go false = rw (add-zero (l .count)) (stored-same l (runsBelow (getD starts i 0) (breaksTo starts levels i)) _ h)
 
-  below-length : (e n : ℕ) → length (runsBelow e (breaksTo starts levels (suc n))) ≡ length (runsBelow (getD starts n 0) (breaksTo starts levels n))
-      + bit (ltb 0 (getD levels n 0))
-  unfolding breaksTo runsBelow
-  below-length e n = go (ltb 0 (getD levels n 0))
-    where
-      go : (f : Bool) → length (if f then runsBelow (getD starts n 0) (breaksTo starts levels n)
-          ++ record { start = getD starts n 0; end = e; level = getD levels n 0 } ∷ [] else runsBelow (getD starts n 0) (breaksTo starts levels n))
-          ≡ length (runsBelow (getD starts n 0) (breaksTo starts levels n)) + bit f
-      go true =
-          length-append (runsBelow (getD starts n 0) (breaksTo starts levels n)) (record { start = getD starts n 0; end = e; level = getD levels n 0 } ∷ [])
-      go false = omega arith
+-- Runs stored in place of the break points that they are made from.
 
-  runs-grow : (n i e f : ℕ) → i ≤ n → length (runsBelow e (breaksTo starts levels i)) ≤ length (runsBelow f (breaksTo starts levels n))
-  unfolding breaksTo runsBelow
-  runs-grow zero i e f h = let z : i ≡ 0 = omega arith in rw z (omega arith)
-  runs-grow (suc n) i e f h = go (decLe i n) (runs-grow n i e (getD starts n 0))
-    where
-      go : Dec (i ≤ n) → (i ≤ n → length (runsBelow e (breaksTo starts levels i)) ≤ length (runsBelow (getD starts n 0) (breaksTo starts levels n)))
-          → length (runsBelow e (breaksTo starts levels i)) ≤ length (runsBelow f (breaksTo starts levels (suc n)))
-      go (yes l) r = omega (arith, r l, below-length f n)
-      go (no l) r =
-          let z : i ≡ suc n = omega arith in
-          rw z (omega (arith, below-length e n, below-length f n))
+-- A list whose first k places store runs, with zeros for what its starts have behind them.
+abbrev pub front : RunList → (k : ℕ) → RunList
+front l k = record { count = k; starts = padded 512 0 (take k (l .starts)); ends = l .ends; levels = l .levels }
 
-  -- The runs so far are no more than all.
-  pub runs-room : {l : RunList} (i n : ℕ) → l ≡ storedRuns (runsBelow (getD starts i 0) (breaksTo starts levels i)) → i ≤ n
-      → l .count ≤ length (runsBelow (getD starts n 0) (breaksTo starts levels n))
-  runs-room i n made h = omega (arith, ap (λ (r : RunList). r .count) made, runs-grow n i (getD starts i 0) (getD starts n 0) h)
+-- A stretch stored at place k.
+abbrev pub putAt : RunList → (k : ℕ) → Stretch → RunList
+putAt l k r =
+    record { count = l .count; starts = set (l .starts) k (r .start); ends = set (l .ends) k (r .end); levels = set (l .levels) k (r .level) }
+
+module _ (starts : List ℕ) (places : length starts ≡ 512) (k : ℕ) (room : k < 512) where
+  taken-length : length (take k starts) ≡ k
+  taken-length = length-take-le k starts (omega arith)
+
+  front-clear : set (padded 512 0 (take k starts)) k 0 ≡ padded 512 0 (take k starts)
+  front-clear = ap (λ (n : ℕ). set (padded 512 0 (take k starts)) n 0) (sym taken-length) ∙ padded-clear 512 0 (take k starts)
+
+  -- A start more, counted or not.
+  front-next : (a : ℕ) (f : Bool)
+      → set (padded 512 0 (take (k + bit f) (set starts k a))) (k + bit f) 0 ≡ set (set (padded 512 0 (take k starts)) k a) (k + bit f) 0
+  front-next a true =
+      let more = ap (λ (n : ℕ). set (padded 512 0 (take k starts)) n a) (sym taken-length)
+      ∙ padded-more 512 0 (take k starts) a (omega (arith, taken-length)) in
+      rw (add-one k, take-suc-set starts k a (omega arith), sym (add-one k)) (ap (λ (x : List ℕ). set x (k + 1) 0) (sym more))
+  front-next a false =
+      rw (add-zero k, take-set-le k starts k a (omega arith)) (sym (set-set (padded 512 0 (take k starts)) k a 0))
+
+-- The runs of the first i break points, in the first k places; the others still have the break points behind the i-th, whose start is `start`.
+pub record InPlace (starts levels : List ℕ) (l : RunList) (k i start : ℕ) : Type 0 where
+  pub within : k ≤ i
+  pub own : start ≡ getD starts i 0
+  pub ahead : (j : ℕ) → i < j → getD (l .starts) j 0 ≡ getD starts j 0
+  pub stored : cleared (front l k) ≡ storedRuns (runsBelow (getD starts i 0) (breaksTo starts levels i))
+
+module _ (starts levels : List ℕ) (l : RunList) (places : length (l .starts) ≡ 512) (k i start : ℕ) (h : InPlace starts levels l k i start) where
+  -- One break point more.
+  pub in-place-turn : (next d : ℕ) → k < 512 → next ≡ getD (l .starts) (i + 1) 0 → d ≡ bit (ltb 0 (getD levels i 0))
+      → InPlace starts levels (putAt l k (record { start = start; end = next; level = getD levels i 0 })) (k + d) (i + 1) next
+  in-place-turn next d room e q =
+      let f = ltb 0 (getD levels i 0) in
+      let new : next ≡ getD starts (i + 1) 0 = e ∙ h .ahead (i + 1) (omega arith) in
+      record {
+        within = omega (arith, h .within, q, bit-small f);
+        own = new;
+        ahead = λ j b. getD-set-other (l .starts) k j start 0 (λ x. omega (arith, h .within)) ∙ h .ahead j (omega arith);
+        stored =
+            rw q (ap (λ (x : List ℕ). record {
+              count = k + bit f;
+              starts = x;
+              ends = set (set (l .ends) k next) (k + bit f) 0;
+              levels = set (set (l .levels) k (getD levels i 0)) (k + bit f) 0;
+            }) (front-next (l .starts) places k room start f)
+            ∙ rw (h .own, sym new) (runs-turn starts levels (front l k) i next (bit f) (h .stored) room refl));
+      }
+
+  -- All of them.
+  pub in-place-all : k < 512
+      → record { count = k; starts = padded 512 0 (take k (l .starts)); ends = set (l .ends) k 0; levels = set (l .levels) k 0 }
+      ≡ storedRuns (runsBelow (getD starts i 0) (breaksTo starts levels i))
+  in-place-all room =
+      ap (λ (x : List ℕ). record { count = k; starts = x; ends = set (l .ends) k 0; levels = set (l .levels) k 0 }) (sym (front-clear (l .starts) places k room))
+      ∙ h .stored

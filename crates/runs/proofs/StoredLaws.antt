@@ -1,14 +1,15 @@
 -- Laws of stored runs, for loops that take them one by one or put them behind each other.
 -- Assumes nothing.
-use Prim.Native.Nat.{ℕ, zero, suc, _+_, _≤_, _<_}
+use Prim.Native.Nat.{ℕ, zero, suc, _+_, _-_, _≤_, _<_}
 use native.Mathlib.Omega.{arith}
 use native.Mathlib.Decide.{decLt}
 use native.Mathlib.Numerals.{add-one}
 use mathlib.Core.Path.{_≡_, refl, sym, ap, _∙_}
 use mathlib.Core.Bool.{true}
-use mathlib.Core.List.{List, [], _∷_, _++_, map, map-append, append-assoc}
-use lib.ListN.{length, getD, set, length-append, length-map, List·getD-append, List·getD-map}
-use lib.Seq.{ext-getD, getD-at, set-set}
+use mathlib.Core.List.{List, [], _∷_, _++_, map, map-append, append-assoc, append-nil}
+use lib.ListN.{length, getD, set, take, replicate, length-append, length-map, replicate-append-replicate, List·getD-append, List·getD-map}
+use lib.Seq.{ext-getD, getD-at, set-set, take-all, take-suc-set, length-take-le}
+use Rattle.base.specs.Stored.{padded}
 use Rattle.base.proofs.StoredLaws.{padded-more, padded-clear}
 use Rattle.runs.specs.declared.Stretch.{Stretch}
 use Rattle.runs.specs.declared.RunList.{RunList}
@@ -104,6 +105,24 @@ columns-stored places rs =
 
 pub runs-stored : (rs : List Stretch) → runsOf (storedRuns rs) ≡ rs
 runs-stored = columns-stored 512
+
+-- Zeros stored from a place on, one by one.
+module _ (old : List ℕ) (first : ℕ) (room : first ≤ length old) where
+  pub zeros-none : take first old ≡ take first old ++ replicate (first - first) 0
+  zeros-none =
+      let none : first - first ≡ 0 = omega arith in
+      rw none (sym (append-nil (take first old)))
+
+  pub zeros-more : (new : List ℕ) (i : ℕ) → first ≤ i → i < length new → take i new ≡ take first old ++ replicate (i - first) 0
+      → take (i + 1) (set new i 0) ≡ take first old ++ replicate (i + 1 - first) 0
+  zeros-more new i h k same =
+      let more : i + 1 - first ≡ i - first + 1 = omega arith in
+      rw (add-one i, take-suc-set new i 0 k, same, sym (add-one i), more, sym (replicate-append-replicate {A = ℕ} (i - first) 1 0))
+      (append-assoc (take first old) (replicate (i - first) 0) (0 ∷ []))
+
+  pub zeros-all : (new : List ℕ) (i : ℕ) → length new ≡ length old → i ≡ length old → take i new ≡ take first old ++ replicate (i - first) 0
+      → new ≡ padded (length old) 0 (take first old)
+  zeros-all new i l e same = rw (length-take-le first old room) (sym (take-all i new (omega arith)) ∙ rw (sym e) same)
 
 -- A stretch put behind the runs of a list, which then has n of them; and zeros put there.
 abbrev pub withNext : RunList → Stretch → (n : ℕ) → RunList

@@ -6,15 +6,13 @@ use native.Mathlib.Numerals.{add-one}
 use mathlib.Core.Path.{_≡_, refl, sym, ap, _∙_}
 use mathlib.Core.List.{List}
 use lib.ListN.{length, getD}
-use Rattle.runs.specs.declared.Stretch.{Stretch}
 use Rattle.runs.specs.Breaks.{Break, breaksTo, runsBelow}
-use Rattle.runs.specs.Sweep.{AllSound, Raised, distinctTo, SweptTo}
+use Rattle.runs.specs.Sweep.{Raised, distinctTo, SweptTo}
 use Rattle.runs.specs.Steps.{Places, Room, Stepped, envelopesTo, Sweepable, Swept}
 use Rattle.runs.specs.Required.{requiredRuns}
-use Rattle.runs.specs.RunList.{lastStation, mostRuns}
-use Rattle.runs.proofs.RunLaws.{run-list-short}
+use Rattle.runs.specs.RunList.{lastStation}
 use Rattle.runs.proofs.RunsOfLaws.{runs-of-unique}
-use Rattle.runs.proofs.RequiredLaws.{required-runs, required-run-list}
+use Rattle.runs.proofs.RequiredLaws.{required-runs}
 use Rattle.runs.proofs.SweepLaws.{tops-fall, above-small}
 use Rattle.runs.proofs.StandLaws.{stands-first, stands-last, last-zero}
 use Rattle.runs.proofs.PlaceLaws.{breaks-length, below-last}
@@ -68,10 +66,6 @@ module _ (keys ends : List ℕ) (n G : ℕ) where
             rw (add-one i) (t (envelopesTo keys ends i) (s .at) (getD ends (getD keys i 0 / 8 % 256) 0) tops′ (s .ahead i (omega arith) lt) (s .stands) x r);
       }
 
--- Up to 256 sound envelopes have up to 511 runs.
-few-runs : (es : List Stretch) (G : ℕ) → AllSound es → length es ≤ 256 → length (requiredRuns es G) ≤ mostRuns
-few-runs es G sound h = run-list-short (requiredRuns es G) (required-run-list es G (λ e m. sound e m .long) (λ e m. sound e m .ends) h)
-
 module _ (keys ends : List ℕ) (n G : ℕ) (starts levels : List ℕ) (count : ℕ) (s : Swept keys ends n G starts levels count) where
   -- The runs between the break points are the required ones.
   pub swept-runs : runsBelow (getD starts (count - 1) 0) (breaksTo starts levels (count - 1)) ≡ requiredRuns (envelopesTo keys ends n) G
@@ -80,7 +74,3 @@ module _ (keys ends : List ℕ) (n G : ℕ) (starts levels : List ℕ) (count : 
       sym (below-last starts levels 0 count (last-zero st))
       ∙ runs-of-unique _ _ (stands-last st 0) (required-runs (envelopesTo keys ends n) G (λ x m. st .begun .sound x m .long)
       (λ x m. st .begun .sound x m .ends))
-
-  pub swept-few : n ≤ 256 → length (runsBelow (getD starts (count - 1) 0) (breaksTo starts levels (count - 1))) ≤ mostRuns
-  swept-few h =
-      omega (arith, ap length swept-runs, few-runs (envelopesTo keys ends n) G (s .stands .begun .sound) (omega (arith, envelopes-length keys ends n)))

@@ -14,7 +14,7 @@ use Rattle.runs.specs.Sweep.{bit, aboveTo, Falling, raisedTop, Raised, f
 use Rattle.base.proofs.OrderLaws.{le-of-not-lt}
 use Rattle.runs.proofs.IndexLaws.{store-next}
 
-bit-small : (b : Bool) → bit b ≤ 1
+pub bit-small : (b : Bool) → bit b ≤ 1
 bit-small true = omega arith
 bit-small false = omega arith
 

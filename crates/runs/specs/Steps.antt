@@ -55,6 +55,7 @@ pub record Sweepable (keys ends : List ℕ) (n : ℕ) : Type 0 where
 
 -- The break points of the required level up to the last station.
 pub record Swept (keys ends : List ℕ) (n G : ℕ) (starts levels : List ℕ) (count : ℕ) : Type 0 where
+  pub places : length starts ≡ breakPlaces
   pub within : count ≤ breakPlaces
   pub tops : List ℕ
   pub level : ℕ

@@ -6,12 +6,12 @@ ghost use mathlib.Core.Path.{_≡_};
 ghost use mathlib.Core.Bool.{true};
 ghost use mathlib.Core.List.{List};
 ghost use Prim.Native.Nat.{ℕ, _+_, _-_, _≤_, _<_, min, max};
-ghost use lib.ListN.{length, getD};
+ghost use lib.ListN.{length, take};
+ghost use Rattle.base.specs.Stored.{padded};
 ghost use Rattle.base.specs.Choice.{if_then_else_};
-ghost use Rattle.runs.specs.RunList.{mostRuns};
 ghost use Rattle.runs.specs.Required.{requiredRuns};
 ghost use Rattle.runs.specs.Stored.{storedRuns};
-ghost use Rattle.runs.specs.Breaks.{levelOf, breaksTo, breaksBefore, setFrom, runsBelow};
+ghost use Rattle.runs.specs.Breaks.{levelOf, breaksTo, breaksBefore, setFrom};
 ghost use Rattle.runs.specs.Sweep.{bit, aboveTo, Raised, Falling, filledFrom, lifted};
 ghost use Rattle.runs.specs.Steps.{breakPlaces, Places, Room, Drained, Stepped, envelopesTo, Sweepable, Swept};
 
@@ -214,7 +214,7 @@ fn sweep(
     ends: &[u64],
     n: usize,
     g: u64,
-    starts: &mut [u64],
+    starts: &mut [u64; 512],
     levels: &mut [u8],
 ) -> usize
     requires { ⌜ Sweepable (now keys) (now ends) n ⌝ }
@@ -243,12 +243,24 @@ fn sweep(
     last.count
 }
 
-// The runs from each break point to the next.
-fn runs_of(starts: &[u64], levels: &[u8], count: usize) -> RunList
-    requires { ⌜ Places (now starts) (now levels) ⌝ }
-    requires { ⌜ count ≤ breakPlaces ⌝ }
-    requires { ⌜ length (runsBelow (getD (now starts) (count - 1) 0) (breaksTo (now starts) (now levels) (count - 1))) ≤ mostRuns ⌝ }
-    ensures { λ r. ⌜ r ≡ storedRuns (runsBelow (getD (now (starts .entry)) (count - 1) 0) (breaksTo (now (starts .entry)) (now (levels .entry)) (count - 1))) ⌝ }
+// Zeros from a place on.
+fn clear_from(starts: &mut [u64; 512], first: usize)
+    requires { ⌜ length (now starts) ≡ 512 ⌝ }
+    requires { ⌜ first ≤ 512 ⌝ }
+    ensures { λ _. ⌜ now (starts .exit) ≡ padded 512 0 (take first (now (starts .entry))) ⌝ }
+{
+    let mut i = first;
+    while i < 512 {
+        starts[i] = 0;
+        i += 1;
+    }
+}
+
+// The required runs of n envelopes whose keys rise. The break points stand in the list's own starts, which spares the stack an array: a run goes from
+// one to the next, and its place is that of a break point that is past.
+pub fn swept_runs(keys: &[u64], ends: &[u64], n: usize, g: u64) -> RunList
+    requires { ⌜ Sweepable (now keys) (now ends) n ⌝ }
+    ensures { λ r. ⌜ r ≡ storedRuns (requiredRuns (envelopesTo (now (keys .entry)) (now (ends .entry)) n) g) ⌝ }
 {
     let mut list = RunList {
         count: 0,
@@ -256,31 +268,25 @@ fn runs_of(starts: &[u64], levels: &[u8], count: usize) -> RunList
         ends: [0; 512],
         levels: [0; 512],
     };
+    let mut levels: [u8; 512] = [0; 512];
+    let count = sweep(keys, ends, n, g, &mut list.starts, &mut levels[..]);
+    let mut start = list.starts[0];
     let mut k = 0;
     let mut i = 0;
     while i + 1 < count {
         let level = levels[i];
-        list.starts[k] = starts[i];
-        list.ends[k] = starts[i + 1];
+        i += 1;
+        let next = list.starts[i];
+        list.starts[k] = start;
+        list.ends[k] = next;
         list.levels[k] = level;
         k += one_if(0 < level);
-        i += 1;
+        start = next;
     }
-    // A break point of level 0 leaves its stations behind the runs.
-    list.starts[k] = 0;
+    // What break points leave behind the runs.
     list.ends[k] = 0;
     list.levels[k] = 0;
+    clear_from(&mut list.starts, k);
     list.count = k;
     list
-}
-
-// The required runs of n envelopes whose keys rise.
-pub fn swept_runs(keys: &[u64], ends: &[u64], n: usize, g: u64) -> RunList
-    requires { ⌜ Sweepable (now keys) (now ends) n ⌝ }
-    ensures { λ r. ⌜ r ≡ storedRuns (requiredRuns (envelopesTo (now (keys .entry)) (now (ends .entry)) n) g) ⌝ }
-{
-    let mut starts: [u64; 512] = [0; 512];
-    let mut levels: [u8; 512] = [0; 512];
-    let count = sweep(keys, ends, n, g, &mut starts[..], &mut levels[..]);
-    runs_of(&starts[..], &levels[..], count)
 }
