@@ -6,4 +6,5 @@ pub mod PlaceLaws
 pub mod SingleLaws
 pub mod RangeLaws
 pub mod QuantitiesLaws
+pub mod NotedLaws
 pub mod SumLaws

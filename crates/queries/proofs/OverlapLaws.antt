@@ -1,8 +1,9 @@
--- Laws of overlaps, for one range: the quantity is their sum, and how a walk over the runs makes it. A walk over many ranges makes one for each.
+-- Laws of overlaps, for one range: the quantity is their sum, and how a walk over the runs makes it. A walk for many ranges makes one for each station.
 -- Assumes nothing.
 use Prim.Native.Nat.{ℕ, _+_, _-_, _≤_, _<_, min, max}
 use native.Mathlib.Omega.{arith}
-use mathlib.Core.Path.{_≡_, ap, _∙_}
+use native.Mathlib.Decide.{decLe}
+use mathlib.Core.Path.{_≡_, refl, ap, _∙_}
 use mathlib.Core.Bool.{Bool, true, false}
 use mathlib.Core.List.{List, [], _∷_}
 use lib.ListN.{length}
@@ -34,6 +35,28 @@ count-overlaps e u (r ∷ rs) up v h p n =
 pub millimetres-overlaps : (rs : List Stretch) → Rising 0 0 rs → (v p q : ℕ) → 1 ≤ v → p ≤ q → millimetres (shownLevel rs) v p q ≡ overlaps rs v p q
 unfolding millimetres
 millimetres-overlaps rs up v p q h l = count-overlaps 0 0 rs up v h p (q - p) ∙ ap (λ (x : ℕ). overlaps rs v p x) (let e : p + (q - p) ≡ q = omega arith in e)
+
+-- What lies below q lies below p or between them: of one run, and of all.
+overlap-between : (start end p q : ℕ) → p ≤ q → min p end - max 0 start + (min q end - max p start) ≡ min q end - max 0 start
+overlap-between start end p q h = let low : max 0 start ≡ start = omega arith in rw low (go (decLe p start))
+  where
+    go : Dec (p ≤ start) → min p end - start + (min q end - max p start) ≡ min q end - start
+    go (yes l) = let from : max p start ≡ start = omega arith in rw from (omega arith)
+    go (no l) = let from : max p start ≡ p = omega arith in rw from (omega arith)
+
+pub overlaps-between : (rs : List Stretch) (v p q : ℕ) → p ≤ q → overlaps rs v 0 p + overlaps rs v p q ≡ overlaps rs v 0 q
+unfolding overlap overlaps
+overlaps-between [] v p q h = refl
+overlaps-between (r ∷ rs) v p q h = go (eqb (r .level) v) (overlaps-between rs v p q h)
+  where
+    add : (x y z a b c : ℕ) → x + y ≡ z → a + b ≡ c → x + a + (y + b) ≡ z + c
+    add x y z a b c e f = omega arith
+
+    go : (b : Bool) → overlaps rs v 0 p + overlaps rs v p q ≡ overlaps rs v 0 q
+        → (if b then min p (r .end) - max 0 (r .start) else 0) + overlaps rs v 0 p + ((if b then min q (r .end) - max p (r .start) else 0) + overlaps rs v p q)
+        ≡ (if b then min q (r .end) - max 0 (r .start) else 0) + overlaps rs v 0 q
+    go true rest = add _ _ _ _ _ _ (overlap-between (r .start) (r .end) p q h) rest
+    go false rest = add 0 0 0 _ _ _ refl rest
 
 -- A run that follows one which ended at e has no more millimetres than there are from there to its end.
 pub overlap-most : (e u : ℕ) (r : Stretch) → MayFollow e u r → (v p q : ℕ) → e + overlapAt r v p q ≤ r .end

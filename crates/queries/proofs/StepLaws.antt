@@ -1,19 +1,22 @@
 -- A walk of a schedule's records, step by step: its start, a record passed, its end, and what they say of what the runs come to.
 -- Assumes nothing.
-use Prim.Native.Nat.{ℕ, zero, suc, _-_, _<_}
+use Prim.Native.Nat.{ℕ, zero, suc, _-_, _≤_, _<_}
 use native.Mathlib.Omega.{arith}
 use mathlib.Core.Path.{_≡_, refl, sym, ap, _∙_}
 use mathlib.Core.List.{List, [], _∷_}
 use lib.ListN.{length}
-use borrow.Author.Tests.{eq-eqb, ne-eqb}
+use lib.Dec.{leb}
+use borrow.Author.Tests.{eq-eqb, ne-eqb, leb-true}
 use Rattle.base.specs.Answer.{Answer, accepted, refused, _>>=_}
-use Rattle.base.proofs.AnswerLaws.{bind-same}
+use Rattle.base.proofs.AnswerLaws.{bound, bind-same}
 use Rattle.base.proofs.TestLaws.{impossible}
-use Rattle.number.specs.Number.{Reading, writeNumber}
+use Rattle.refusal.specs.declared.Refusal.the-variants as Row
+use Rattle.refusal.proofs.RefuseLaws.{passed}
+use Rattle.number.specs.Number.{Reading, numberAt, writeNumber}
 use Rattle.number.specs.Form.{Bytes}
 use Rattle.number.proofs.ReadLaws.{number-read}
 use Rattle.runs.specs.declared.Stretch.{Stretch}
-use Rattle.runs.specs.RunList.{MayFollow}
+use Rattle.runs.specs.RunList.{mostRuns, MayFollow}
 use Rattle.runs.proofs.RunLaws.{follows}
 use Rattle.schedule.specs.Schedule.{readHead, ReadRun, readRecord, orTen, readRecords, readSchedule}
 use Rattle.schedule.proofs.ScheduleLaws.{or-ten, record-read, schedule-parts, records-rise}
@@ -51,6 +54,14 @@ module _ (s : List ℕ) where
         record {
           same = bind-same (readSchedule s) (λ rs. accepted (f rs)) (λ rs. accepted (g rs)) (λ rs e. ap accepted (same rs e)) ∙ rw (or-ten (readHead s) n h);
         }
+
+    pub head-few : n .value ≤ mostRuns
+    unfolding readHead
+    head-few =
+        let b = bound (numberAt s 0) _ n (or-ten (readHead s) n h) in
+        let t = passed (leb (b .first .value) mostRuns) Row.Schedule _ n (b .rest) in
+        let same : b .first ≡ n = let z = t .1 in cc in
+        rw same at (leb-true (b .first .value) mostRuns (t .0))
 
     -- The index behind the head is that behind the writing of the run count.
     pub head-length : (rs : List Stretch) → Bytes s → readSchedule s ≡ accepted rs → length (writeNumber (length rs)) ≡ n .next

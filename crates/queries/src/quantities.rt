@@ -1,29 +1,31 @@
 // The call quantities: how many millimetres of each of up to 64 ranges have a level, in one walk of the schedule.
-use super::query::overlap;
 use super::reply::Quantities;
 use super::walk::Head;
 use super::walk::Record;
 use super::walk::read_head;
 use super::walk::read_run;
+use base::min;
 use number::Read;
 use refusal::Outcome;
 use refusal::Refusal;
 use runs::Stretch;
 ghost use mathlib.Core.Path.{_≡_};
 ghost use mathlib.Core.Bool.{_&&_};
-ghost use Prim.Native.Nat.{_≤_};
+ghost use Prim.Native.Nat.{_*_, _≤_, _<_};
 ghost use lib.Dec.{leb};
+ghost use lib.ListN.{length};
 ghost use Rattle.refusal.specs.Refusal.{refusal};
-ghost use Rattle.runs.specs.RunList.{lastStation};
+ghost use Rattle.runs.specs.RunList.{mostRuns, lastStation};
 ghost use Rattle.queries.specs.Walk as walk;
-ghost use Rattle.queries.specs.Sums.{Sums, Grown, Tallied};
-ghost use Rattle.queries.specs.Ranges.{areRanges, quantitiesReply, quantitiesReplied};
+ghost use Rattle.queries.specs.Sums.{Noted, Passed, Tallied, Ascending, Halved, Differences};
+ghost use Rattle.queries.specs.Sums as Sums;
+ghost use Rattle.queries.specs.Ranges.{mostRanges, areRanges, WholeRanges, quantitiesReply, quantitiesReplied};
 ghost use Rattle.queries.specs.Ranges as Ranges;
 
-// How a walk over the ranges ends, beside their sums.
+// How a walk ends, beside the runs noted.
 pub enum Tally {
-    // This many records were read, and nothing stands behind them.
-    Over(u64),
+    // This many records were read, and nothing stands behind them; so many runs of the level were noted.
+    Over { records: u64, noted: usize },
     // No schedule.
     Bad,
 }
@@ -81,42 +83,38 @@ fn next_record(s: &[u8], at: usize, end: u64, level: u32) -> Record
     read_run(s, j, end, level, gap, length)
 }
 
-// Each range's millimetres of a run added to its sum.
-fn add_overlaps(sums: &mut [u64; 64], numbers: &[u64], run: Stretch)
+// A run noted where it has the level: where it starts, and how many millimetres of the level there are up to its end. How many runs are
+// noted then.
+fn note_run(
+    starts: &mut [u64; 512],
+    sums: &mut [u64; 512],
+    noted: usize,
+    level: u32,
+    run: Stretch,
+) -> usize
     requires { ⌜ run .start ≤ run .end ⌝ }
-    requires { ⌜ Sums (now numbers) (now sums) (run .start) ⌝ }
-    ensures { λ _. ⌜ Grown (now (numbers .entry)) (walk.overlap run) (now (sums .entry)) (now (sums .exit)) ⌝ }
-{
-    let start = run.start;
-    let end = run.end;
-    let count = numbers.len() / 2;
-    let mut i = 0;
-    while i < count {
-        sums[i] += overlap(start, end, numbers[2 * i], numbers[2 * i + 1]);
-        i += 1;
-    }
-}
-
-// The same where the run has the level; else nothing is added.
-fn add_run(sums: &mut [u64; 64], numbers: &[u64], level: u32, run: Stretch)
-    requires { ⌜ run .start ≤ run .end ⌝ }
-    requires { ⌜ Sums (now numbers) (now sums) (run .start) ⌝ }
-    ensures { λ _. ⌜ Grown (now (numbers .entry)) (walk.overlapAt run level) (now (sums .entry)) (now (sums .exit)) ⌝ }
+    requires { ⌜ noted < mostRuns ⌝ }
+    requires { ⌜ Noted (now starts) (now sums) noted (run .start) ⌝ }
+    ensures { λ r. ⌜ Passed run level (now (starts .entry)) (now (sums .entry)) noted (now (starts .exit)) (now (sums .exit)) r ⌝ }
 {
     if run.level == level {
-        add_overlaps(sums, numbers, run);
+        starts[noted] = run.start;
+        sums[noted + 1] = sums[noted] + (run.end - run.start);
+        return noted + 1;
     }
+    noted
 }
 
-// The records one by one, each read and counted once: the millimetres of every range that the runs of the level have.
-fn walk_ranges(s: &[u8], level: u32, numbers: &[u64], sums: &mut [u64; 64]) -> Tally
-    requires { ⌜ Sums (now numbers) (now sums) 0 ⌝ }
-    ensures { λ r. ⌜ Tallied (now (s .entry)) level (now (numbers .entry)) (now (sums .exit)) r ⌝ }
+// The records one by one, each read and counted once, and the runs of the level noted.
+fn walk_level(s: &[u8], level: u32, starts: &mut [u64; 512], sums: &mut [u64; 512]) -> Tally
+    requires { ⌜ Noted (now starts) (now sums) 0 0 ⌝ }
+    ensures { λ r. ⌜ Tallied (now (s .entry)) level (now (starts .exit)) (now (sums .exit)) r ⌝ }
 {
     let Head::Count { count, next: first } = read_head(s) else {
         return Tally::Bad;
     };
     let mut records: u64 = 0;
+    let mut noted: usize = 0;
     let mut at = first;
     // The last run's end and level.
     let mut end: u64 = 0;
@@ -126,7 +124,7 @@ fn walk_ranges(s: &[u8], level: u32, numbers: &[u64], sums: &mut [u64; 64]) -> T
             return Tally::Bad;
         };
         records += 1;
-        add_run(sums, numbers, level, run);
+        noted = note_run(starts, sums, noted, level, run);
         at = next;
         end = run.end;
         last = run.level;
@@ -134,7 +132,58 @@ fn walk_ranges(s: &[u8], level: u32, numbers: &[u64], sums: &mut [u64; 64]) -> T
     if at != s.len() {
         return Tally::Bad;
     }
-    Tally::Over(records)
+    Tally::Over { records, noted }
+}
+
+// How many of the runs noted start before a station, by halving.
+fn starting_before(starts: &[u64], noted: usize, station: u64) -> usize
+    requires { ⌜ noted ≤ length (now starts) ⌝ }
+    requires { ⌜ Ascending (now starts) noted ⌝ }
+    ensures { λ r. ⌜ Halved (now (starts .entry)) noted station r r ⌝ }
+{
+    let mut low: usize = 0;
+    let mut high = noted;
+    while low < high {
+        let middle = low + (high - low) / 2;
+        if starts[middle] < station {
+            low = middle + 1;
+        } else {
+            high = middle;
+        }
+    }
+    low
+}
+
+// How many millimetres of the level lie below a station: of the runs that start before it all, but that the last may reach beyond it.
+fn below(starts: &[u64], sums: &[u64], noted: usize, station: u64) -> u64
+    requires { ⌜ Noted (now starts) (now sums) noted lastStation ⌝ }
+    ensures { λ r. ⌜ r ≡ Sums.below (now (starts .entry)) (now (sums .entry)) noted station ⌝ }
+{
+    let runs = starting_before(starts, noted, station);
+    if runs == 0 {
+        return 0;
+    }
+    let i = runs - 1;
+    sums[i] + min(station - starts[i], sums[runs] - sums[i])
+}
+
+// The quantity of each range.
+fn differences(starts: &[u64], sums: &[u64], noted: usize, numbers: &[u64]) -> [u64; 64]
+    requires { ⌜ Noted (now starts) (now sums) noted lastStation ⌝ }
+    requires { ⌜ length (now numbers) ≤ 2 * mostRanges ⌝ }
+    requires { ⌜ WholeRanges (now numbers) ⌝ }
+    ensures { λ r. ⌜ Differences (now (starts .entry)) (now (sums .entry)) noted (now (numbers .entry)) r ⌝ }
+{
+    let mut quantities: [u64; 64] = [0; 64];
+    let count = numbers.len() / 2;
+    let mut i = 0;
+    while i < count {
+        let p = below(starts, sums, noted, numbers[2 * i]);
+        let q = below(starts, sums, noted, numbers[2 * i + 1]);
+        quantities[i] = q - p;
+        i += 1;
+    }
+    quantities
 }
 
 // No quantities, beside a refusal.
@@ -157,12 +206,13 @@ pub fn quantities(schedule: &[u8], level: u64, ranges: &[u64]) -> Quantities
     if 128 < ranges.len() {
         return no_quantities(Refusal::Ranges);
     }
-    let mut sums: [u64; 64] = [0; 64];
-    match walk_ranges(schedule, level as u32, ranges, &mut sums) {
-        Tally::Over(records) => Quantities {
+    let mut starts: [u64; 512] = [0; 512];
+    let mut sums: [u64; 512] = [0; 512];
+    match walk_level(schedule, level as u32, &mut starts, &mut sums) {
+        Tally::Over { records, noted } => Quantities {
             outcome: Outcome::Done,
             records,
-            quantities: sums,
+            quantities: differences(&starts, &sums, noted, ranges),
         },
         Tally::Bad => no_quantities(Refusal::Schedule),
     }

@@ -27,7 +27,7 @@ pub enum Walked {
 }
 
 // How many millimetres [start, end) and [p, q) have in common.
-pub fn overlap(start: u64, end: u64, p: u64, q: u64) -> u64
+fn overlap(start: u64, end: u64, p: u64, q: u64) -> u64
     ensures { λ r. ⌜ r ≡ min q end - max p start ⌝ }
 {
     let from = max(p, start);
