@@ -26,7 +26,7 @@ one_call() { # CASE WHO
 
 echo "| case | engine | reference |"
 echo "|---|---:|---:|"
-for case in sparse-shuffled sparse-shuffled-64 sparse-shuffled-8 sparse-shuffled-1 sparse-shuffled-panels-4000 overhang-sparse-shuffled chainage-sparse-shuffled dense-shuffled runs511-shuffled runs511-ordered level-sparse-shuffled level-dense-shuffled corners-sparse-shuffled offset-sparse-shuffled reach-sparse-shuffled layout-4-all quantity-511 quantities-64-all quantities-64-half quantity-64-single-calls lookup-511-middle open-add-255 open-withdraw-256 open-schedule-256 open-reach-256 open-add-255-kept open-withdraw-256-kept open-keep-256-kept open-return-256-kept open-reach-256-kept open-test-256 open-test-256-kept; do
+for case in sparse-shuffled sparse-shuffled-64 sparse-shuffled-8 sparse-shuffled-1 sparse-shuffled-panels-4000 overhang-sparse-shuffled chainage-sparse-shuffled dense-shuffled runs511-shuffled runs511-ordered level-sparse-shuffled level-dense-shuffled corners-sparse-shuffled offset-sparse-shuffled reach-sparse-shuffled layout-4-all quantity-511 quantities-64-all quantities-64-half quantity-64-single-calls lookup-511-middle open-opening open-add-255 open-withdraw-256 open-schedule-256 open-reach-256 open-add-255-kept open-withdraw-256-kept open-keep-256-kept open-return-256-kept open-reach-256-kept open-test-256 open-test-256-kept; do
     one_call "$case" engine
     engine=$one_call
     one_call "$case" reference

@@ -2,7 +2,7 @@ pub mod Borrow
 pub mod ByValue
 pub mod Chosen
 pub mod Data
-pub mod Emptied
+pub mod Opened
 pub mod Replaced
 pub mod Shell
 pub mod States

@@ -1,5 +1,5 @@
--- One kept state is replaced by what a function by value makes of it: the code copies it into a local, calls, and stores the result back. Opening and keeping
--- do so with each of the eight.
+-- One kept state is replaced by what a function by value makes of it: the code copies it into a local, calls, and stores the result back. Keeping does
+-- so with each of the eight.
 -- Assumes nothing.
 use Rattle.open_job.specs.declared.KeptState.{KeptState}
 use Rattle.barrier_engine.proofs.Walks.{_≡_, refl, ℕ, zero, some, List, [], _∷_, URA, fullShare, Holds, Name, Ty, deref, field, place, Operand, copy}

@@ -2,7 +2,7 @@
 -- Assumes nothing.
 use denote.Struct.Laws as LL
 use Rattle.barrier_engine.proofs.Walks.{ℕ, URA, Share, fat, Item, ‵}
-use Rattle.barrier_engine.proofs.Data.{Data, Fits, struct}
+use Rattle.barrier_engine.proofs.Data.{Data, Fits, struct, truth}
 use Rattle.job.proofs.Header as Header·t
 use Rattle.job.proofs.Header.Laws as Header·t′
 use Rattle.job.specs.declared.StoredJob.{StoredJob}
@@ -19,6 +19,9 @@ use Rattle.replies.proofs.Reply.Laws as Reply·t′
 use Rattle.replies.specs.declared.open.Changed.{Changed}
 use Rattle.replies.proofs.open.Changed as Changed·t
 use Rattle.replies.proofs.open.Changed.Laws as Changed·t′
+use Rattle.replies.specs.declared.open.Opening.{Opening}
+use Rattle.replies.proofs.open.Opening as Opening·t
+use Rattle.replies.proofs.open.Opening.Laws as Opening·t′
 
 abbrev pub header : Data
 header = struct Header·t.the-type Header·t′.the-laws Header·t′.the-plain Header·t′.the-copy
@@ -46,12 +49,19 @@ reply = struct Reply·t.the-type Reply·t′.the-laws Reply·t′.the-plain Repl
 abbrev pub changed : Data
 changed = struct Changed·t.the-type Changed·t′.the-laws Changed·t′.the-plain Changed·t′.the-copy
 
+-- what an opening gives
+abbrev pub opening : Data
+opening = struct Opening·t.the-type Opening·t′.the-laws Opening·t′.the-plain Opening·t′.the-copy
+
 -- ---- the parts of what fits fit
 pub header-fits : (x : StoredJob) → Fits stored x → Fits header (x .header)
 header-fits x fits = LL.owed StoredJob·t.the-type StoredJob·t′.the-laws x _ fits .0
 
 pub changed-fits : (r : Changed) → Fits changed r → Fits stored (r .next) × Fits reply (r .reply)
 changed-fits r fits = let p = LL.owed Changed·t.the-type Changed·t′.the-laws r _ fits in (p .0, p .1 .0)
+
+pub opening-fits : (r : Opening) → Fits opening r → Fits header (r .header) × Fits reply (r .reply) × Fits truth (r .done)
+opening-fits r fits = let p = LL.owed Opening·t.the-type Opening·t′.the-laws r _ fits in (p .0, p .1 .0, p .1 .1 .0)
 
 pub record Parts (m : OpenStates) : Type 0 where
   pub present-fits : Fits stored (m .present)

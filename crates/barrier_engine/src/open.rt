@@ -3,8 +3,8 @@
 use open_job::OpenStates;
 use open_job::kept::also_sound;
 use open_job::kept::choose;
-use open_job::kept::empty;
 use open_job::kept::kept_from;
+use open_job::kept::nothing_kept;
 use open_memory::GivenHazard;
 use replies::PlanReply;
 use replies::ReachReply;
@@ -45,17 +45,20 @@ fn all_sound(job: &OpenStates) -> bool
 pub extern "C" fn barrier_open(job: &mut OpenStates, bytes: &[u8]) -> Reply
     ensures { λ r. ⌜ (now (job .exit) ≡ memoryAfter (openStates (now (bytes .entry))) (now (job .entry))) × (r ≡ replyOf (replied (openStates (now (bytes .entry))))) ⌝ }
 {
-    let opening = opened((*job).present, bytes);
-    (*job).present = opening.next;
-    let done = opening.done;
-    (*job).kept0 = empty(done, (*job).kept0);
-    (*job).kept1 = empty(done, (*job).kept1);
-    (*job).kept2 = empty(done, (*job).kept2);
-    (*job).kept3 = empty(done, (*job).kept3);
-    (*job).kept4 = empty(done, (*job).kept4);
-    (*job).kept5 = empty(done, (*job).kept5);
-    (*job).kept6 = empty(done, (*job).kept6);
-    (*job).kept7 = empty(done, (*job).kept7);
+    let opening = opened(bytes);
+    // A refused opening alters nothing.
+    if opening.done {
+        (*job).present = open_memory::places::opened(opening.header);
+        let none = nothing_kept();
+        (*job).kept0 = none;
+        (*job).kept1 = none;
+        (*job).kept2 = none;
+        (*job).kept3 = none;
+        (*job).kept4 = none;
+        (*job).kept5 = none;
+        (*job).kept6 = none;
+        (*job).kept7 = none;
+    }
     opening.reply
 }
 

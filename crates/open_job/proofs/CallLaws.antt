@@ -97,12 +97,6 @@ module _ (s : List ℕ) where
       job (accepted j) none =
           ap (λ (zs : List Hazard). (testHazards (j .header) 0 zs >>= λ _. accepted j) >>= λ i. accepted (laidOut (i .header) [])) (none j refl)
 
-  pub opening-done : {h : Header} → accepted h ≡ readOpening s → openJob s ≡ accepted (laidOut h [])
-  opening-done e = opening-read ∙ rw (sym e)
-
-  pub opening-refused : (x : Refusal) → refusal x ≡ readOpening s → openJob s ≡ refusal x
-  opening-refused x e = opening-read ∙ rw (sym e)
-
 -- A hazard that is to be added, in its ranges
 module _ (h : Header) (name : ℕ) (z : Hazard) (ranged : hazardInRange h z ≡ true) where
   pub given-near : standsNear h z ≡ true → refused 5 name ≡ admit h name z

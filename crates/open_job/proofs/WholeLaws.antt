@@ -3,13 +3,13 @@
 use Prim.Native.Nat.{ℕ, zero, suc, _≤_, _<_}
 use native.Mathlib.Omega.{arith}
 use mathlib.Core.Path.{_≡_, refl, sym, ap, subst}
-use mathlib.Core.Bool.{true, false, and-true, and-assoc}
+use mathlib.Core.Bool.{Bool, true, false, and-true, and-assoc}
 use mathlib.Core.List.{List}
-use lib.ListN.{getD, set, replicate}
+use lib.ListN.{getD, set}
 use lib.Dec.{leb, eqb}
 use borrow.Author.Tests.{leb-true}
 use Rattle.base.specs.Choice.{if_then_else_, allOf}
-use Rattle.base.specs.Answer.{Answer, accepted, refused, _>>=_, isAccepted, replied}
+use Rattle.base.specs.Answer.{Answer, accepted, refused, _>>=_, replied}
 use Rattle.refusal.specs.Refusal.{unless-refuse}
 use Rattle.refusal.specs.declared.Refusal.the-variants as Row
 use Rattle.refusal.proofs.RefuseLaws.{tested}
@@ -17,10 +17,10 @@ use Rattle.base.proofs.AnswerLaws.{bind-same}
 use Rattle.job.specs.declared.StoredJob.{StoredJob}
 use Rattle.open_job.specs.declared.KeptState.{KeptState}
 use Rattle.open_job.specs.declared.OpenStates.{OpenStates}
-use Rattle.open_job.specs.States.{mostKept, greatestStateNumber, nothingKept, keptFrom, stateOf, isUsed, keptStates, keptUnder, statesFrom, allSound}
+use Rattle.open_job.specs.States.{greatestStateNumber, nothingKept, keptFrom, stateOf, isUsed, keptStates, keptUnder, statesFrom, allSound}
 use Rattle.open_job.specs.States.{areOpenStates}
 use Rattle.open_job.specs.Calls.{memoryAfter, openJob, openStates, underRules, changedIn, testState, keepIn, keptJob, returnIn}
-use Rattle.open_job.specs.Parts.{chosen, emptied, eachSound, Carries, eachChosen, Keeps, lookedFor, eachEmptied}
+use Rattle.open_job.specs.Parts.{chosen, eachSound, Carries, eachChosen, Keeps, lookedFor, afterOpening}
 use Rattle.open_job.proofs.StateLaws.{replaced}
 
 module _ (m : OpenStates) where
@@ -97,15 +97,8 @@ module _ (m : OpenStates) where
 
   -- Opening
 
-  pub open-whole : (s : List ℕ)
-      → (eachEmptied m (isAccepted (replied (openJob s))) (memoryAfter (openJob s) (m .present)) ≡ memoryAfter (openStates s) m)
-      × (replied (openJob s) ≡ replied (openStates s))
-  unfolding openStates emptied
-  open-whole s = go (openJob s)
-    where
-      go : (a : Answer StoredJob)
-          → (eachEmptied m (isAccepted (replied a)) (memoryAfter a (m .present))
-          ≡ memoryAfter (a >>= λ x. accepted (statesFrom x (replicate mostKept nothingKept))) m)
-          × (replied a ≡ replied (a >>= λ x. accepted (statesFrom x (replicate mostKept nothingKept))))
-      go (accepted x) = (refl, refl)
-      go (refused k v) = (refl, refl)
+  pub open-whole : (s : List ℕ) (done : Bool) (a : StoredJob) (number value : ℕ) → (if done then accepted a else refused number value) ≡ openJob s
+      → (afterOpening m done a ≡ memoryAfter (openStates s) m) × (replied (openJob s) ≡ replied (openStates s))
+  unfolding openStates
+  open-whole s true a number value e = rw (sym e) (refl, refl)
+  open-whole s false a number value e = rw (sym e) (refl, refl)

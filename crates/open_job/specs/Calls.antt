@@ -14,7 +14,9 @@ use Rattle.job.specs.declared.Header.{Header}
 use Rattle.job.specs.declared.Hazard.{Hazard}
 use Rattle.job.specs.declared.NamedHazard.{NamedHazard}
 use Rattle.job.specs.declared.StoredJob.{StoredJob}
+use Rattle.job.specs.declared.read.Opening.{Opening}
 use Rattle.job.specs.Job.{named, unnamed, jobOf, headerSize, readHeader, headerOf}
+use Rattle.job.specs.Reply.{openingAnswer}
 use Rattle.job.specs.Writing.{writeJob}
 use Rattle.planning.specs.Envelope.{acceptJob}
 use Rattle.schedule.specs.Plan.{PlannedSide, plan}
@@ -41,6 +43,10 @@ openJob s =
     unless-refuse (eqb (headerOf (f .numbers) .count) 0) (Row.HeaderRange (headerSize (headerOf (f .numbers) .kind))) >>= λ _.
     acceptJob s >>= λ j.
     accepted (laidOut (j .header) [])
+
+-- What is read of the bytes, as the present state that it makes: its header, and no hazard.
+abbrev pub opensWith : Opening → Answer StoredJob
+opensWith r = openingAnswer r >>= λ h. accepted (laidOut h [])
 
 -- "Opening empties all eight."
 unfoldable pub openStates : (s : List ℕ) → Answer OpenStates

@@ -4,6 +4,7 @@ use Prim.Native.Nat.{ℕ, _+_, _*_}
 use mathlib.Core.Path.{_≡_}
 use mathlib.Core.Bool.{Bool, true, _&&_}
 use lib.Dec.{eqb}
+use lib.ListN.{replicate}
 use Rattle.base.specs.Choice.{if_then_else_}
 use Rattle.base.specs.Answer.{Answer, isAccepted, replied}
 use Rattle.job.specs.declared.Header.{Header}
@@ -11,7 +12,7 @@ use Rattle.job.specs.declared.NamedHazard.{NamedHazard}
 use Rattle.job.specs.declared.StoredJob.{StoredJob}
 use Rattle.open_job.specs.declared.KeptState.{KeptState}
 use Rattle.open_job.specs.declared.OpenStates.{OpenStates}
-use Rattle.open_job.specs.States.{nothingKept, keptSound, keptFrom, keptStates, statesFrom}
+use Rattle.open_job.specs.States.{mostKept, nothingKept, keptSound, keptFrom, keptStates, statesFrom}
 use Rattle.open_job.specs.Calls.{memoryAfter}
 
 -- A place, as it is compared with 0
@@ -29,10 +30,6 @@ alsoSound before h k = before && keptSound h k
 -- The new one where it is asked for and the numbers are equal, else the old one.
 unfoldable pub chosen : (asked : Bool) → (number own : ℕ) → (new old : KeptState) → KeptState
 chosen asked number own new old = if asked && eqb number own then new else old
-
--- What is kept after an opening.
-unfoldable pub emptied : (done : Bool) → KeptState → KeptState
-emptied done old = if done then nothingKept else old
 
 -- The whole memory, part by part
 
@@ -77,18 +74,6 @@ module _ (m : OpenStates) where
       let to6 : KeptState = chosen true number 6 (m .kept6) (chosen true number 5 (m .kept5) (chosen true number 4 (m .kept4) to3)) in
       chosen true number 7 (m .kept7) to6
 
-  -- The memory after an opening, whose kept states are emptied one after the other.
-  abbrev pub eachEmptied : (done : Bool) → StoredJob → OpenStates
-  eachEmptied done a =
-      let none : KeptState → KeptState = emptied done in
-      record {
-        present = a;
-        kept0 = none (m .kept0);
-        kept1 = none (m .kept1);
-        kept2 = none (m .kept2);
-        kept3 = none (m .kept3);
-        kept4 = none (m .kept4);
-        kept5 = none (m .kept5);
-        kept6 = none (m .kept6);
-        kept7 = none (m .kept7);
-      }
+  -- The memory after an opening: where it is done, this present state, and nothing kept; else as it was.
+  abbrev pub afterOpening : (done : Bool) → StoredJob → OpenStates
+  afterOpening done a = if done then statesFrom a (replicate mostKept nothingKept) else m

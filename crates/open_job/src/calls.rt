@@ -11,7 +11,6 @@ use job::read::Opening;
 use job::read::read_opening;
 use job::unnamed;
 use open_memory::GivenHazard;
-use open_memory::places::opened;
 use open_memory::places::place_of;
 use open_memory::places::put_in;
 use open_memory::places::stands_at;
@@ -35,12 +34,13 @@ ghost use Rattle.refusal.specs.Refusal.{outcome};
 ghost use Rattle.refusal.specs.declared.Outcome.the-variants.{Refused};
 ghost use Rattle.job.specs.Job.{jobOf};
 ghost use Rattle.job.specs.Given.{givenHazards};
+ghost use Rattle.job.specs.Reply.{readOpening, openingAnswer};
 ghost use Rattle.job.specs.Writing.{writeJob};
 ghost use Rattle.job.specs.Fits.{headerInRange, JobFits};
 ghost use Rattle.schedule.specs.Plan.{plan, planReply, bytesWritten, outputAfter};
 ghost use Rattle.withdrawal.specs.Reach.{reachReply};
 ghost use Rattle.open_memory.specs.Memory.{hazardGiven, admit, isOpenJob};
-ghost use Rattle.open_job.specs.Calls.{openJob, underRules, addTo, withdrawFrom, reachUnder, testState, keptJob, Changes};
+ghost use Rattle.open_job.specs.Calls.{openJob, opensWith, underRules, addTo, withdrawFrom, reachUnder, testState, keptJob, Changes};
 
 // A refusal, and the present state as it was.
 fn unchanged(job: StoredJob, refusal: Refusal) -> Change
@@ -52,17 +52,12 @@ fn unchanged(job: StoredJob, refusal: Refusal) -> Change
     }
 }
 
-// The header of job bytes that carry no hazard, and no hazard; whatever the memory held.
-pub fn open(job: StoredJob, bytes: &[u8]) -> Change
-    ensures { λ r. ⌜ Changes job (openJob (now (bytes .entry))) r ⌝ }
+// What opening reads of job bytes that carry no hazard: the header of the present state, in which none stands; whatever the memory held.
+pub fn open(bytes: &[u8]) -> Opening
+    ensures { λ r. ⌜ openingAnswer r ≡ readOpening (now (bytes .entry)) ⌝ }
+    ensures { λ r. ⌜ opensWith r ≡ openJob (now (bytes .entry)) ⌝ }
 {
-    match read_opening(bytes) {
-        Opening::Header(header) => Change {
-            outcome: Outcome::Done,
-            next: opened(header),
-        },
-        Opening::Refused(refusal) => unchanged(job, refusal),
-    }
+    read_opening(bytes)
 }
 
 // Refusals 4 and 5 of a hazard that is to stand under a name.

@@ -7,8 +7,8 @@ use job::UNUSED;
 use open_memory::places::with_count;
 use open_memory::rules::is_open_job;
 ghost use mathlib.Core.Path.{_≡_};
-ghost use Rattle.open_job.specs.States.{keptFrom, stateOf, isUsed, isNothingKept, keptSound};
-ghost use Rattle.open_job.specs.Parts.{alsoSound, chosen, emptied};
+ghost use Rattle.open_job.specs.States.{nothingKept, keptFrom, stateOf, isUsed, isNothingKept, keptSound};
+ghost use Rattle.open_job.specs.Parts.{alsoSound, chosen};
 
 // The open job, kept.
 pub fn kept_from(present: StoredJob) -> KeptState
@@ -84,17 +84,13 @@ pub fn choose(asked: bool, number: u64, own: u64, new: KeptState, old: KeptState
     if asked & (number == own) { new } else { old }
 }
 
-// What is kept after an opening.
-pub fn empty(done: bool, old: KeptState) -> KeptState
-    ensures { λ r. ⌜ r ≡ emptied done old ⌝ }
+// What an opening leaves under each number: all is 0.
+pub fn nothing_kept() -> KeptState
+    ensures { λ r. ⌜ r ≡ nothingKept ⌝ }
 {
-    if done {
-        KeptState {
-            used: 0,
-            count: 0,
-            hazards: [UNUSED; 256],
-        }
-    } else {
-        old
+    KeptState {
+        used: 0,
+        count: 0,
+        hazards: [UNUSED; 256],
     }
 }

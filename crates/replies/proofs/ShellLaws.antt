@@ -1,9 +1,9 @@
 -- What the shells make of the parts of the memory is what the calls on the whole memory say.
 -- Assumes nothing.
 use Prim.Native.Nat.{ℕ}
-use mathlib.Core.Path.{_≡_, refl, ap}
+use mathlib.Core.Path.{_≡_, refl, ap, _∙_}
 use mathlib.Core.Bool.{_&&_}
-use mathlib.Core.List.{List}
+use mathlib.Core.List.{List, []}
 use lib.ListN.{length}
 use Rattle.base.specs.Answer.{Answer, replied}
 use Rattle.job.specs.declared.Hazard.{Hazard}
@@ -11,22 +11,26 @@ use Rattle.job.specs.declared.StoredJob.{StoredJob}
 use Rattle.job.specs.Job.{jobOf}
 use Rattle.job.specs.Writing.{writeJob}
 use Rattle.schedule.specs.Plan.{plan, bytesWritten, outputAfter}
-use Rattle.open_memory.specs.Memory.{isOpenJob}
+use Rattle.open_memory.specs.Memory.{laidOut, isOpenJob}
 use Rattle.open_job.specs.declared.OpenStates.{OpenStates}
 use Rattle.open_job.specs.States.{keptStates, keptFrom, statesFrom, allSound, areOpenStates}
 use Rattle.open_job.specs.Calls.{memoryAfter, openStates, underRules, changedIn, addTo, addIn, withdrawFrom, withdrawIn, scheduleIn, reachUnder, reachIn}
 use Rattle.open_job.specs.Calls.{testState, keepIn, keptJob, returnIn}
-use Rattle.open_job.specs.Parts.{lookedFor, eachChosen, eachEmptied}
+use Rattle.open_job.specs.Parts.{lookedFor, eachChosen, afterOpening}
 use Rattle.open_job.proofs.WholeLaws.{change-whole, keep-whole, return-whole, open-whole}
 use Rattle.replies.specs.declared.open.Changed.{Changed}
+use Rattle.replies.specs.declared.open.Opening.{Opening}
 use Rattle.replies.specs.Interface.{replyOf, planReplyOf, reachReplyOf}
 use Rattle.replies.specs.OpenInterface.{changedBy, endedBy, openedBy}
+use Rattle.replies.proofs.OpenLaws.{opened-answer}
 
 module _ (m : OpenStates) where
-  pub open-shell : (s : List ℕ)
-      → (eachEmptied m (openedBy (m .present) s .done) (openedBy (m .present) s .next) ≡ memoryAfter (openStates s) m)
-      × (openedBy (m .present) s .reply ≡ replyOf (replied (openStates s)))
-  open-shell s = let w = open-whole m s in (w .0, ap replyOf (w .1))
+  pub open-shell : (s : List ℕ) (r : Opening) → r ≡ openedBy s
+      → (afterOpening m (r .done) (laidOut (r .header) []) ≡ memoryAfter (openStates s) m) × (r .reply ≡ replyOf (replied (openStates s)))
+  open-shell s r e =
+      let a = openedBy s in
+      let w = open-whole m s (a .done) (laidOut (a .header) []) (a .reply .number) (a .reply .value) (opened-answer s) in
+      rw e (w .0, ap replyOf (w .1))
 
   -- A call by value, where what is kept has been tested.
   abbrev pub tested : {A : Type 0} → Answer A → Answer A

@@ -3,7 +3,10 @@
 use Prim.Native.Nat.{ℕ}
 use mathlib.Core.List.{List}
 use Rattle.base.specs.Answer.{Answer, isAccepted, replied}
+use Rattle.base.specs.Stored.{acceptedOr}
+use Rattle.job.specs.declared.Header.{Header}
 use Rattle.job.specs.declared.StoredJob.{StoredJob}
+use Rattle.job.specs.Reply.{readOpening}
 use Rattle.open_job.specs.Calls.{memoryAfter, openJob}
 use Rattle.replies.specs.declared.open.Changed.{Changed}
 use Rattle.replies.specs.declared.open.Opening.{Opening}
@@ -18,6 +21,27 @@ changedBy a call = record { next = memoryAfter call a; reply = replyOf (replied 
 abbrev pub endedBy : Answer ℕ → Keeping
 endedBy a = record { reply = replyOf a; done = isAccepted a }
 
--- All three after an opening.
-abbrev pub openedBy : StoredJob → (s : List ℕ) → Opening
-openedBy a s = record { next = memoryAfter (openJob s) a; reply = replyOf (replied (openJob s)); done = isAccepted (replied (openJob s)) }
+-- The header that an opening read; zeros beside a refusal.
+abbrev pub noHeader : Header
+noHeader = record {
+  kind = 0;
+  begin = 0;
+  end = 0;
+  forward = 0;
+  opposite = 0;
+  zone = 0;
+  way = 0;
+  offset = 0;
+  deflection = 0;
+  along = 0;
+  across = 0;
+  straight = 0;
+  continuity = 0;
+  panel = 0;
+  count = 0;
+}
+
+-- An opening: that header, the reply, and whether it is done.
+abbrev pub openedBy : (s : List ℕ) → Opening
+openedBy s =
+    record { header = acceptedOr noHeader (readOpening s); reply = replyOf (replied (openJob s)); done = isAccepted (replied (openJob s)) }

@@ -5,6 +5,8 @@ use super::Reply;
 use super::ended;
 use super::plan_reply;
 use super::reach_reply;
+use super::refused;
+use job::Header;
 use job::StoredJob;
 use open_job::Change;
 use open_job::KeptState;
@@ -23,15 +25,34 @@ ghost use Rattle.open_job.specs.Calls.{underRules, addTo, withdrawFrom, reachUn
 ghost use Rattle.replies.specs.Interface.{replyOf, planReplyOf, reachReplyOf};
 ghost use Rattle.replies.specs.OpenInterface.{changedBy, endedBy, openedBy};
 
+// Beside a refusal.
+const NO_HEADER: Header = Header {
+    kind: 0,
+    begin: 0,
+    end: 0,
+    forward: 0,
+    opposite: 0,
+    zone: 0,
+    way: 0,
+    offset: 0,
+    deflection: 0,
+    along: 0,
+    across: 0,
+    straight: 0,
+    continuity: 0,
+    panel: 0,
+    count: 0,
+};
+
 // The present state after a call, and the reply.
 pub struct Changed {
     pub next: StoredJob,
     pub reply: Reply,
 }
 
-// The present state after an opening, the reply, and whether it was done: then nothing is kept any more.
+// The header of the present state after an opening, the reply, and whether it was done: then no hazard stands, and nothing is kept any more.
 pub struct Opening {
-    pub next: StoredJob,
+    pub header: Header,
     pub reply: Reply,
     pub done: bool,
 }
@@ -63,18 +84,23 @@ fn with_reply(change: Change) -> Changed
     Changed { next, reply }
 }
 
-pub fn opened(job: StoredJob, bytes: &[u8]) -> Opening
-    ensures { λ r. ⌜ r ≡ openedBy job (now (bytes .entry)) ⌝ }
+pub fn opened(bytes: &[u8]) -> Opening
+    ensures { λ r. ⌜ r ≡ openedBy (now (bytes .entry)) ⌝ }
 {
-    let change = open_job::calls::open(job, bytes);
-    let outcome = change.outcome;
-    let how = ending(outcome);
-    let next = change.next;
-    let reply = how.reply;
-    Opening {
-        next,
-        reply,
-        done: how.done,
+    match open_job::calls::open(bytes) {
+        job::read::Opening::Header(header) => Opening {
+            header,
+            reply: Reply {
+                number: 0,
+                value: 0,
+            },
+            done: true,
+        },
+        job::read::Opening::Refused(refusal) => Opening {
+            header: NO_HEADER,
+            reply: refused(refusal),
+            done: false,
+        },
     }
 }
 

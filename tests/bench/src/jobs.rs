@@ -170,15 +170,20 @@ pub fn open() -> Open {
     let job = job(Kind::Islands, Order::Shuffled, 256);
     let hazards = reference::job::read(&job).expect("an accepted job").hazards;
     let mut memory = Memory::new(&[0; BYTES]);
-    let header = Draft {
-        header: HEADER,
-        hazards: Vec::new(),
-    };
-    reference::open(&mut memory.job, &header.bytes()).expect("an accepted header");
+    reference::open(&mut memory.job, &header()).expect("an accepted header");
     for (name, hazard) in (0..=255).zip(&hazards) {
         reference::add(&mut memory.job, name, *hazard).expect("an accepted hazard");
     }
     Open { memory, hazards }
+}
+
+/// The job bytes that opening takes: no hazard is in them.
+pub fn header() -> Vec<u8> {
+    let draft = Draft {
+        header: HEADER,
+        hazards: Vec::new(),
+    };
+    draft.bytes()
 }
 
 /// A written schedule of 511 runs of one level. A plan has as many runs only

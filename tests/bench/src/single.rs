@@ -11,7 +11,7 @@ use reference::open::Name;
 
 use crate::jobs::{self, Kind, LAST, Order, ROAD_END};
 
-pub const NAMES: [&str; 32] = [
+pub const NAMES: [&str; 33] = [
     "sparse-shuffled",
     "sparse-shuffled-64",
     "sparse-shuffled-8",
@@ -33,6 +33,7 @@ pub const NAMES: [&str; 32] = [
     "quantities-64-half",
     "quantity-64-single-calls",
     "lookup-511-middle",
+    "open-opening",
     "open-add-255",
     "open-withdraw-256",
     "open-schedule-256",
@@ -104,6 +105,7 @@ impl Single {
             "quantities-64-half" => self.quantities(&schedule_511(), 1),
             "quantity-64-single-calls" => self.single_calls(&jobs::schedule_of_one_level(3), 3),
             "lookup-511-middle" => self.lookup(),
+            "open-opening" => self.opening(),
             "open-add-255" => self.add(jobs::open()),
             "open-withdraw-256" => self.withdraw(jobs::open()),
             "open-schedule-256" => self.schedule(),
@@ -247,6 +249,21 @@ impl Single {
 // Open jobs. A call that changes the memory is given a fresh copy each time.
 
 impl Single {
+    /// Over memory that holds 256 hazards and eight full states, the first time;
+    /// whatever the memory holds, opening writes all of it.
+    fn opening(&self) {
+        let mut memory = jobs::open_and_kept().memory;
+        let header = jobs::header();
+        for _ in 0..self.times {
+            let memory = black_box(&mut memory);
+            let header = black_box(&header);
+            black_box(match self.who {
+                Who::Engine => engine::open(memory, header),
+                Who::Reference => reply(reference::open(&mut memory.job, header)),
+            });
+        }
+    }
+
     /// The 256th hazard.
     fn add(&self, open: jobs::Open) {
         let jobs::Open {

@@ -1,54 +1,46 @@
--- `barrier_engine::open::barrier_open` meets its contract: a walk of its code. The present state and the bytes go through `opened`, what comes of it is stored,
--- and each kept state is emptied.
+-- `barrier_engine::open::barrier_open` meets its contract: a walk of its code. The bytes go through `opened`; what comes of it is stored where the opening is
+-- done, and its reply is given.
 -- All that the proof knows of the functions called is that they meet their contracts. Assumes nothing.
 use mathlib.Core.List.{_++_}
+use types.Run.{free1}
 use contract.Running.{tablesOf}
 use denote.Slice.{ShrSlice, shr-slice-tells, shr-slice-lawful, shr-slice-copy}
-use denote.Struct.Laws as LL
 use denote.Triple.Walked.{stay-none-slice, goes-none-slice}
-use Rattle.job.specs.declared.StoredJob.{StoredJob}
-use Rattle.open_job.specs.States.{keptStates, statesFrom}
+use Rattle.open_memory.specs.Memory.{laidOut}
+use Rattle.open_memory.proofs.places.opened.Symbol.{name as #laid}
 use Rattle.open_job.specs.Calls.{memoryAfter, openStates}
 use Rattle.base.specs.Answer.{replied}
 use Rattle.open_job.specs.declared.OpenStates.{OpenStates}
-use Rattle.open_job.specs.Parts.{eachEmptied}
-use Rattle.open_job.proofs.kept.empty.Symbol.{name as #empty}
+use Rattle.open_job.specs.Parts.{afterOpening}
+use Rattle.open_job.proofs.kept.nothing_kept.Symbol.{name as #nothing-kept}
 use Rattle.replies.specs.Interface.{replyOf}
 use Rattle.replies.specs.OpenInterface.{openedBy}
 use Rattle.replies.specs.declared.Reply.{Reply}
 use Rattle.replies.specs.declared.open.Opening.{Opening}
 use Rattle.replies.proofs.ShellLaws.{open-shell}
-use Rattle.replies.proofs.open.Opening as Opening·t
-use Rattle.replies.proofs.open.Opening.Laws as Opening·t′
 use Rattle.replies.proofs.open.opened as opened·f
 use Rattle.replies.proofs.open.opened.{Symbol.name as #opened, Symbol.routine as opened-routine, Met.met as opened-met}
-use Rattle.barrier_engine.proofs.Walks.{_≡_, refl, ap, _∙_, ℕ, List, [], _∷_, URA, named, Val, WT, hasTy, vptr, Holds, SProp, ent, emp, via, fst∗, snd∗}
+use Rattle.barrier_engine.proofs.Walks.{_≡_, refl, ℕ, List, [], _∷_, URA, named, Val, WT, hasTy, vptr, Holds, SProp, ent, emp, via, fst∗, snd∗}
 use Rattle.barrier_engine.proofs.Walks.{exE, id⊢, GName, Lft, Share, flft, Memory, Routine, Heap, Calls, Loops}
 use Rattle.barrier_engine.proofs.Walks.{WpFn, Tables, Atoms, sem, Fun, fact, givenOf, tables, Given, Item, ‵, ⋆, raw, some, later, _⊛_, _$_, _∵_, !, qed}
 use Rattle.barrier_engine.proofs.Walks.{by, move, keep, drop, use1, use2, split, join, pick, fsplit, fsplit3, fjoin, fjoin3}
-use Rattle.barrier_engine.proofs.Walks.{feqI, suffices, frame, await, done, look, init, stop, hop, fld, from, load, of-opd, and-then, no-more, assigns}
+use Rattle.barrier_engine.proofs.Walks.{feqI, suffices, frame, await, done, look, init, stop, fld, from, load, of-opd, and-then, no-more, assigns}
 use Rattle.barrier_engine.proofs.Walks.{land, returns, enter, alloc1, alloc0, params1, pass1, pass0, free0, all, sub, look-in}
-use Rattle.barrier_engine.proofs.Walks.{store-in, FmC, fmOf, WpFn-mono, owns, Is, shows, lone, u8, RefT, now, ptr, MutRef, ptr-vals, mut-tells, plain}
+use Rattle.barrier_engine.proofs.Walks.{FmC, fmOf, WpFn-mono, owns, Is, shows, lone, u8, RefT, now, ptr, MutRef, ptr-vals, mut-tells, plain}
 use Rattle.barrier_engine.proofs.Walks.{slice-vals, owned, facts, heard, nothing, onEntry, Meets, tripleOf, Contract}
 use Rattle.barrier_engine.proofs.Walks.{Triple, calls-at, ensured, lasts, entered, cited, says, Stays, stay-ref, walkOf, goes-ref, ends-at, walked}
 use Rattle.barrier_engine.proofs.Walks.{walk-meets, yes}
-use Rattle.barrier_engine.proofs.Data.{Data, Fits, struct, truth}
+use Rattle.barrier_engine.proofs.Data.{Fits, truth}
 use Rattle.barrier_engine.proofs.ByValue.{Gives, lands-as}
-use Rattle.barrier_engine.proofs.Steps.{var, copies, freed}
-use Rattle.barrier_engine.proofs.States.{stored, kept, memory, reply, Parts, parts, whole, with-now}
+use Rattle.barrier_engine.proofs.Steps.{var, freed}
+use Rattle.barrier_engine.proofs.States.{stored, kept, memory, reply, opening, opening-fits}
 use Rattle.barrier_engine.proofs.Borrow.{sliced, Token, takes, puts}
-use Rattle.barrier_engine.proofs.Emptied.{Emptied, emptying, emptying-known, each-emptied}
+use Rattle.barrier_engine.proofs.Opened.{Laid, laying, laying-known, emptying, emptying-known, stored-if}
 use Rattle.barrier_engine.proofs.Shell.{lent}
 use Rattle.barrier_engine.proofs.open.barrier_open.Key.{name as #f}
 use Rattle.barrier_engine.proofs.open.barrier_open as f
 use Rattle.barrier_engine.proofs.open.barrier_open.Statement as stated
 use Rattle.barrier_engine.proofs.open.barrier_open.Code as code
-
-abbrev opening : Data
-opening = struct Opening·t.the-type Opening·t′.the-laws Opening·t′.the-plain Opening·t′.the-copy
-
-opening-fits : (r : Opening) → Fits opening r → Fits stored (r .next) × Fits reply (r .reply) × Fits truth (r .done)
-opening-fits r fits = let p = LL.owed Opening·t.the-type Opening·t′.the-laws r _ fits in (p .0, p .1 .0, p .1 .1 .0)
 
 abbrev stayed : Stays (f.ended .signature .params) (f.ended .kept)
 stayed = (stay-ref (0 ∷ []) tt (plain (λ _. memory .row)), (stay-none-slice (1 ∷ []) tt (plain (λ _. u8)) yes, tt))
@@ -59,22 +51,21 @@ Bytes κ′ y = ‵ (ShrSlice (named 1) κ′ u8 .own y (sliced y ∷ []))
 
 -- `opened`: what it is given, and what it says
 module _ {M : Type 1} (𝓤 : URA M) (H : Heap 𝓤) (A : Atoms 𝓤) (at-mem : Memory → SProp 𝓤) (run : Routine → Fun 𝓤) where
-  abbrev Opens : Contract 𝓤
-  Opens = tripleOf 𝓤 H A opened·f.signature (opened·f.spec 𝓤 H A at-mem run)
+  abbrev Opened : Contract 𝓤
+  Opened = tripleOf 𝓤 H A opened·f.signature (opened·f.spec 𝓤 H A at-mem run)
 
-  module _ (κ′ : Lft) (q′ : Share) (a : StoredJob) (y : RefT (List ℕ)) where
-    abbrev given : Opens .Ghost
-    given = (((κ′, tt), (q′, tt), tt, (a, (y, tt)), (stored .val a ∷ [], (sliced y ∷ [], tt))), tt)
+  module _ (κ′ : Lft) (q′ : Share) (y : RefT (List ℕ)) where
+    abbrev given : Opened .Ghost
+    given = (((κ′, tt), (q′, tt), tt, (y, tt), (sliced y ∷ [], tt)), tt)
 
-    goes-in : Given 𝓤 H A → Fits stored a → ent 𝓤 (⋆ 𝓤 H A (Bytes κ′ y ∷ Token κ′ q′ ∷ [])) (Opens .pre given)
-    goes-in W fits = qed W (Bytes κ′ y ∷ Token κ′ q′ ∷ []) ∵ nothing ! $ move ! (1 ∷ 0 ∷ []) $ fjoin ! $
-        owned ! (stored .row) (Is (stored .row)) (stored .makes 𝓤 H A W) a _ fits $ fjoin ! $ move ! (1 ∷ 0 ∷ []) $ join ! $ frame ! $ done !
+    goes-in : Given 𝓤 H A → ent 𝓤 (⋆ 𝓤 H A (Bytes κ′ y ∷ Token κ′ q′ ∷ [])) (Opened .pre given)
+    goes-in W = qed W (Bytes κ′ y ∷ Token κ′ q′ ∷ []) ∵ nothing ! $ move ! (1 ∷ 0 ∷ []) $ fjoin ! $ move ! (1 ∷ 0 ∷ []) $ join ! $ frame ! $ done !
 
     abbrev Ensured : Opening → SProp 𝓤
-    Ensured r = ensured 𝓤 H A opened·f.ended (opened·f.clauses 𝓤 H A at-mem run) (κ′, tt) (a, (y, tt)) tt r
+    Ensured r = ensured 𝓤 H A opened·f.ended (opened·f.clauses 𝓤 H A at-mem run) (κ′, tt) (y, tt) tt r
 
-    ensures : (r : Opening) → ent 𝓤 (Ensured r) (fact 𝓤 (r ≡ openedBy a (now y)))
-    ensures r = exE 𝓤 _ (λ ws. snd∗ 𝓤 (sem 𝓤 H A (lasts opened·f.ended (κ′, tt) (a, (y, tt)) ws)) (fact 𝓤 (r ≡ openedBy a (now y))))
+    ensures : (r : Opening) → ent 𝓤 (Ensured r) (fact 𝓤 (r ≡ openedBy (now y)))
+    ensures r = exE 𝓤 _ (λ ws. snd∗ 𝓤 (sem 𝓤 H A (lasts opened·f.ended (κ′, tt) (y, tt) ws)) (fact 𝓤 (r ≡ openedBy (now y))))
 
 module _ {M : Type 1} (𝓤 : URA M) (H : Heap 𝓤) (A : Atoms 𝓤) (W : Given 𝓤 H A) (at-mem : Memory → SProp 𝓤) (run : Routine → Fun 𝓤) (κ κ′ : Lft) (q q′ : Share)
     (b o : ℕ) (γ : GName) (m : OpenStates) (y : RefT (List ℕ)) where
@@ -100,64 +91,54 @@ module _ {M : Type 1} (𝓤 : URA M) (H : Heap 𝓤) (A : Atoms 𝓤) (W : Given
       frame ! $ feqI ! (List Val) (vptr b o ∷ []) (vptr b o ∷ []) refl $ fjoin3 ! $ nothing ! $ move ! (2 ∷ 0 ∷ []) $ fjoin ! $ move ! (1 ∷ 0 ∷ []) $ fjoin ! $
       owned ! (reply .row) (Is (reply .row)) (reply .makes 𝓤 H A W) r _ fits $ move ! (1 ∷ 0 ∷ []) $ done !
 
-  module _ (C : Calls 𝓤 H) (Λ : Loops 𝓤 H) (fm : FmC 𝓤 H (W .laws) C) (known-opened : Triple 𝓤 (C #opened) (Opens 𝓤 H A at-mem run))
-      (known-emptied : Triple 𝓤 (C #empty) (Gives 𝓤 H A Emptied kept emptying)) where
+  module _ (C : Calls 𝓤 H) (Λ : Loops 𝓤 H) (fm : FmC 𝓤 H (W .laws) C) (known-opened : Triple 𝓤 (C #opened) (Opened 𝓤 H A at-mem run))
+      (known-laid : Triple 𝓤 (C #laid) (Gives 𝓤 H A Laid stored laying)) (known-none : Triple 𝓤 (C #nothing-kept) (Gives 𝓤 H A [] kept emptying)) where
     walk : Holds (hasTy (lone (ShrSlice (named 1) κ′ u8 .mir)) (sliced y)) × WT (sliced y)
         → ent 𝓤 (onEntry 𝓤 H A f.signature (κ, (κ′, tt)) (q, (q′, tt)) x at) (WpFn 𝓤 H C Λ code.function (vptr b o ∷ sliced y ∷ []) Post)
     walk typed =
         qed W ((‵ (flft κ q) ⊛ Token κ′ q′) ∷ ‵ (owns (MutRef (named 0) κ (memory .row) ∷ ShrSlice (named 1) κ′ u8 ∷ []) x at) ∷ []) ∵ split ! $
         move ! (2 ∷ []) $ fsplit ! $ fsplit3 ! $ drop ! $ move ! (0 ∷ 1 ∷ 3 ∷ []) $
         enter ! C Λ code.function (vptr b o ∷ sliced y ∷ []) _ $
-        alloc1 ! (λ l0. alloc1 ! (λ l1. alloc1 !
-        (λ l2. alloc1 ! (λ l3. alloc1 ! (λ l4. alloc1 !
-        (λ l5. alloc1 ! (λ l6. alloc1 ! (λ l7. alloc0 ! $ params1 ! $ pass1 ! (init ! 12 refl (tt, tt)) $ pass1 ! (init ! 10 refl typed) $ pass0 ! $
-        move ! (16 ∷ 17 ∷ 18 ∷ []) $ takes ! tt b o m (λ was.
-        let p : Parts m = parts m was in
-        -- [the memory; job, new, old, done, now, bytes, opening, the result; what the bytes own; their token; ..]
-        move ! (0 ∷ 16 ∷ 6 ∷ 4 ∷ 10 ∷ 8 ∷ 14 ∷ 12 ∷ 18 ∷ 20 ∷ 21 ∷ []) $
-        copies ! 0 refl refl refl refl (look ! 1 refl) refl (init ! 5 refl (stored .typed 𝓤 H A W (m .present) (p .present-fits))) $
+        alloc1 ! (λ l0. alloc1 ! (λ l1. alloc1 ! (λ l2. alloc1 ! (λ l3. alloc1 ! (λ l4. alloc1 ! (λ l5. alloc1 !
+        (λ l6. alloc0 ! $ params1 ! $ pass1 ! (init ! 10 refl (tt, tt)) $ pass1 ! (init ! 8 refl typed) $ pass0 ! $
+        move ! (14 ∷ 15 ∷ 16 ∷ []) $ takes ! tt b o m (λ was.
+        -- [the memory; job, none, new, done, bytes, opening, the result; what the bytes own; their token; ..]
+        move ! (0 ∷ 14 ∷ 8 ∷ 4 ∷ 6 ∷ 12 ∷ 10 ∷ 16 ∷ 18 ∷ 19 ∷ []) $
         -- replies::open::opened
-        move ! (9 ∷ []) $ fsplit ! $ use1 W (Bytes κ′ y ⊛ Bytes κ′ y) (shr-slice-copy 𝓤 H A W (named 1) κ′ u8 .twice y (sliced y ∷ [])) $ split ! $
-        move ! (0 ∷ 12 ∷ []) $ use2 W (raw (Opens 𝓤 H A at-mem run .pre (given 𝓤 H A at-mem run κ′ q′ (m .present) y)))
-        (goes-in 𝓤 H A at-mem run κ′ q′ (m .present) y W (p .present-fits)) $
-        calls-at ! fm (Opens 𝓤 H A at-mem run) known-opened (given 𝓤 H A at-mem run κ′ q′ (m .present) y)
-        (and-then ! (var ! 8 refl) (and-then ! (var ! 9 refl) (no-more !))) (λ w.
-        use1 W (later (some (λ (r : Opening). (Token κ′ q′ ⊛ ‵ (opening .row .own r (w ∷ []))) ⊛ raw (Ensured 𝓤 H A at-mem run κ′ q′ (m .present) y r))))
-        (id⊢ 𝓤 _) $ await ! tt $ pick ! (λ r.
-        split ! $ move ! (1 ∷ []) $ use1 W (raw (fact 𝓤 (r ≡ openedBy (m .present) (now y)))) (ensures 𝓤 H A at-mem run κ′ q′ (m .present) y r) $
-        heard ! (r ≡ openedBy (m .present) (now y)) (λ e.
+        move ! (8 ∷ []) $ fsplit ! $ use1 W (Bytes κ′ y ⊛ Bytes κ′ y) (shr-slice-copy 𝓤 H A W (named 1) κ′ u8 .twice y (sliced y ∷ [])) $ split ! $
+        move ! (0 ∷ 11 ∷ []) $ use2 W (raw (Opened 𝓤 H A at-mem run .pre (given 𝓤 H A at-mem run κ′ q′ y))) (goes-in 𝓤 H A at-mem run κ′ q′ y W) $
+        calls-at ! fm (Opened 𝓤 H A at-mem run) known-opened (given 𝓤 H A at-mem run κ′ q′ y) (and-then ! (var ! 8 refl) (no-more !)) (λ w.
+        use1 W (later (some (λ (r : Opening). (Token κ′ q′ ⊛ ‵ (opening .row .own r (w ∷ []))) ⊛ raw (Ensured 𝓤 H A at-mem run κ′ q′ y r)))) (id⊢ 𝓤 _) $
+        await ! tt $ pick ! (λ r.
+        split ! $ move ! (1 ∷ []) $ use1 W (raw (fact 𝓤 (r ≡ openedBy (now y)))) (ensures 𝓤 H A at-mem run κ′ q′ y r) $ heard ! (r ≡ openedBy (now y)) (λ e.
         split ! $ move ! (1 ∷ []) $ facts ! (opening .row) (Is (opening .row)) (shows 𝓤 H A (opening .row)) r (w ∷ []) (λ is. lands-as ! opening r w is (λ i.
-        let d : OpenStates = eachEmptied m (r .done) (r .next) in
+        let d : OpenStates = afterOpening m (r .done) (laidOut (r .header) []) in
         let g = opening-fits r i in
-        land ! (from ! (stop !)) (init ! 10 refl (opening .typed 𝓤 H A W r i)) $
-        -- [the memory; job, new, old, done, opening, the result; the token and what the bytes own; ..]
-        move ! (3 ∷ 4 ∷ 5 ∷ 6 ∷ 7 ∷ 10 ∷ 11 ∷ []) $
-        assigns ! (of-opd ! (load ! (from ! (fld ! refl (stop !))) (look-in ! 5 (sub ! 0 refl (all !))))) (from ! (hop ! (look ! 1 refl) (fld ! refl (stop !))))
-        (store-in ! 0 (sub ! 0 refl (all !)) (stored .typed 𝓤 H A W (r .next) (g .0))) $
+        land ! (from ! (stop !)) (init ! 9 refl (opening .typed 𝓤 H A W r i)) $
+        -- [the memory; job, none, new, done, opening, the result; the token and what the bytes own; ..]
+        move ! (3 ∷ 4 ∷ 5 ∷ 6 ∷ 7 ∷ 9 ∷ 10 ∷ []) $
         assigns ! (of-opd ! (load ! (from ! (fld ! refl (stop !))) (look-in ! 5 (sub ! 2 refl (all !))))) (from ! (stop !))
         (init ! 4 refl (truth .typed 𝓤 H A W (r .done) (g .2))) $
-        each-emptied ! fm known-emptied 1 4 7 6 refl refl refl refl (r .done) (statesFrom (r .next) (keptStates m)) (with-now m (r .next) p (g .0)) (λ p′.
+        stored-if ! fm known-laid known-none 1 3 4 5 6 refl refl refl refl refl m r was i (r .done) (λ fits.
         assigns ! (of-opd ! (load ! (from ! (fld ! refl (stop !))) (look-in ! 5 (sub ! 1 refl (all !))))) (from ! (stop !))
         (init ! 6 refl (reply .typed 𝓤 H A W (r .reply) (g .1))) $
-        move ! (0 ∷ 12 ∷ 13 ∷ 14 ∷ []) $ puts ! tt b o d (whole d p′) $
+        move ! (0 ∷ 11 ∷ 12 ∷ 13 ∷ []) $ puts ! tt b o d fits $
         -- [the reference; the locals, with the token and what the bytes own; what frees each]
-        returns ! (look ! 8 refl) $ move ! (8 ∷ 21 ∷ 3 ∷ 20 ∷ 13 ∷ 19 ∷ 7 ∷ 18 ∷ 6 ∷ 17 ∷ 12 ∷ 16 ∷ 4 ∷ 15 ∷ 5 ∷ 14 ∷ []) $
-        freed ! $ freed ! $ freed ! $ freed ! $ freed ! $ freed ! $ freed ! $ freed ! $ free0 ! $ keep ! (0 ∷ 1 ∷ 2 ∷ 3 ∷ 4 ∷ []) $
-        by ! (exits d (r .reply) (
-          ap (λ (z : Opening). eachEmptied m (z .done) (z .next)) e ∙ open-shell m (now y) .0,
-          ap (λ (z : Opening). z .reply) e ∙ open-shell m (now y) .1,
-        ) (g .1)))))))))))))))))
+        returns ! (look ! 8 refl) $ move ! (8 ∷ 19 ∷ 3 ∷ 18 ∷ 12 ∷ 17 ∷ 7 ∷ 16 ∷ 4 ∷ 15 ∷ 6 ∷ 14 ∷ 5 ∷ 13 ∷ []) $
+        freed ! $ freed ! $ freed ! $ freed ! $ free1 ! $ freed ! $ free1 ! $ free0 ! $ keep ! (0 ∷ 1 ∷ 2 ∷ 3 ∷ 4 ∷ []) $
+        by ! (exits d (r .reply) (open-shell m (now y) r e) (g .1))))))))))))))))
 
 f-meets : {M : Type 1} (𝓤 : URA M) (H : Heap 𝓤) (A : Atoms 𝓤) (W : Given 𝓤 H A) (at-mem : Memory → SProp 𝓤) (run : Routine → Fun 𝓤) (𝓣 : Tables 𝓤 H)
-    → Triple 𝓤 (𝓣 .C #opened) (Opens 𝓤 H A at-mem run) → Triple 𝓤 (𝓣 .C #empty) (Gives 𝓤 H A Emptied kept emptying)
+    → Triple 𝓤 (𝓣 .C #opened) (Opened 𝓤 H A at-mem run) → Triple 𝓤 (𝓣 .C #laid) (Gives 𝓤 H A Laid stored laying)
+    → Triple 𝓤 (𝓣 .C #nothing-kept) (Gives 𝓤 H A [] kept emptying)
     → Meets 𝓤 H A f.signature (WpFn 𝓤 H (𝓣 .C) (𝓣 .Λ) code.function) (f.spec 𝓤 H A at-mem run)
-f-meets 𝓤 H A W at-mem run 𝓣 known-opened known-emptied =
+f-meets 𝓤 H A W at-mem run 𝓣 known-opened known-laid known-none =
     walk-meets 𝓤 H A f.ended stayed W (goes-ref 𝓤 H A W 2 0 tt (plain (λ _. memory .row)), (goes-none-slice 𝓤 H A W 2 (1 ∷ []) tt (plain (λ _. u8)) yes, tt))
     (f.clauses 𝓤 H A at-mem run) (WpFn 𝓤 H (𝓣 .C) (𝓣 .Λ) code.function) (WpFn-mono 𝓤 H (W .laws) 𝓣 code.function)
     (walked 𝓤 H A f.ended stayed (f.clauses 𝓤 H A at-mem run) (WpFn 𝓤 H (𝓣 .C) (𝓣 .Λ) code.function) (λ κs. (ptr-vals, (slice-vals, tt)))
     (λ κs. (mut-tells (named 0) (κs .0) (memory .row), (shr-slice-tells (named 1) (κs .1 .0) u8, tt))) (λ κs qs bounds a g are.
     via 𝓤 _ (fst∗ 𝓤 _ (emp 𝓤)) (walk 𝓤 H A W at-mem run (κs .0) (κs .1 .0) (qs .0) (qs .1 .0) (a .0 .ptr .0) (a .0 .ptr .1) (a .0 .name) (a .0 .now) (a .1 .0)
-    (𝓣 .C) (𝓣 .Λ) (fmOf 𝓤 H (W .laws) 𝓣) known-opened known-emptied
+    (𝓣 .C) (𝓣 .Λ) (fmOf 𝓤 H (W .laws) 𝓣) known-opened known-laid known-none
     (shr-slice-lawful 𝓤 H A W (named 1) (κs .1 .0) u8 .typed (a .1 .0) _ (are .1 .0) .0))))
 
 pub barrier-open-spec : {M : Type 1} → stated.statement M
@@ -166,5 +147,6 @@ barrier-open-spec 𝓤 H 𝓜 𝓖 𝓡 =
     entered 𝓤 H (tripleOf 𝓤 H (𝓖 .A) f.signature (f.spec 𝓤 H (𝓖 .A) (𝓜 .mem) (𝓡 .run)))
     (tables 𝓤 H 𝓜 𝓡 code.env .C) (tables 𝓤 H 𝓜 𝓡 code.env .Λ) #f code.function (code.unfolded 𝓤 H 𝓜 𝓡)
     (f-meets 𝓤 H (𝓖 .A) (givenOf 𝓤 H 𝓜 𝓖) (𝓜 .mem) (𝓡 .run) (tablesOf 𝓤 H 𝓜 (tables 𝓤 H 𝓜 𝓡 code.env))
-    (cited 𝓤 H (Opens 𝓤 H (𝓖 .A) (𝓜 .mem) (𝓡 .run)) 𝓜 𝓡 code.env #opened opened-routine code.calls-replies·open·opened (opened-met 𝓤 H 𝓜 𝓖 𝓡))
-    (emptying-known 𝓤 H 𝓜 𝓖 𝓡 code.env code.calls-open-job·kept·empty))
+    (cited 𝓤 H (Opened 𝓤 H (𝓖 .A) (𝓜 .mem) (𝓡 .run)) 𝓜 𝓡 code.env #opened opened-routine code.calls-replies·open·opened (opened-met 𝓤 H 𝓜 𝓖 𝓡))
+    (laying-known 𝓤 H 𝓜 𝓖 𝓡 code.env code.calls-open-memory·places·opened)
+    (emptying-known 𝓤 H 𝓜 𝓖 𝓡 code.env code.calls-open-job·kept·nothing-kept))
