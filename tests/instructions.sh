@@ -9,18 +9,18 @@ BARRIER_LIB_DIR=${BARRIER_LIB_DIR:-$(cd .. && pwd)/target/staticlib} cargo build
 tmp=$(mktemp -d)
 trap 'rm -rf "$tmp"' EXIT
 
-# A run that fails or prints no count ends the script: a blank would look like a figure.
-counted() { # CASE TIMES WHO
-    GLIBC_TUNABLES=glibc.cpu.x86_rep_stosb_threshold=1000000000 valgrind --tool=callgrind --callgrind-out-file=/dev/null \
+# A run that fails, or counts nothing, ends the script: a blank would look like a figure.
+counted() { # CASE TIMES WHO [FUNCTION, for what is inside it alone]
+    GLIBC_TUNABLES=glibc.cpu.x86_rep_stosb_threshold=1000000000 valgrind --tool=callgrind --callgrind-out-file=/dev/null ${4:+"--toggle-collect=$4"} \
         target/release/bench --case "$1" --times "$2" --who "$3" >"$tmp/said" 2>&1 || { cat "$tmp/said" >&2; exit 1; }
     count=$(sed -n 's/.*Collected : \([0-9][0-9]*\).*/\1/p' "$tmp/said")
-    [ -n "$count" ] || { echo "instructions: callgrind gives no count for $1" >&2; exit 1; }
+    [ "${count:-0}" -gt 0 ] || { echo "instructions: callgrind gives no count for $1" >&2; exit 1; }
 }
 
-one_call() { # CASE WHO
-    counted "$1" 11 "$2"
+one_call() { # CASE WHO [FUNCTION]
+    counted "$1" 11 "$2" "${3:-}"
     eleven=$count
-    counted "$1" 1 "$2"
+    counted "$1" 1 "$2" "${3:-}"
     one_call=$(((eleven - count) / 10))
 }
 
@@ -31,4 +31,11 @@ for case in sparse-shuffled sparse-shuffled-64 sparse-shuffled-8 sparse-shuffled
     engine=$one_call
     one_call "$case" reference
     echo "| $case | $engine | $one_call |"
+    # A call that changes the memory is given a fresh copy each time, which counts in its row; here it does not.
+    case $case in open-add-* | open-withdraw-*)
+        changing=${case#open-}
+        one_call "$case" engine "barrier_${changing%%-*}"
+        echo "| $case, inside the call | $one_call | |"
+        ;;
+    esac
 done
