@@ -2,8 +2,7 @@
 -- Assumes nothing.
 use Prim.Native.Nat.{ℕ, suc, _+_, _≤_, _<_}
 use native.Mathlib.Numerals.{add-one}
-use native.Mathlib.Omega.{arith}
-use mathlib.Core.Path.{_≡_, refl, sym, ap, subst, _∙_}
+use mathlib.Core.Path.{_≡_, refl, sym, subst, _∙_}
 use mathlib.Core.Bool.{true}
 use mathlib.Core.List.{List, [], _∷_, _++_}
 use lib.ListN.{length, take, set}
@@ -14,10 +13,9 @@ use Rattle.refusal.specs.Refusal.{unless-refuse, refusal}
 use Rattle.refusal.specs.declared.Refusal.{Refusal}
 use Rattle.base.proofs.AnswerLaws.{bound, bind-assoc}
 use Rattle.refusal.proofs.RefuseLaws.{tested}
-use Rattle.number.specs.Number.{Reading, readNumber, readingOf, numberAt}
+use Rattle.number.specs.Number.{Reading, readNumber, numberAt}
 use Rattle.number.specs.declared.Read.{Read}
 use Rattle.number.specs.declared.Read.the-variants as Read
-use Rattle.number.proofs.ReadLaws.{read-bounds}
 use Rattle.job.specs.declared.field.Reading.{Reading as Numbered}
 use Rattle.job.specs.declared.field.Field.{Field}
 use Rattle.job.specs.declared.field.Field.the-variants as Field
@@ -49,30 +47,6 @@ pub field-within : (range : Bounds) (outside : Refusal) (s : List ℕ) (at : ℕ
     → fieldAnswer f ≡ fieldAt range outside s at → f ≡ Field.Number n → within range (n .value) ≡ true
 unfolding fieldAt
 field-within range outside s at f n read e = within-tested range outside (numberAt s at) (record { value = n .value; next = n .next }) (sym read ∙ rw e)
-
--- It takes six bytes at most.
-taken-tested : (range : Bounds) (outside : Refusal) (m : Answer Reading) (x : Reading)
-    → m >>= (λ y. unless-refuse (within range (y .value)) outside >>= λ _. accepted y) ≡ accepted x → m ≡ accepted x
-taken-tested range outside (accepted y) x e =
-    let b = bound (unless-refuse (within range (y .value)) outside) (λ _. accepted y) x e in
-    let same : y ≡ x = cc in
-    ap accepted same
-taken-tested range outside (refused a b) x e = impossible cc
-
-abbrev nextOf : Answer Reading → ℕ
-nextOf (accepted x) = x .next
-nextOf (refused a b) = 0
-
-pub field-near : (range : Bounds) (outside : Refusal) (s : List ℕ) (at : ℕ) (f : Field) (n : Numbered)
-    → fieldAnswer f ≡ fieldAt range outside s at → f ≡ Field.Number n → n .next ≤ at + 6
-unfolding fieldAt numberAt
-field-near range outside s at f n read e =
-    go (readNumber s at) refl (taken-tested range outside (numberAt s at) (record { value = n .value; next = n .next }) (sym read ∙ rw e))
-  where
-    go : (r : Read) → readNumber s at ≡ r → readingOf at r ≡ accepted (record { value = n .value; next = n .next }) → n .next ≤ at + 6
-    go (Read.Number v m) p q = let same : m ≡ n .next = ap nextOf q in omega (arith, read-bounds s at v m p .near)
-    go Read.Ended p q = impossible cc
-    go Read.Malformed p q = impossible cc
 
 -- k numbers more behind the next one, which stands there in its range.
 pub fields-next : (rangeOf : List ℕ → Bounds) (outside : List ℕ → Refusal) (k : ℕ) (got s : List ℕ) (at v n : ℕ) → readNumber s at ≡ Read.Number v n

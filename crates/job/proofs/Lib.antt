@@ -9,3 +9,4 @@ pub mod WritingLaws
 pub mod StandLaws
 pub mod RowLaws
 pub mod OpeningLaws
+pub mod UsualLaws

@@ -4,7 +4,7 @@ use Prim.Native.Nat.{ℕ, zero, suc, _+_, _-_, _≤_, _<_, min}
 use native.Mathlib.Omega.{arith}
 use native.Mathlib.Decide.{decLt}
 use mathlib.Core.Path.{_≡_, refl, sym, ap, _∙_}
-use mathlib.Core.Bool.{Bool, true, false, _&&_, _||_, and-assoc}
+use mathlib.Core.Bool.{Bool, true, false, _&&_, _||_, and-assoc, false≢true}
 use mathlib.Core.List.{List, [], _∷_, _++_, append-assoc, append-nil}
 use lib.ListN.{length, getD, take, drop}
 use lib.Dec.{leb, ltb, eqb}
@@ -43,6 +43,16 @@ to-last a b some = go (decLt a b)
     go : Dec (a < b) → leb a (b - 1) ≡ leb (a + 1) b
     go (yes l) = le-leb a (b - 1) (omega arith) ∙ sym (le-leb (a + 1) b (omega arith))
     go (no l) = lt-leb a (b - 1) (omega arith) ∙ sym (lt-leb (a + 1) b (omega arith))
+
+-- What starts before an end that is not above b starts before b.
+pub before-end : (a e b : ℕ) (others : Bool) → (leb (a + 1) b && (leb (a + 1) e && (leb e b && others))) ≡ (leb (a + 1) e && (leb e b && others))
+before-end a e b others = spared (leb (a + 1) b) (leb (a + 1) e) (leb e b) (λ p q. le-leb (a + 1) b (omega (arith, leb-true (a + 1) e p, leb-true e b q)))
+  where
+    spared : (p q r : Bool) → (q ≡ true → r ≡ true → p ≡ true) → (p && (q && (r && others))) ≡ (q && (r && others))
+    spared true q r h = refl
+    spared false false r h = refl
+    spared false true false h = refl
+    spared false true true h = absurd (false≢true (h refl refl))
 
 -- Numbers
 

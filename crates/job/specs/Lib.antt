@@ -4,3 +4,4 @@ pub mod Reply
 pub mod Writing
 pub mod Fits
 pub mod Rows
+pub mod Usual

@@ -39,7 +39,6 @@ pub fn in_range(header: Header, z: Hazard) -> bool
 {
     (z.side <= 1)
         & (header.begin <= z.start)
-        & (z.start < header.end)
         & (z.start < z.end)
         & (z.end <= header.end)
         & (z.near <= 60000)

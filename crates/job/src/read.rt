@@ -6,10 +6,10 @@ use super::hazard_fields::read_hazard;
 use super::header_fields::HeaderRead;
 use super::header_fields::header_size;
 use super::header_fields::read_header;
-use super::within::read_hazard_within;
+use super::within::read_usual;
 use refusal::Refusal;
 ghost use mathlib.Core.Path.{_≡_};
-ghost use Prim.Native.Nat.{_-_, _*_, _<_};
+ghost use Prim.Native.Nat.{_*_, _<_};
 ghost use lib.ListN.{length};
 ghost use Rattle.job.specs.Given.{unpacked, givenHazards};
 ghost use Rattle.job.specs.Reply.{nextHazard, hazardAnswer, readOpening, openingAnswer};
@@ -19,13 +19,6 @@ pub enum Opening {
     // The header of job bytes that carry no hazard.
     Header(Header),
     Refused(Refusal),
-}
-
-// How many indices have 36 bytes from them on: no hazard takes more.
-fn sure_indices(bytes: usize) -> usize
-    ensures { λ r. ⌜ r ≡ bytes - 35 ⌝ }
-{
-    if bytes < 35 { 0 } else { bytes - 35 }
 }
 
 // The hazard of three numbers: its stations, and the others in one.
@@ -50,8 +43,11 @@ pub fn next_hazard(s: &[u8], at: usize, header: Header, given: &[u64], index: us
     requires { ⌜ (0 < length (now given) → length (now s) ≡ 0) ⌝ }
     ensures { λ r. ⌜ hazardAnswer r ≡ nextHazard header (givenHazards (now (given .entry))) index (now (s .entry)) at ⌝ }
 {
-    if at < sure_indices(s.len()) {
-        return read_hazard_within(s, at, header, index);
+    let usual = read_usual(s, at, header);
+    let next = usual.next;
+    if 0 < next {
+        let hazard = usual.hazard;
+        return HazardRead::Hazard { hazard, next };
     }
     let first = index * 3;
     if first < given.len() {

@@ -1,6 +1,5 @@
 // The number form of document 01 (LEB128): reading a number, counting its groups, writing it into lent memory.
 pub mod word; // numbers of a usual length
-pub mod within; // reading where the bytes are known to go on
 
 ghost use mathlib.Core.Path.{_≡_};
 ghost use Prim.Native.Nat.{_+_, _≤_};

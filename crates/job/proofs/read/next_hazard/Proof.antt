@@ -21,17 +21,17 @@ none n m bytes whole alone some = go (decLt 0 n)
     go (yes l) = absurd (let e = alone l in omega arith)
     go (no l) = omega arith
 
-returns : tie.Need-returns
-returns c =
+found : tie.Need-returns
+found c =
     let start = c .before .before .before .before .before in
     let a = start .args in
-    let sure = c .before .before .sure-indices in
+    let usual = c .before .before .read-usual .ensures (c .before .if1 .taken) in
     let few : length (givenHazards (a .given .now)) ≤ a .index =
-    let e = none _ _ _ (start .pre .1 .1 .0) (start .pre .1 .1 .1) (omega (arith, c .before .if1 .taken, sure .ensures)) in omega arith in
-    c .read-hazard-within .ensures ∙ sym (next-read (a .header) (givenHazards (a .given .now)) (a .index) (a .s .now) (a .at) few)
+    let e = none _ _ _ (start .pre .1 .1 .0) (start .pre .1 .1 .1) (omega (arith, usual .0)) in omega arith in
+    usual .1 (a .index) ∙ sym (next-read (a .header) (givenHazards (a .given .now)) (a .index) (a .s .now) (a .at) few)
 
-returns-2 : tie.Need-returns-2
-returns-2 c =
+given : tie.Need-returns-2
+given c =
     let start = c .before .before .before .before .before .before .before .before .before in
     let a = start .args in
     let there : a .index < length (givenHazards (a .given .now)) = omega (arith, start .pre .1 .1 .0, c .before .before .before .before .if2 .taken) in
@@ -39,8 +39,8 @@ returns-2 c =
     (c .unpacked .ensures ∙ sym (given-at (a .given .now) (a .index) (a .index * 3) refl there))
     ∙ sym (next-given (a .header) (givenHazards (a .given .now)) (a .index) (a .s .now) (a .at) there)
 
-returns-3 : tie.Need-returns-3
-returns-3 c =
+other : tie.Need-returns-3
+other c =
     let start = c .before .before .before .before .before .before in
     let a = start .args in
     c .read-hazard .ensures ∙ sym (next-read (a .header) (givenHazards (a .given .now)) (a .index) (a .s .now) (a .at)
@@ -49,6 +49,6 @@ returns-3 c =
 pub next-hazard-spec : {M : Type 1} → statement M
 next-hazard-spec =
     tie.close
-    (tie.spec (λ c κs. search needs) (λ c κs. search needs) returns (λ c. search needs) (λ c. search needs) (λ c. search needs) (λ c. search needs)
+    (tie.spec (λ c κs. search needs) found (λ c. search needs) (λ c. search needs) (λ c. search needs) (λ c. search needs)
     (λ c. search needs)
-    (λ c. search needs) (λ c. search needs) (λ c. search needs) (λ c. search needs) (λ c κs. search needs) returns-2 (λ c κs. search needs) returns-3)
+    (λ c. search needs) (λ c. search needs) (λ c. search needs) (λ c. search needs) (λ c κs. search needs) given (λ c κs. search needs) other)
