@@ -2,11 +2,11 @@
 -- Assumes nothing.
 use Prim.Native.Nat.{ℕ}
 use native.Mathlib.Omega.{arith}
-use mathlib.Core.Path.{_≡_, refl, sym, subst, _∙_}
+use mathlib.Core.Path.{_≡_, refl, sym, subst, ap, _∙_}
 use mathlib.Core.Logic.{_⊎_, inl, inr}
 use mathlib.Core.Bool.{Bool, true, false, _&&_, _||_, not, false≢true}
 use borrow.Author.Tests.{not-true}
-use mathlib.Core.List.{List, [], _∷_, List·Memᴰ, List·Memᴰ·head, List·Memᴰ·tail, List·Memᴰ·cases-cons, List·Memᴰ·not-nil}
+use mathlib.Core.List.{List, [], _∷_, _++_, List·Memᴰ, List·Memᴰ·head, List·Memᴰ·tail, List·Memᴰ·cases-cons, List·Memᴰ·not-nil}
 use Rattle.base.specs.Choice.{if_then_else_, someOf, filter, Passing}
 
 -- Facts that contradict each other, of whatever data: `cc` finds 0 ≡ 1 in them.
@@ -100,3 +100,13 @@ module _ {A : Type 0} where
       go : (b : Bool) → List·Memᴰ x (filter p ys) → List·Memᴰ x (if b then y ∷ filter p ys else filter p ys)
       go true k = List·Memᴰ·tail k
       go false k = k
+
+  pub filter-append : (p : A → Bool) (l m : List A) → filter p (l ++ m) ≡ filter p l ++ filter p m
+  unfolding filter
+  filter-append p [] m = refl
+  filter-append p (x ∷ l) m = go (p x) (filter-append p l m)
+    where
+      go : (b : Bool) → filter p (l ++ m) ≡ filter p l ++ filter p m
+          → (if b then x ∷ filter p (l ++ m) else filter p (l ++ m)) ≡ (if b then x ∷ filter p l else filter p l) ++ filter p m
+      go true e = ap (λ (r : List A). x ∷ r) e
+      go false e = e

@@ -37,6 +37,8 @@ use Rattle.planning.specs.Envelope.{sideOverhangs, standsNear, testHazard, test
 use Rattle.planning.specs.Required.{jobRuns}
 use Rattle.planning.specs.Reply.{Cuts, cutsOf, testedEnvelopes}
 use Rattle.planning.specs.declared.walk.Walked.{Walked}
+use Rattle.planning.specs.declared.window.Window.the-variants.{All}
+use Rattle.planning.specs.Window.{standingIn}
 use Rattle.planning.specs.Walk.{GivenFits, cutsTaken, walkedAnswer}
 use Rattle.planning.specs.Rows.{AcceptedFits}
 use Rattle.planning.proofs.AcceptedSideLaws.{job-sound}
@@ -174,16 +176,16 @@ module _ (m : StoredJob) (fits : AcceptedFits (jobOf m)) (ns : List ℕ) (are : 
   }
 
   -- They are the job's own, and pass the test again.
-  walk-passes : (side : ℕ) → (hazardsFrom (m .header) (givenHazards ns) (m .header .count) [] [] 0 >>= λ j. testedEnvelopes j side)
+  walk-passes : (side : ℕ) → (hazardsFrom (m .header) (givenHazards ns) (m .header .count) [] [] 0 >>= λ j. testedEnvelopes j side All)
       ≡ accepted (cutsOf (m .header) side (jobOf m .hazards))
-  unfolding testedEnvelopes testHazards
+  unfolding testedEnvelopes testHazards standingIn
   walk-passes side =
       rw (ap (λ (n : ℕ). hazardsFrom (m .header) (givenHazards ns) n [] [] 0) count-same ∙ given-all (m .header) (givenHazards ns), are)
       (rw (← append-nil (jobOf m .hazards), hazards-pass (m .header) 0 (jobOf m .hazards) [] (fits .passed)))
 
   -- By what `walk` answers.
   module _ (side : ℕ) (keys ends : List ℕ) (r : Walked)
-      (reply : walkedAnswer keys ends r ≡ (hazardsFrom (m .header) (givenHazards ns) (m .header .count) [] [] 0 >>= λ j. testedEnvelopes j side)) where
+      (reply : walkedAnswer keys ends r ≡ (hazardsFrom (m .header) (givenHazards ns) (m .header .count) [] [] 0 >>= λ j. testedEnvelopes j side All)) where
     own : cutsOf (m .header) side (jobOf m .hazards) ≡ cutsTaken keys ends (r .taken)
     own = go (r .outcome) (reply ∙ walk-passes side)
       where

@@ -20,6 +20,7 @@ use open_memory::rules::hazard_in_range;
 use open_memory::rules::is_open_job;
 use planning::near::stands_near;
 use planning::walk::walk;
+use planning::window::Window;
 use refusal::Outcome;
 use refusal::Refusal;
 use schedule::plan::plan_side;
@@ -193,6 +194,7 @@ pub fn schedule(sound: bool, job: StoredJob, side: u64, out: &mut [u8]) -> Plan
                 header,
                 &given[..used],
                 side,
+                Window::All,
                 256,
                 &mut keys[..],
                 &mut ends[..],

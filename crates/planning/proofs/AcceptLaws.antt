@@ -26,10 +26,12 @@ use Rattle.job.specs.Fits.{HeaderFits, HazardFits}
 use Rattle.job.proofs.RestLaws.{job-from}
 use Rattle.planning.specs.Envelope.{testHazards, acceptJob}
 use Rattle.planning.specs.Approached.{hazardAt}
+use Rattle.planning.specs.declared.window.Window.{Window}
+use Rattle.planning.specs.Window.{standingIn}
 use Rattle.planning.specs.Reply.{Cuts, cutsOf, testedEnvelopes}
 use Rattle.planning.specs.Rows.{Passed, AcceptedFits}
 use Rattle.planning.specs.Walk.{GivenFits}
-use Rattle.planning.specs.Accept.{AcceptedSide, sideOf, AcceptedHazard, indexedHazard}
+use Rattle.planning.specs.Accept.{AcceptedSide, sideWithin, AcceptedHazard, indexedHazard}
 use Rattle.planning.proofs.EnvelopeLaws.{accepted-fits}
 
 -- No hazard is given beside bytes.
@@ -62,27 +64,27 @@ module _ (s : List ℕ) {x : HeaderReading} (read : headerAt s ≡ accepted x) w
   unfolding acceptJob
   accept-from = rw (job-from s, read)
 
-  pub side-from : (side : ℕ) → sideOf s side ≡ ((behind >>= λ j. testedEnvelopes j side) >>= with-limit (x .header .continuity))
-  unfolding sideOf testedEnvelopes
-  side-from side = rw accept-from (go behind refl)
+  pub side-from : (side : ℕ) (w : Window) → sideWithin s side w ≡ ((behind >>= λ j. testedEnvelopes j side w) >>= with-limit (x .header .continuity))
+  unfolding sideWithin testedEnvelopes
+  side-from side w = rw accept-from (go behind refl)
     where
       tests : (j : Job) → j .header ≡ x .header → (t : Answer (Unit {0}))
-          → ((t >>= λ _. accepted j) >>= λ k. with-limit (k .header .continuity) (cutsOf (k .header) side (k .hazards)))
-          ≡ ((t >>= λ _. accepted (cutsOf (j .header) side (j .hazards))) >>= with-limit (x .header .continuity))
-      tests j own (accepted u) = ap (λ (h : Header). with-limit (h .continuity) (cutsOf (j .header) side (j .hazards))) own
+          → ((t >>= λ _. accepted j) >>= λ k. with-limit (k .header .continuity) (cutsOf (k .header) side (standingIn w (k .hazards))))
+          ≡ ((t >>= λ _. accepted (cutsOf (j .header) side (standingIn w (j .hazards)))) >>= with-limit (x .header .continuity))
+      tests j own (accepted u) = ap (λ (h : Header). with-limit (h .continuity) (cutsOf (j .header) side (standingIn w (j .hazards)))) own
       tests j own (refused k v) = refl
 
       go : (a : Answer Job) → behind ≡ a → ((a >>= λ j. testHazards (j .header) 0 (j .hazards) >>= λ _. accepted j)
-          >>= λ k. with-limit (k .header .continuity) (cutsOf (k .header) side (k .hazards)))
-          ≡ ((a >>= λ j. testHazards (j .header) 0 (j .hazards) >>= λ _. accepted (cutsOf (j .header) side (j .hazards)))
+          >>= λ k. with-limit (k .header .continuity) (cutsOf (k .header) side (standingIn w (k .hazards))))
+          ≡ ((a >>= λ j. testHazards (j .header) 0 (j .hazards) >>= λ _. accepted (cutsOf (j .header) side (standingIn w (j .hazards))))
           >>= with-limit (x .header .continuity))
       go (accepted j) e = tests j (own-header (x .header) [] (x .header .count) [] s (x .next) j e) (testHazards (j .header) 0 (j .hazards))
       go (refused k v) e = refl
 
-  -- By how a walk for any side ended.
-  module _ (side : ℕ) (o : Outcome) (c : Cuts) (answer : outcome o c ≡ (behind >>= λ j. testedEnvelopes j side)) where
-    pub side-walked : outcome o (record { cuts = c; continuity = x .header .continuity }) ≡ sideOf s side
-    side-walked = go o ∙ ap (λ (a : Answer Cuts). a >>= with-limit (x .header .continuity)) answer ∙ sym (side-from side)
+  -- By how a walk for any side and window ended.
+  module _ (side : ℕ) (w : Window) (o : Outcome) (c : Cuts) (answer : outcome o c ≡ (behind >>= λ j. testedEnvelopes j side w)) where
+    pub side-walked : outcome o (record { cuts = c; continuity = x .header .continuity }) ≡ sideWithin s side w
+    side-walked = go o ∙ ap (λ (a : Answer Cuts). a >>= with-limit (x .header .continuity)) answer ∙ sym (side-from side w)
       where
         go : (p : Outcome) → outcome p (record { cuts = c; continuity = x .header .continuity }) ≡ (outcome p c >>= with-limit (x .header .continuity))
         go Done = refl
@@ -98,9 +100,10 @@ module _ (s : List ℕ) {x : HeaderReading} (read : headerAt s ≡ accepted x) w
     pub walk-accepts : o ≡ Done → Done-with
     unfolding testedEnvelopes
     walk-accepts e =
-        let whole : (behind >>= λ j. testedEnvelopes j side) ≡ accepted c = sym answer ∙ ap (λ (p : Outcome). outcome p c) e in
-        let b = bound behind (λ j. testedEnvelopes j side) c whole in
-        let t = bound (testHazards (b .first .header) 0 (b .first .hazards)) (λ _. accepted (cutsOf (b .first .header) side (b .first .hazards))) c (b .rest) in
+        let whole : (behind >>= λ j. testedEnvelopes j side w) ≡ accepted c = sym answer ∙ ap (λ (p : Outcome). outcome p c) e in
+        let b = bound behind (λ j. testedEnvelopes j side w) c whole in
+        let t = bound (testHazards (b .first .header) 0 (b .first .hazards)) (λ _. accepted (cutsOf (b .first .header) side (standingIn w (b .first .hazards))))
+        c (b .rest) in
         record {
           job = b .first;
           read-on = b .taken;
@@ -115,12 +118,13 @@ module _ (s : List ℕ) {x : HeaderReading} (read : headerAt s ≡ accepted x) w
     unfolding testedEnvelopes
     walk-refuses r e = accept-from ∙ go behind (sym answer ∙ ap (λ (p : Outcome). outcome p c) e)
       where
-        tests : (j : Job) (t : Answer (Unit {0})) → (t >>= λ _. accepted (cutsOf (j .header) side (j .hazards))) ≡ refusal r
+        tests : (j : Job) (t : Answer (Unit {0})) → (t >>= λ _. accepted (cutsOf (j .header) side (standingIn w (j .hazards)))) ≡ refusal r
             → (t >>= λ _. accepted j) ≡ refusal r
         tests j (accepted u) q = impossible cc
         tests j (refused k v) q = cc
 
-        go : (a : Answer Job) → (a >>= λ j. testHazards (j .header) 0 (j .hazards) >>= λ _. accepted (cutsOf (j .header) side (j .hazards))) ≡ refusal r
+        go : (a : Answer Job)
+            → (a >>= λ j. testHazards (j .header) 0 (j .hazards) >>= λ _. accepted (cutsOf (j .header) side (standingIn w (j .hazards)))) ≡ refusal r
             → (a >>= λ j. testHazards (j .header) 0 (j .hazards) >>= λ _. accepted j) ≡ refusal r
         go (accepted j) q = tests j (testHazards (j .header) 0 (j .hazards)) q
         go (refused k v) q = cc
@@ -130,9 +134,9 @@ pub accept-unread : (s : List ℕ) (r : Refusal) → headerAt s ≡ refusal r �
 unfolding acceptJob
 accept-unread s r e = rw (job-from s, e)
 
-pub side-unread : (s : List ℕ) (side : ℕ) (r : Refusal) → acceptJob s ≡ refusal r → sideOf s side ≡ refusal r
-unfolding sideOf
-side-unread s side r e = rw e
+pub side-unread : (s : List ℕ) (side : ℕ) (w : Window) (r : Refusal) → acceptJob s ≡ refusal r → sideWithin s side w ≡ refusal r
+unfolding sideWithin
+side-unread s side w r e = rw e
 
 -- The hazard with an index.
 module _ (s : List ℕ) (i : ℕ) where

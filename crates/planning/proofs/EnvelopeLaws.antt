@@ -29,6 +29,8 @@ use Rattle.runs.proofs.LevelLaws.{Levelled, EndsBy}
 use Rattle.planning.specs.Envelope.{Traffic, forward, opposite, runout, reaches, reached, reachOf, offsetOf, envelope, envelopes, cutToRoad, cutEnvelope}
 use Rattle.planning.specs.Envelope.{sideEnvelopes, OnRoad, standsNear, testHazard, testHazards, acceptJob}
 use Rattle.planning.specs.Reply.{Cuts, cutsOf, testedEnvelopes}
+use Rattle.planning.specs.declared.window.Window.the-variants.{All}
+use Rattle.planning.specs.Window.{standingIn}
 use Rattle.planning.specs.Overhang.{SideHazard}
 use Rattle.planning.specs.Rows.{Passed, AcceptedFits}
 use Rattle.planning.proofs.ReachLaws.{reaching-domain}
@@ -197,8 +199,8 @@ pub record EnvelopesFit (es : List Stretch) : Type 0 where
   pub levelled : Levelled es
   pub ends : EndsBy lastStation es
 
-pub tested-fit : (j : Job) (side : ℕ) (c : Cuts) → JobFits j → testedEnvelopes j side ≡ accepted c → EnvelopesFit (c .envelopes)
-unfolding testedEnvelopes
+pub tested-fit : (j : Job) (side : ℕ) (c : Cuts) → JobFits j → testedEnvelopes j side All ≡ accepted c → EnvelopesFit (c .envelopes)
+unfolding testedEnvelopes standingIn
 tested-fit j side c f e =
     let b = bound (testHazards (j .header) 0 (j .hazards)) (λ _. accepted (cutsOf (j .header) side (j .hazards))) c e in
     let whole : cutsOf (j .header) side (j .hazards) ≡ c = cc in

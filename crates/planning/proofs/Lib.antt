@@ -1,6 +1,7 @@
 pub mod ReachLaws
 pub mod OverhangLaws
 pub mod EnvelopeLaws
+pub mod WindowLaws
 pub mod TestedLaws
 pub mod WalkLaws
 pub mod AcceptLaws

@@ -28,7 +28,9 @@ use Rattle.runs.specs.declared.Stretch.{Stretch}
 use Rattle.runs.specs.Keys.{keyedEnvelopes, Keyed}
 use Rattle.planning.specs.declared.own.Own.{Own}
 use Rattle.planning.specs.declared.walk.Walked.{Walked}
+use Rattle.planning.specs.declared.window.Window.the-variants.{All}
 use Rattle.planning.specs.Envelope.{farther, reaches, reached, reachOf, offsetOf, lengthening, envelope, cutToRoad, cutEnvelope, overhang, testHazards}
+use Rattle.planning.specs.Window.{standingIn}
 use Rattle.planning.specs.Reply.{Cuts, noCuts, cutsOf, testedEnvelopes}
 use Rattle.planning.specs.Walk.{GivenFits, PlacesFor, cutsTaken, walkedAnswer, Walks}
 use Rattle.planning.specs.Own.{noEnvelope, ownEnvelope}
@@ -133,9 +135,9 @@ module _ (h : Header) (z : Hazard) (zf : HazardFits h z) {rest : ℕ} (q : rest 
 
   -- What it takes
   module _ (passes : Passed h z) (keys ends noted noted′ : List ℕ) (r : Walked)
-      (w : Walks (counted h 1) (givenHazards numbers) (z .side) 256 [] 0 noted keys ends noted′ r) where
+      (w : Walks (counted h 1) (givenHazards numbers) (z .side) All 256 [] 0 noted keys ends noted′ r) where
     answers : walkedAnswer keys ends r ≡ accepted (cutsOf (counted h 1) (z .side) (z ∷ []))
-    unfolding hazardsFrom testedEnvelopes testHazards
+    unfolding hazardsFrom testedEnvelopes testHazards standingIn
     answers = w .answer ∙ rw (alone, hazard-passes (counted h 1) 0 z (alone-passes h z passes))
 
     takes : cutsTaken keys ends (r .taken) ≡ cutsOf (counted h 1) (z .side) (z ∷ [])

@@ -33,11 +33,15 @@ use Rattle.runs.proofs.KeyLaws.{keyed-none, keyed-more, more-keyed}
 use Rattle.runs.proofs.StoredLaws.{noStretch}
 use Rattle.planning.specs.declared.Overhangs.{Overhangs}
 use Rattle.planning.specs.declared.walk.Taken.{Taken}
+use Rattle.planning.specs.declared.window.Window.{Window}
+use Rattle.planning.specs.declared.window.Window.the-variants.{All}
 use Rattle.planning.specs.Envelope.{reached, envelope, envelopes, cutToRoad, overhang, noOverhang, greater, overhangs, standsNear, testHazard}
 use Rattle.planning.specs.Envelope.{testHazards}
+use Rattle.planning.specs.Window.{standsIn, standingIn}
 use Rattle.planning.specs.Reply.{Cuts, noCuts, cutsOf, _followedBy_, testedHazard, testedEnvelopes}
 use Rattle.planning.specs.Walk.{PlacesFor, nothingTaken, cutsTaken, takenAnswer, Takes, walkedAnswer, Walks}
 use Rattle.planning.proofs.OverhangLaws.{greater-assoc, greater-none, none-greater}
+use Rattle.planning.proofs.WindowLaws.{standing-append, standing-none, standing-one}
 
 -- Hazards, and one behind them
 
@@ -68,14 +72,19 @@ own-first h side z left = go (eqb (z .side) side && reached h z)
     }
     go false = sym (none-then (cutsOf h side left))
 
-cuts-last : (h : Header) (side : ℕ) (zs : List Hazard) (z : Hazard) → cutsOf h side (zs ++ z ∷ []) ≡ (cutsOf h side zs followedBy cutsOf h side (z ∷ []))
+cuts-append : (h : Header) (side : ℕ) (zs more : List Hazard) → cutsOf h side (zs ++ more) ≡ (cutsOf h side zs followedBy cutsOf h side more)
 unfolding envelopes overhangs
-cuts-last h side [] z = sym (none-then (cutsOf h side (z ∷ [])))
-cuts-last h side (y ∷ zs) z =
-    own-first h side y (zs ++ z ∷ [])
-    ∙ ap (λ (c : Cuts). cutsOf h side (y ∷ []) followedBy c) (cuts-last h side zs z)
-    ∙ then-assoc (cutsOf h side (y ∷ [])) (cutsOf h side zs) (cutsOf h side (z ∷ []))
-    ∙ ap (λ (c : Cuts). c followedBy cutsOf h side (z ∷ [])) (sym (own-first h side y zs))
+cuts-append h side [] more = sym (none-then (cutsOf h side more))
+cuts-append h side (y ∷ zs) more =
+    own-first h side y (zs ++ more)
+    ∙ ap (λ (c : Cuts). cutsOf h side (y ∷ []) followedBy c) (cuts-append h side zs more)
+    ∙ then-assoc (cutsOf h side (y ∷ [])) (cutsOf h side zs) (cutsOf h side more)
+    ∙ ap (λ (c : Cuts). c followedBy cutsOf h side more) (sym (own-first h side y zs))
+
+cuts-last : (h : Header) (side : ℕ) (w : Window) (zs : List Hazard) (z : Hazard)
+    → cutsOf h side (standingIn w (zs ++ z ∷ [])) ≡ (cutsOf h side (standingIn w zs) followedBy cutsOf h side (standingIn w (z ∷ [])))
+cuts-last h side w zs z =
+    ap (λ (ys : List Hazard). cutsOf h side ys) (standing-append w zs (z ∷ [])) ∙ cuts-append h side (standingIn w zs) (standingIn w (z ∷ []))
 
 tests-last : (h : Header) (i : ℕ) (zs : List Hazard) (z : Hazard)
     → testHazards h i (zs ++ z ∷ []) ≡ (testHazards h i zs >>= λ _. testHazard h (i + length zs) z)
@@ -89,22 +98,42 @@ tests-last h i (y ∷ zs) z =
     bind-same (testHazard h i y) _ _ (λ _ _. tests-last h (i + 1) zs z ∙ ap (λ (k : ℕ). testHazards h (i + 1) zs >>= λ _. testHazard h k z) (omega arith))
     ∙ sym (bind-assoc (testHazard h i y) (λ _. testHazards h (i + 1) zs) (λ _. testHazard h (i + length (y ∷ zs)) z))
 
-tested-last : (h : Header) (side : ℕ) (zs : List Hazard) (z : Hazard)
-    → testedEnvelopes (record { header = h; hazards = zs ++ z ∷ [] }) side
-    ≡ (testedEnvelopes (record { header = h; hazards = zs }) side >>= λ c. testedHazard h side (length zs) z >>= λ own. accepted (c followedBy own))
+tested-last : (h : Header) (side : ℕ) (w : Window) (zs : List Hazard) (z : Hazard)
+    → testedEnvelopes (record { header = h; hazards = zs ++ z ∷ [] }) side w
+    ≡ (testedEnvelopes (record { header = h; hazards = zs }) side w >>= λ c. testedHazard h side w (length zs) z >>= λ own. accepted (c followedBy own))
 unfolding testedEnvelopes testedHazard
-tested-last h side zs z = rw (tests-last h 0 zs z, zero-add (length zs), cuts-last h side zs z) (go (testHazards h 0 zs) (testHazard h (length zs) z))
+tested-last h side w zs z =
+    rw (tests-last h 0 zs z, zero-add (length zs), cuts-last h side w zs z)
+    (go (cutsOf h side (standingIn w zs)) (cutsOf h side (standingIn w (z ∷ []))) (testHazards h 0 zs) (testHazard h (length zs) z))
   where
-    go : (a b : Answer (Unit {0})) → ((a >>= λ _. b) >>= λ _. accepted (cutsOf h side zs followedBy cutsOf h side (z ∷ [])))
-        ≡ ((a >>= λ _. accepted (cutsOf h side zs)) >>= λ c. (b >>= λ _. accepted (cutsOf h side (z ∷ []))) >>= λ own. accepted (c followedBy own))
-    go (accepted u) (accepted v) = refl
-    go (accepted u) (refused k v) = refl
-    go (refused k v) b = refl
+    go : (x y : Cuts) (a b : Answer (Unit {0})) → ((a >>= λ _. b) >>= λ _. accepted (x followedBy y))
+        ≡ ((a >>= λ _. accepted x) >>= λ c. (b >>= λ _. accepted y) >>= λ own. accepted (c followedBy own))
+    go x y (accepted u) (accepted v) = refl
+    go x y (accepted u) (refused k v) = refl
+    go x y (refused k v) b = refl
+
+-- A hazard that gives an envelope where it is asked to stand in a window gives the same where it isn't.
+pub given-anyhow : (h : Header) (side : ℕ) (w : Window) (i : ℕ) (z : Hazard) (e : Stretch) (o : Overhangs)
+    → accepted (record { envelopes = e ∷ []; overhangs = o }) ≡ testedHazard h side w i z
+    → accepted (record { envelopes = e ∷ []; overhangs = o }) ≡ testedHazard h side All i z
+unfolding testedHazard standingIn envelopes
+given-anyhow h side w i z e o p =
+    go (testHazard h i z) (standsIn w z) (p ∙ ap (λ (zs : List Hazard). testHazard h i z >>= λ _. accepted (cutsOf h side zs)) (standing-one w z))
+  where
+    number : Answer Cuts → ℕ
+    number a = length (acceptedOr noCuts a .envelopes)
+
+    go : (test : Answer (Unit {0})) (b : Bool)
+        → accepted (record { envelopes = e ∷ []; overhangs = o }) ≡ (test >>= λ _. accepted (cutsOf h side (if b then z ∷ [] else [])))
+        → accepted (record { envelopes = e ∷ []; overhangs = o }) ≡ (test >>= λ _. accepted (cutsOf h side (z ∷ [])))
+    go test true q = q
+    go (accepted u) false q = absurd (omega (arith, ap number q))
+    go (refused k v) false q = q
 
 -- The envelope that a hazard gives has no higher level than the hazard.
 pub level-given : (h : Header) (side i : ℕ) (z : Hazard) (e : Stretch) (o : Overhangs)
-    → accepted (record { envelopes = e ∷ []; overhangs = o }) ≡ testedHazard h side i z → e .level ≤ z .level
-unfolding testedHazard envelopes cutToRoad envelope
+    → accepted (record { envelopes = e ∷ []; overhangs = o }) ≡ testedHazard h side All i z → e .level ≤ z .level
+unfolding testedHazard standingIn envelopes cutToRoad envelope
 level-given h side i z e o p = omega (arith, ap first p, go (testHazard h i z) (eqb (z .side) side && reached h z))
   where
     first : Answer Cuts → ℕ
@@ -119,9 +148,9 @@ level-given h side i z e o p = omega (arith, ap first p, go (testHazard h i z) (
 
 -- It begins by the last station.
 pub start-given : (h : Header) (side i : ℕ) (z : Hazard) (e : Stretch) (o : Overhangs)
-    → accepted (record { envelopes = e ∷ []; overhangs = o }) ≡ testedHazard h side i z
+    → accepted (record { envelopes = e ∷ []; overhangs = o }) ≡ testedHazard h side All i z
     → h .begin ≤ lastStation → z .start ≤ lastStation → e .start ≤ lastStation
-unfolding testedHazard envelopes cutToRoad envelope
+unfolding testedHazard standingIn envelopes cutToRoad envelope
 start-given h side i z e o p road own = omega (arith, ap first p, go (testHazard h i z) (eqb (z .side) side && reached h z))
   where
     first : Answer Cuts → ℕ
@@ -136,8 +165,8 @@ start-given h side i z e o p road own = omega (arith, ap first p, go (testHazard
 
 -- It stands on the side.
 pub on-side : (h : Header) (side i : ℕ) (z : Hazard) (e : Stretch) (o : Overhangs)
-    → accepted (record { envelopes = e ∷ []; overhangs = o }) ≡ testedHazard h side i z → z .side ≡ side
-unfolding testedHazard envelopes
+    → accepted (record { envelopes = e ∷ []; overhangs = o }) ≡ testedHazard h side All i z → z .side ≡ side
+unfolding testedHazard standingIn envelopes
 on-side h side i z e o p = go (testHazard h i z) (eqb (z .side) side) refl (ap number p)
   where
     number : Answer Cuts → ℕ
@@ -153,23 +182,24 @@ on-side h side i z e o p = go (testHazard h i z) (eqb (z .side) side) refl (ap n
     go (refused k v) false q n = absurd (omega arith)
 
 -- A test refuses with 5.
-test-five : (h : Header) (side i : ℕ) (z : Hazard) (x : Refusal) → refusal x ≡ testedHazard h side i z → testedHazard h side i z ≡ refused 5 i
+test-five : (h : Header) (side : ℕ) (w : Window) (i : ℕ) (z : Hazard) (x : Refusal) → refusal x ≡ testedHazard h side w i z
+    → testedHazard h side w i z ≡ refused 5 i
 unfolding testedHazard testHazard
-test-five h side i z x p = go (standsNear h z) p
+test-five h side w i z x p = go (standsNear h z) p
   where
-    go : (b : Bool) → refusal x ≡ (unless-refuse (not b) (Row.NearBarrier i) >>= λ _. accepted (cutsOf h side (z ∷ [])))
-        → (unless-refuse (not b) (Row.NearBarrier i) >>= λ _. accepted (cutsOf h side (z ∷ []))) ≡ refused 5 i
+    go : (b : Bool) → refusal x ≡ (unless-refuse (not b) (Row.NearBarrier i) >>= λ _. accepted (cutsOf h side (standingIn w (z ∷ []))))
+        → (unless-refuse (not b) (Row.NearBarrier i) >>= λ _. accepted (cutsOf h side (standingIn w (z ∷ [])))) ≡ refused 5 i
     go true q = refl
     go false q = impossible cc
 
 -- One hazard more
 
-module _ (h : Header) (side asked index : ℕ) (z : Hazard) (keys ends noted : List ℕ) (t : Taken) (keyed : Keyed keys ends (t .count))
+module _ (h : Header) (side : ℕ) (w : Window) (asked index : ℕ) (z : Hazard) (keys ends noted : List ℕ) (t : Taken) (keyed : Keyed keys ends (t .count))
     (near : t .near ≤ 256) where
-  pub envelope-taken : (e : Stretch) (o new : Overhangs) → accepted (record { envelopes = e ∷ []; overhangs = o }) ≡ testedHazard h side index z
+  pub envelope-taken : (e : Stretch) (o new : Overhangs) → accepted (record { envelopes = e ∷ []; overhangs = o }) ≡ testedHazard h side w index z
       → new ≡ greater (t .overhangs) o
       → z .side ≤ 1 → t .count < 256 → t .count < length keys → t .count < length ends → e .level < 8
-      → Takes h side asked index z keys ends noted t (set keys (t .count) (keyOf (e .start) (e .level) (t .count))) (set ends (t .count) (e .end)) noted
+      → Takes h side w asked index z keys ends noted t (set keys (t .count) (keyOf (e .start) (e .level) (t .count))) (set ends (t .count) (e .end)) noted
       (record { count = t .count + 1; near = t .near; overhangs = new })
   envelope-taken e o new p q low few room end-room small =
       record {
@@ -178,7 +208,7 @@ module _ (h : Header) (side asked index : ℕ) (z : Hazard) (keys ends noted : L
         keyed = more-keyed keys ends (t .count) keyed e few room end-room small;
         few = omega arith;
         near = near;
-        note = λ none high. absurd (omega (arith, on-side h side index z e o p));
+        note = λ none high. absurd (omega (arith, on-side h side index z e o (given-anyhow h side w index z e o p)));
       }
     where
       go : (a : Answer (Unit {0})) → (a >>= λ _. accepted
@@ -187,9 +217,9 @@ module _ (h : Header) (side asked index : ℕ) (z : Hazard) (keys ends noted : L
       go (accepted u) = refl
       go (refused k v) = refl
 
-  pub none-taken : (noted′ : List ℕ) → accepted noCuts ≡ testedHazard h side index z
+  pub none-taken : (noted′ : List ℕ) → accepted noCuts ≡ testedHazard h side w index z
       → (2 ≤ side → hazardOf noted′ ≡ (if eqb index asked then z else hazardOf noted))
-      → Takes h side asked index z keys ends noted t keys ends noted′ t
+      → Takes h side w asked index z keys ends noted t keys ends noted′ t
   none-taken noted′ p noting =
       record {
         answer = rw (sym p) (go (takenAnswer keys ends t));
@@ -203,8 +233,8 @@ module _ (h : Header) (side asked index : ℕ) (z : Hazard) (keys ends noted : L
       go (accepted c) = ap accepted (sym (then-none c))
       go (refused k v) = refl
 
-  module _ (x : Refusal) (p : refusal x ≡ testedHazard h side index z) where
-    pub five-held : t .near < 256 → Takes h side asked index z keys ends noted t keys ends noted t
+  module _ (x : Refusal) (p : refusal x ≡ testedHazard h side w index z) where
+    pub five-held : t .near < 256 → Takes h side w asked index z keys ends noted t keys ends noted t
     five-held l = record {
       answer = simp (lt-leb 256 (t .near) l);
       keyed = keyed;
@@ -214,9 +244,9 @@ module _ (h : Header) (side asked index : ℕ) (z : Hazard) (keys ends noted : L
     }
 
     pub five-first : 256 ≤ t .near → index < 256
-        → Takes h side asked index z keys ends noted t keys ends noted (record { count = t .count; near = index; overhangs = t .overhangs })
+        → Takes h side w asked index z keys ends noted t keys ends noted (record { count = t .count; near = index; overhangs = t .overhangs })
     five-first l i = record {
-      answer = simp (le-leb 256 (t .near) l, lt-leb 256 index i, test-five h side index z x p);
+      answer = simp (le-leb 256 (t .near) l, lt-leb 256 index i, test-five h side w index z x p);
       keyed = keyed;
       few = omega arith;
       near = omega arith;
@@ -244,11 +274,11 @@ last-other (y ∷ l) x d zero n = refl
 last-other (y ∷ l) x d (suc k) n = last-other l x d k (λ e. n (ap suc e))
 
 -- Behind the first i hazards: what was taken of them, and those left.
-pub record SoFar (h : Header) (given : List Hazard) (side asked : ℕ) (s : List ℕ) (first : ℕ) (noted₀ keys ends noted : List ℕ) (t : Taken) (at i : ℕ) : Type
-    0 where
+pub record SoFar (h : Header) (given : List Hazard) (side : ℕ) (w : Window) (asked : ℕ) (s : List ℕ) (first : ℕ) (noted₀ keys ends noted : List ℕ) (t : Taken)
+    (at i : ℕ) : Type 0 where
   pub got : List Hazard
   pub left : HazardsLeft h given s first got at i
-  pub answer : takenAnswer keys ends t ≡ testedEnvelopes (record { header = h; hazards = got }) side
+  pub answer : takenAnswer keys ends t ≡ testedEnvelopes (record { header = h; hazards = got }) side w
   pub keyed : Keyed keys ends (t .count)
   pub few : t .count ≤ i
   pub near : t .near ≤ 256
@@ -258,14 +288,14 @@ pub record SoFar (h : Header) (given : List Hazard) (side asked : ℕ) (s : List
 pub none-keyed : (keys ends : List ℕ) → Keyed keys ends 0
 none-keyed keys ends = record { few = omega arith; keys-there = omega arith; ends-there = omega arith; own = λ i l. absurd (omega arith) }
 
-module _ (h : Header) (given : List Hazard) (side asked : ℕ) (s : List ℕ) (first : ℕ) (noted₀ : List ℕ) where
+module _ (h : Header) (given : List Hazard) (side : ℕ) (w : Window) (asked : ℕ) (s : List ℕ) (first : ℕ) (noted₀ : List ℕ) where
   pub walk-begun : (keys ends : List ℕ) → PlacesFor h side asked keys ends noted₀
-      → SoFar h given side asked s first noted₀ keys ends noted₀ nothingTaken first 0
+      → SoFar h given side w asked s first noted₀ keys ends noted₀ nothingTaken first 0
   unfolding testedEnvelopes testHazards envelopes overhangs
   walk-begun keys ends places = record {
     got = [];
     left = none-had h given s first;
-    answer = rw (keyed-none keys ends);
+    answer = rw (keyed-none keys ends, standing-none w);
     keyed = none-keyed keys ends;
     few = omega arith;
     near = omega arith;
@@ -273,17 +303,17 @@ module _ (h : Header) (given : List Hazard) (side asked : ℕ) (s : List ℕ) (f
     note = λ none high. refl;
   }
 
-  module _ {keys ends noted : List ℕ} {t : Taken} {at i : ℕ} (so : SoFar h given side asked s first noted₀ keys ends noted t at i) where
+  module _ {keys ends noted : List ℕ} {t : Taken} {at i : ℕ} (so : SoFar h given side w asked s first noted₀ keys ends noted t at i) where
     -- The next hazard.
     module _ (more : i < h .count) (a : Answer HazardReading) (read : a ≡ nextHazard h given i s at) where
       pub walk-next : {z : Hazard} {n : ℕ} {keys′ ends′ noted′ : List ℕ} {t′ : Taken} → a ≡ accepted (record { hazard = z; next = n })
-          → Takes h side asked i z keys ends noted t keys′ ends′ noted′ t′ → length keys′ ≡ length keys → length ends′ ≡ length ends
+          → Takes h side w asked i z keys ends noted t keys′ ends′ noted′ t′ → length keys′ ≡ length keys → length ends′ ≡ length ends
           → length noted′ ≡ length noted
-          → SoFar h given side asked s first noted₀ keys′ ends′ noted′ t′ n (i + 1)
+          → SoFar h given side w asked s first noted₀ keys′ ends′ noted′ t′ n (i + 1)
       walk-next {z} {n} {keys′} {ends′} {noted′} {t′} e takes k l m = record {
         got = so .got ++ z ∷ [];
         left = one-more (so .left) more a read e;
-        answer = takes .answer ∙ rw (so .answer, sym (so .left .number)) (sym (tested-last h side (so .got) z));
+        answer = takes .answer ∙ rw (so .answer, sym (so .left .number)) (sym (tested-last h side w (so .got) z));
         keyed = takes .keyed;
         few = omega (arith, takes .few, so .few);
         near = takes .near;
@@ -292,7 +322,7 @@ module _ (h : Header) (given : List Hazard) (side asked : ℕ) (s : List ℕ) (f
           for-ends = λ low. omega (arith, so .places .for-ends low);
           for-hazard = λ there. m ∙ so .places .for-hazard there;
         };
-        note = λ none high. let w = takes .note none high in w .1 ∙ noting (so .note (w .0) high) (ℕ-discrete i asked);
+        note = λ none high. let n = takes .note none high in n .1 ∙ noting (so .note (n .0) high) (ℕ-discrete i asked);
       }
         where
           noting : hazardOf noted ≡ getD (so .got) asked (hazardOf noted₀) → Dec (i ≡ asked)
@@ -302,17 +332,17 @@ module _ (h : Header) (given : List Hazard) (side asked : ℕ) (s : List ℕ) (f
               simp (ne-eqb i asked other) (old ∙ sym (last-other (so .got) z (hazardOf noted₀) asked (λ q. other (omega (arith, so .left .number)))))
 
       pub walk-refused : (x : Refusal) → a ≡ refusal x
-          → Walks h given side asked s first noted₀ keys ends noted (record { outcome = Refused x; taken = nothingTaken })
+          → Walks h given side w asked s first noted₀ keys ends noted (record { outcome = Refused x; taken = nothingTaken })
       walk-refused x e = record { answer = rw (next-refused (so .left) more a read e); keyed = none-keyed keys ends; note = λ done. impossible cc }
 
     -- All hazards were had.
     module _ (done : h .count ≤ i) where
-      pub walk-over : at < length s → Walks h given side asked s first noted₀ keys ends noted
+      pub walk-over : at < length s → Walks h given side w asked s first noted₀ keys ends noted
           (record { outcome = Refused (Row.LeftOver at); taken = nothingTaken })
       walk-over over = record { answer = rw (left-over (so .left) done over); keyed = none-keyed keys ends; note = λ d. impossible cc }
 
       module _ (end : length s ≤ at) where
-        pub walk-near : t .near < 256 → Walks h given side asked s first noted₀ keys ends noted
+        pub walk-near : t .near < 256 → Walks h given side w asked s first noted₀ keys ends noted
             (record { outcome = Refused (Row.NearBarrier (t .near)); taken = nothingTaken })
         walk-near l = record {
           answer = rw (all-had (so .left) done end) (simp (lt-leb 256 (t .near) l) at (so .answer));
@@ -320,7 +350,7 @@ module _ (h : Header) (given : List Hazard) (side asked : ℕ) (s : List ℕ) (f
           note = λ d. impossible cc;
         }
 
-        pub walk-done : 256 ≤ t .near → Walks h given side asked s first noted₀ keys ends noted (record { outcome = Done; taken = t })
+        pub walk-done : 256 ≤ t .near → Walks h given side w asked s first noted₀ keys ends noted (record { outcome = Done; taken = t })
         walk-done l = record {
           answer = rw (all-had (so .left) done end) (simp (le-leb 256 (t .near) l) at (so .answer));
           keyed = so .keyed;

@@ -14,8 +14,11 @@ use Rattle.runs.specs.Keys.{keyedEnvelopes}
 use Rattle.planning.specs.declared.accept.Side.{Side}
 use Rattle.planning.specs.declared.accept.Indexed.{Indexed}
 use Rattle.planning.specs.declared.accept.Indexed.the-variants as Indexed
+use Rattle.planning.specs.declared.window.Window.{Window}
+use Rattle.planning.specs.declared.window.Window.the-variants.{All}
 use Rattle.planning.specs.Envelope.{acceptJob}
 use Rattle.planning.specs.Approached.{hazardAt}
+use Rattle.planning.specs.Window.{standingIn}
 use Rattle.planning.specs.Reply.{Cuts, cutsOf}
 
 -- The envelopes of a side, cut, with their greatest overhangs; and G.
@@ -23,8 +26,14 @@ pub record AcceptedSide : Type 0 where
   pub cuts : Cuts
   pub continuity : ℕ
 
-unfoldable pub sideOf : (s : List ℕ) (side : ℕ) → Answer AcceptedSide
-sideOf s side = acceptJob s >>= λ j. accepted (record { cuts = cutsOf (j .header) side (j .hazards); continuity = j .header .continuity })
+-- Of the hazards that stand in a window; the others are tested too.
+unfoldable pub sideWithin : (s : List ℕ) (side : ℕ) → Window → Answer AcceptedSide
+sideWithin s side w =
+    acceptJob s >>= λ j. accepted (record { cuts = cutsOf (j .header) side (standingIn w (j .hazards)); continuity = j .header .continuity })
+
+-- Of all hazards.
+abbrev pub sideOf : (s : List ℕ) (side : ℕ) → Answer AcceptedSide
+sideOf s side = sideWithin s side All
 
 -- What stands beside the outcome.
 abbrev pub sideBeside : (keys ends : List ℕ) → Side → AcceptedSide

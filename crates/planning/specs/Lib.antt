@@ -1,5 +1,6 @@
 pub mod Envelope
 pub mod Overhang
+pub mod Window
 pub mod Required
 pub mod Approached
 pub mod Reply

@@ -15,7 +15,9 @@ use Rattle.planning.specs.declared.envelope.Traffic.the-variants.{Forwar
 use Rattle.planning.specs.declared.envelope.Tested.{Tested}
 use Rattle.planning.specs.declared.envelope.Tested.the-variants as Tested
 use Rattle.planning.specs.declared.side.SideRuns.{SideRuns}
+use Rattle.planning.specs.declared.window.Window.{Window}
 use Rattle.planning.specs.Envelope as spec
+use Rattle.planning.specs.Window.{standingIn}
 use Rattle.planning.specs.Required.{jobRuns}
 
 abbrev pub trafficOf : Traffic → spec.Traffic
@@ -39,18 +41,18 @@ infixl 20 _followedBy_
 abbrev pub _followedBy_ : Cuts → Cuts → Cuts
 a followedBy b = record { envelopes = a .envelopes ++ b .envelopes; overhangs = spec.greater (a .overhangs) (b .overhangs) }
 
--- A hazard's test, and then what it gives to a side.
-unfoldable pub testedHazard : Header → (side index : ℕ) → Hazard → Answer Cuts
-testedHazard h side i z = spec.testHazard h i z >>= λ _. accepted (cutsOf h side (z ∷ []))
+-- A hazard's test, and then what it gives to a side where it stands in a window.
+unfoldable pub testedHazard : Header → (side : ℕ) → Window → (index : ℕ) → Hazard → Answer Cuts
+testedHazard h side w i z = spec.testHazard h i z >>= λ _. accepted (cutsOf h side (standingIn w (z ∷ [])))
 
 abbrev pub testedAnswer : Tested → Answer Cuts
 testedAnswer (Tested.Envelope e) = accepted (record { envelopes = e .stretch ∷ []; overhangs = e .overhangs })
 testedAnswer Tested.Without = accepted noCuts
 testedAnswer (Tested.Refused r) = refusal r
 
--- A job's hazards tested, and then the envelopes of a side.
-unfoldable pub testedEnvelopes : Job → (side : ℕ) → Answer Cuts
-testedEnvelopes j side = spec.testHazards (j .header) 0 (j .hazards) >>= λ _. accepted (cutsOf (j .header) side (j .hazards))
+-- A job's hazards tested, all of them, and then the envelopes of a side in a window.
+unfoldable pub testedEnvelopes : Job → (side : ℕ) → Window → Answer Cuts
+testedEnvelopes j side w = spec.testHazards (j .header) 0 (j .hazards) >>= λ _. accepted (cutsOf (j .header) side (standingIn w (j .hazards)))
 
 -- The runs of a side of a job in bytes.
 unfoldable pub acceptedRuns : (s : List ℕ) (side : ℕ) → Answer (List Stretch)

@@ -19,6 +19,7 @@ use Rattle.job.specs.Fits.{HazardFits}
 use Rattle.runs.specs.Keys.{keyedEnvelopes, Keyed}
 use Rattle.planning.specs.declared.walk.Taken.{Taken}
 use Rattle.planning.specs.declared.walk.Walked.{Walked}
+use Rattle.planning.specs.declared.window.Window.{Window}
 use Rattle.planning.specs.Envelope.{noOverhang}
 use Rattle.planning.specs.Reply.{Cuts, _followedBy_, testedHazard, testedEnvelopes}
 
@@ -44,14 +45,14 @@ nothingTaken = record { count = 0; near = 256; overhangs = noOverhang }
 abbrev pub cutsTaken : (keys ends : List ℕ) → Taken → Cuts
 cutsTaken keys ends t = record { envelopes = keyedEnvelopes keys ends (t .count); overhangs = t .overhangs }
 
--- So far: 5 with the first hazard that stood too near, else the envelopes of the side with their overhangs.
+-- So far: 5 with the first hazard that stood too near, else the envelopes of the side in the window with their overhangs.
 abbrev pub takenAnswer : (keys ends : List ℕ) → Taken → Answer Cuts
 takenAnswer keys ends t = unless-refuse (leb 256 (t .near)) (Row.NearBarrier (t .near)) >>= λ _. accepted (cutsTaken keys ends t)
 
--- One hazard more: its test, and what it gives to the side; or it is noted.
-pub record Takes (h : Header) (side asked index : ℕ) (z : Hazard) (keys ends noted : List ℕ) (t : Taken) (keys′ ends′ noted′ : List ℕ) (t′ : Taken) : Type
-    0 where
-  pub answer : takenAnswer keys′ ends′ t′ ≡ (takenAnswer keys ends t >>= λ c. testedHazard h side index z >>= λ own. accepted (c followedBy own))
+-- One hazard more: its test, and what it gives to the side where it stands in the window; or it is noted.
+pub record Takes (h : Header) (side : ℕ) (w : Window) (asked index : ℕ) (z : Hazard) (keys ends noted : List ℕ) (t : Taken) (keys′ ends′ noted′ : List ℕ)
+    (t′ : Taken) : Type 0 where
+  pub answer : takenAnswer keys′ ends′ t′ ≡ (takenAnswer keys ends t >>= λ c. testedHazard h side w index z >>= λ own. accepted (c followedBy own))
   pub keyed : Keyed keys′ ends′ (t′ .count)
   pub few : t′ .count ≤ t .count + 1
   pub near : t′ .near ≤ 256
@@ -61,8 +62,9 @@ abbrev pub walkedAnswer : (keys ends : List ℕ) → Walked → Answer Cuts
 walkedAnswer keys ends r = outcome (r .outcome) (cutsTaken keys ends (r .taken))
 
 -- All hazards: those given, or those in the bytes from an index on.
-pub record Walks (h : Header) (given : List Hazard) (side asked : ℕ) (s : List ℕ) (first : ℕ) (noted keys′ ends′ noted′ : List ℕ) (r : Walked) : Type 0 where
-  pub answer : walkedAnswer keys′ ends′ r ≡ (hazardsFrom h given (h .count) [] s first >>= λ j. testedEnvelopes j side)
+pub record Walks (h : Header) (given : List Hazard) (side : ℕ) (w : Window) (asked : ℕ) (s : List ℕ) (first : ℕ) (noted keys′ ends′ noted′ : List ℕ)
+    (r : Walked) : Type 0 where
+  pub answer : walkedAnswer keys′ ends′ r ≡ (hazardsFrom h given (h .count) [] s first >>= λ j. testedEnvelopes j side w)
   pub keyed : Keyed keys′ ends′ (r .taken .count)
   pub note : r .outcome ≡ Done → 2 ≤ side → (j : Job) → hazardsFrom h given (h .count) [] s first ≡ accepted j
       → hazardOf noted′ ≡ getD (j .hazards) asked (hazardOf noted)

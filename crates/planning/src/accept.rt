@@ -1,6 +1,7 @@
 // The entrances: a side of the accepted job that bytes are, and a hazard of it.
 use super::Overhangs;
 use super::walk::walk;
+use super::window::Window;
 use job::Hazard;
 use job::Header;
 use job::header_fields::HeaderRead;
@@ -10,9 +11,9 @@ use refusal::Refusal;
 ghost use mathlib.Core.Path.{_≡_};
 ghost use lib.ListN.{length};
 ghost use Rattle.runs.specs.Keys.{Keyed};
-ghost use Rattle.planning.specs.Accept.{sideOf, sideAnswer, indexedHazard, indexedAnswer};
+ghost use Rattle.planning.specs.Accept.{sideWithin, sideAnswer, indexedHazard, indexedAnswer};
 
-// The outcome, and beside it, where it is Done, how many envelopes the side has, their greatest overhangs, and G.
+// The outcome, and beside it, where it is Done, how many envelopes were taken, their greatest overhangs, and G.
 pub struct Side {
     pub outcome: Outcome,
     pub count: usize,
@@ -26,12 +27,12 @@ pub enum Indexed {
     Refused(Refusal),
 }
 
-// A side of the accepted job that the bytes are, 0 or 1, or the first refusal of 1 to 5 and 7. The envelopes' keys and ends stand in the first
-// places of the arrays.
-pub fn side_of(s: &[u8], side: u64, keys: &mut [u64], ends: &mut [u64]) -> Side
+// A side of the accepted job that the bytes are, 0 or 1, by its hazards in a window; or the first refusal of 1 to 5 and 7. The envelopes' keys and
+// ends stand in the first places of the arrays.
+pub fn side_of(s: &[u8], side: u64, window: Window, keys: &mut [u64], ends: &mut [u64]) -> Side
     requires { ⌜ length (now keys) ≡ 256 ⌝ }
     requires { ⌜ length (now ends) ≡ 256 ⌝ }
-    ensures { λ r. ⌜ sideAnswer (now (keys .exit)) (now (ends .exit)) r ≡ sideOf (now (s .entry)) side ⌝ }
+    ensures { λ r. ⌜ sideAnswer (now (keys .exit)) (now (ends .exit)) r ≡ sideWithin (now (s .entry)) side window ⌝ }
     ensures { λ r. ⌜ Keyed (now (keys .exit)) (now (ends .exit)) (r .count) ⌝ }
 {
     match read_header(s) {
@@ -44,6 +45,7 @@ pub fn side_of(s: &[u8], side: u64, keys: &mut [u64], ends: &mut [u64]) -> Side
                 header,
                 &none[..],
                 side,
+                window,
                 256,
                 keys,
                 ends,
@@ -88,6 +90,7 @@ pub fn indexed_hazard(s: &[u8], index: u64) -> Indexed
                 header,
                 &none[..],
                 2,
+                Window::All,
                 asked,
                 &mut keys[..],
                 &mut ends[..],

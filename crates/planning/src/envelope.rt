@@ -1,6 +1,8 @@
 // Which traffic reaches a hazard, the hazard's envelope, cut at the road's ends, and its test.
 use super::Overhangs;
 use super::near::stands_near;
+use super::window::Window;
+use super::window::stands_in;
 use base::min;
 use base::saturating_sub;
 use job::Hazard;
@@ -29,7 +31,7 @@ pub struct CutEnvelope {
 pub enum Tested {
     // Not 5: the hazard has this envelope on the side.
     Envelope(CutEnvelope),
-    // It gives the side none: nobody reaches it, or it stands on the other one.
+    // It gives the side none: nobody reaches it, or it stands on the other one, or outside of the window.
     Without,
     Refused(Refusal),
 }
@@ -135,19 +137,29 @@ fn cut_envelope(header: Header, hazard: Hazard) -> CutEnvelope
     }
 }
 
-// The hazard with this index: refusal 5, else what it gives to the side. It is reached if its near offset lies in the clear zone.
-pub fn test_hazard(header: Header, side: u64, index: usize, hazard: Hazard) -> Tested
+// The hazard with this index: refusal 5, else what it gives to the side where it stands in the window. It is reached if its near offset lies in the
+// clear zone; one that nobody reaches isn't refused.
+pub fn test_hazard(
+    header: Header,
+    side: u64,
+    window: Window,
+    index: usize,
+    hazard: Hazard,
+) -> Tested
     requires { ⌜ HeaderFits header ⌝ }
     requires { ⌜ HazardFits header hazard ⌝ }
-    ensures { λ r. ⌜ testedAnswer r ≡ testedHazard header side index hazard ⌝ }
+    ensures { λ r. ⌜ testedAnswer r ≡ testedHazard header side window index hazard ⌝ }
 {
-    if stands_near(header, hazard) {
-        return Tested::Refused(Refusal::NearBarrier(index));
-    }
     if header.zone <= hazard.near as u64 {
         return Tested::Without;
     }
-    if hazard.side as u64 == side {
+    if stands_near(header, hazard) {
+        return Tested::Refused(Refusal::NearBarrier(index));
+    }
+    if hazard.side as u64 != side {
+        return Tested::Without;
+    }
+    if stands_in(window, hazard) {
         return Tested::Envelope(cut_envelope(header, hazard));
     }
     Tested::Without

@@ -5,6 +5,7 @@ pub mod near; // a hazard too near to the barrier
 pub mod own; // the envelope of one hazard
 pub mod side; // the runs of a side
 pub mod walk; // one walk over a job's hazards
+pub mod window; // which hazards it takes the envelopes of
 
 // By how many millimetres envelopes hang over before the road's begin A and behind its end B.
 pub struct Overhangs {

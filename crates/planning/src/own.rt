@@ -1,6 +1,7 @@
 // The envelope of one hazard, for the calls that ask how far its withdrawal reaches.
 use super::Overhangs;
 use super::walk::walk;
+use super::window::Window;
 use job::Hazard;
 use job::Header;
 use job::named;
@@ -39,6 +40,7 @@ pub fn own_envelope(header: Header, hazard: Hazard) -> Own
         alone,
         &given[..],
         hazard.side as u64,
+        Window::All,
         256,
         &mut keys[..],
         &mut ends[..],

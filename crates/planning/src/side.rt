@@ -1,5 +1,6 @@
 // From a job in bytes to the runs of a side.
 use super::accept::side_of;
+use super::window::Window;
 use refusal::Outcome;
 use runs::RunList;
 use runs::required::required_runs;
@@ -30,7 +31,7 @@ pub fn side_runs(s: &[u8], side: u32) -> SideRuns
 {
     let mut keys: [u64; 256] = [0; 256];
     let mut ends: [u64; 256] = [0; 256];
-    let read = side_of(s, side as u64, &mut keys[..], &mut ends[..]);
+    let read = side_of(s, side as u64, Window::All, &mut keys[..], &mut ends[..]);
     let outcome = read.outcome;
     match outcome {
         Outcome::Done => SideRuns {

@@ -3,6 +3,7 @@
 use super::Overhangs;
 use super::envelope::Tested;
 use super::envelope::test_hazard;
+use super::window::Window;
 use base::max;
 use job::Hazard;
 use job::Header;
@@ -22,7 +23,7 @@ ghost use Rattle.runs.specs.Keys.{Keyed};
 ghost use Rattle.planning.specs.Envelope.{greater};
 ghost use Rattle.planning.specs.Walk.{nothingTaken, Takes, Walks, PlacesFor, GivenFits};
 
-// What a walk has taken: the envelopes of a side, whose keys and ends stand in the first `count` places of two arrays, and their greatest
+// What a walk has taken: the envelopes of a side in a window, whose keys and ends stand in the first `count` places of two arrays, and their greatest
 // overhangs. The first hazard that stands too near is held, as 7 is tested before 5; 256 for none.
 pub struct Taken {
     pub count: usize,
@@ -82,13 +83,14 @@ fn note(noted: &mut [u64], z: Hazard)
     noted[5] = z.level as u64;
 }
 
-// One hazard more: its envelope is taken where it has one on the side, else it is noted where it is the one asked for.
+// One hazard more: its envelope is taken where it has one on the side and stands in the window, else it is noted where it is the one asked for.
 fn take(
     keys: &mut [u64],
     ends: &mut [u64],
     noted: &mut [u64],
     header: Header,
     side: u64,
+    window: Window,
     asked: usize,
     index: usize,
     hazard: Hazard,
@@ -102,9 +104,9 @@ fn take(
     requires { ⌜ Keyed (now keys) (now ends) (before .count) ⌝ }
     requires { ⌜ (side ≤ 1 → (before .count < length (now keys)) × (before .count < length (now ends))) ⌝ }
     requires { ⌜ (index ≡ asked → length (now noted) ≡ 6) ⌝ }
-    ensures { λ r. ⌜ Takes header side asked index hazard (now (keys .entry)) (now (ends .entry)) (now (noted .entry)) before (now (keys .exit)) (now (ends .exit)) (now (noted .exit)) r ⌝ }
+    ensures { λ r. ⌜ Takes header side window asked index hazard (now (keys .entry)) (now (ends .entry)) (now (noted .entry)) before (now (keys .exit)) (now (ends .exit)) (now (noted .exit)) r ⌝ }
 {
-    match test_hazard(header, side, index, hazard) {
+    match test_hazard(header, side, window, index, hazard) {
         Tested::Envelope(envelope) => {
             let stretch = envelope.stretch;
             let own = envelope.overhangs;
@@ -139,13 +141,14 @@ fn take(
 }
 
 // The hazards behind a header: those that are given as numbers, three each, or else those in the bytes from index `first` on. They are tested
-// in order; the envelopes of the side are taken, and above side 1, which has none, the hazard with the index asked for is noted.
+// in order; the envelopes of the side in the window are taken, and above side 1, which has none, the hazard with the index asked for is noted.
 pub fn walk(
     s: &[u8],
     first: usize,
     header: Header,
     given: &[u64],
     side: u64,
+    window: Window,
     asked: usize,
     keys: &mut [u64],
     ends: &mut [u64],
@@ -154,7 +157,7 @@ pub fn walk(
     requires { ⌜ HeaderFits header ⌝ }
     requires { ⌜ GivenFits header (now given) (now s) ⌝ }
     requires { ⌜ PlacesFor header side asked (now keys) (now ends) (now noted) ⌝ }
-    ensures { λ r. ⌜ Walks header (givenHazards (now (given .entry))) side asked (now (s .entry)) first (now (noted .entry)) (now (keys .exit)) (now (ends .exit)) (now (noted .exit)) r ⌝ }
+    ensures { λ r. ⌜ Walks header (givenHazards (now (given .entry))) side window asked (now (s .entry)) first (now (noted .entry)) (now (keys .exit)) (now (ends .exit)) (now (noted .exit)) r ⌝ }
 {
     let count = header.count as usize;
     let mut taken = nothing();
@@ -163,7 +166,18 @@ pub fn walk(
     while i < count {
         match next_hazard(s, at, header, given, i) {
             HazardRead::Hazard { hazard, next } => {
-                taken = take(keys, ends, noted, header, side, asked, i, hazard, taken);
+                taken = take(
+                    keys,
+                    ends,
+                    noted,
+                    header,
+                    side,
+                    window,
+                    asked,
+                    i,
+                    hazard,
+                    taken,
+                );
                 at = next;
             }
             HazardRead::Refused(refusal) => return refused(refusal),

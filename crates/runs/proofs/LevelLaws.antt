@@ -10,7 +10,7 @@ use lib.Dec.{ltb, leb}
 use borrow.Author.Tests.{ltb-true, leb-true, lt-ltb, le-leb}
 use Rattle.base.specs.Choice.{if_then_else_, someOf, Passing}
 use Rattle.runs.specs.declared.Stretch.{Stretch}
-use Rattle.runs.specs.Level.{Has, InSet, has, between, atLeast, filled, highest, requiredLevel}
+use Rattle.runs.specs.Level.{Has, InSet, Proper, has, between, atLeast, filled, highest, requiredLevel}
 use Rattle.base.proofs.TestLaws.{and-left, and-right, and-intro, or-cases, or-left, or-right, not-both, any-elim, any-intro, filter-elim, filter-intro}
 use Rattle.base.proofs.OrderLaws.{le-of-not-lt}
 
@@ -153,3 +153,14 @@ required-more es fs G t s = level-le es fs G t t (λ v p. joined-more s)
 pub level-same : (es fs : List Stretch) (G t : ℕ) → ((x : Stretch) → List·Memᴰ x es → List·Memᴰ x fs) → ((x : Stretch) → List·Memᴰ x fs → List·Memᴰ x es)
     → requiredLevel es G t ≡ requiredLevel fs G t
 level-same es fs G t to from = omega (arith, required-more es fs G t to, required-more fs es G t from)
+
+-- An envelope farther than G from a station has no part in the level there: those that are nearer require as much as all.
+pub level-near : (es near : List Stretch) (G t : ℕ) → Proper es → ((e : Stretch) → List·Memᴰ e near → List·Memᴰ e es)
+    → ((e : Stretch) → List·Memᴰ e es → e .start ≤ t + G → t ≤ e .end + G → List·Memᴰ e near)
+    → requiredLevel near G t ≡ requiredLevel es G t
+level-near es near G t proper some kept = omega (arith, required-more near es G t some, level-le es near G t t (λ v p. joined v))
+  where
+    joined : (v : ℕ) → Joined es v G t → Joined near v G t
+    joined v (covered e m h x) = covered e (kept e m (omega (arith, x .0)) (omega (arith, x .1))) h x
+    joined v (bridged a b m n h k x y z) =
+        bridged a b (kept a m (omega (arith, proper a m)) (omega arith)) (kept b n (omega arith) (omega (arith, proper b n))) h k x y z

@@ -14,7 +14,9 @@ use Rattle.runs.specs.Required.{requiredRuns}
 use Rattle.planning.specs.declared.Overhangs.{Overhangs}
 use Rattle.planning.specs.Envelope.{sideOverhangs, acceptJob}
 use Rattle.planning.specs.Required.{jobRuns}
-use Rattle.planning.specs.Accept.{AcceptedSide, sideOf}
+use Rattle.planning.specs.declared.window.Window.the-variants.{All}
+use Rattle.planning.specs.Window.{standingIn}
+use Rattle.planning.specs.Accept.{AcceptedSide, sideWithin, sideOf}
 use Rattle.planning.proofs.AcceptedSideLaws.{side-known}
 use Rattle.planning.specs.Rows.{AcceptedFits}
 use Rattle.planning.proofs.JobRunLaws.{job-run-list}
@@ -77,7 +79,7 @@ plan-bad-side s side room h = rw (lt-leb side 1 h)
 
 -- By what `side_of` answers.
 plan-step : (s : List ℕ) (side room : ℕ) → side ≤ 1 → plan s side room ≡ (sideOf s side >>= λ x. fittedSide x room)
-unfolding plan sideOf jobRuns
+unfolding plan sideWithin standingIn jobRuns
 plan-step s side room h = rw (le-leb side 1 h) (sym (bind-assoc (acceptJob s) _ _))
 
 pub plan-done : (s : List ℕ) (side room : ℕ) (x : AcceptedSide) → side ≤ 1 → sideOf s side ≡ accepted x → plan s side room ≡ fittedSide x room
@@ -95,6 +97,6 @@ planned-bytes j side fits =
 
 pub side-bytes : (s : List ℕ) (side : ℕ) (x : AcceptedSide) → sideOf s side ≡ accepted x
     → length (writeSchedule (requiredRuns (x .cuts .envelopes) (x .continuity))) ≤ 5624
-unfolding jobRuns
-side-bytes s side x e = side-known s side x e (λ (y : AcceptedSide). length (writeSchedule (requiredRuns (y .cuts .envelopes) (y .continuity))) ≤ 5624)
+unfolding jobRuns standingIn
+side-bytes s side x e = side-known s side All x e (λ (y : AcceptedSide). length (writeSchedule (requiredRuns (y .cuts .envelopes) (y .continuity))) ≤ 5624)
     (λ j fits. planned-bytes j side fits)

@@ -5,6 +5,7 @@ use super::write::put_schedule;
 use super::write::schedule_length;
 use planning::Overhangs;
 use planning::accept::side_of;
+use planning::window::Window;
 use refusal::Outcome;
 use refusal::Refusal;
 use runs::RunList;
@@ -78,7 +79,7 @@ pub fn plan(job: &[u8], side: u64, out: &mut [u8]) -> Plan
     }
     let mut keys: [u64; 256] = [0; 256];
     let mut ends: [u64; 256] = [0; 256];
-    let read = side_of(job, side, &mut keys[..], &mut ends[..]);
+    let read = side_of(job, side, Window::All, &mut keys[..], &mut ends[..]);
     let outcome = read.outcome;
     match outcome {
         Outcome::Done => {

@@ -2,6 +2,7 @@
 use super::nearest::required_level;
 use super::reply::Level;
 use planning::accept::side_of;
+use planning::window::window_about;
 use refusal::Outcome;
 use refusal::Refusal;
 ghost use mathlib.Core.Path.{_≡_};
@@ -17,7 +18,8 @@ pub fn level(job: &[u8], side: u64, station: u64) -> Level
     }
     let mut keys: [u64; 256] = [0; 256];
     let mut ends: [u64; 256] = [0; 256];
-    let read = side_of(job, side, &mut keys[..], &mut ends[..]);
+    let window = window_about(station);
+    let read = side_of(job, side, window, &mut keys[..], &mut ends[..]);
     let outcome = read.outcome;
     match outcome {
         Outcome::Done => Level::Required(required_level(

@@ -14,6 +14,7 @@ use Rattle.job.specs.Given.{givenHazards}
 use Rattle.job.specs.Reply.{headerAt, headerAnswer}
 use Rattle.job.proofs.JobLaws.{header-at-fits}
 use Rattle.job.proofs.RangeLaws.{HazardBounds, hazard-bounds}
+use Rattle.planning.specs.declared.window.Window.the-variants.{All}
 use Rattle.planning.specs.Envelope.{acceptJob}
 use Rattle.planning.specs.Approached.{hazardAt}
 use Rattle.planning.specs.Accept.{AcceptedHazard}
@@ -51,14 +52,14 @@ record Found (c : tie.After-enum-told) : Type 0 where
   is-accepted : acceptJob (header c .before .before .before .before .args .s .now) ≡ accepted job
   its-header : job .header ≡ header c .header .given .0 .0
   number : length (job .hazards) ≡ header c .header .given .0 .0 .count
-  noted : hazardOf (c .before .before .before .before .before .walk .last .1 .1 .1 .1 .1 .1 .1 .1 .0)
+  noted : hazardOf (c .before .before .before .before .before .walk .last .1 .1 .1 .1 .1 .1 .1 .1 .1 .0)
       ≡ hazardAt job (header c .before .before .before .before .args .index)
 
 found : (c : tie.After-enum-told) → Found c
 unfolding givenHazards
 found c =
     let w = c .before .before .before .before .before .walk in
-    let d = walk-accepts _ (read (header c)) 2 (w .result .outcome) _ (w .ensures .answer) (c .enum-told .given .1) in
+    let d = walk-accepts _ (read (header c)) 2 All (w .result .outcome) _ (w .ensures .answer) (c .enum-told .given .1) in
     record {
       job = d .job;
       is-accepted = d .is-accepted;
@@ -69,7 +70,7 @@ found c =
 
 -- The hazard noted lies in its ranges.
 bounds : (c : tie.After-enum-told) (f : Found c) → header c .before .before .before .before .args .index < header c .header .given .0 .0 .count
-    → HazardBounds (f .job .header) (hazardOf (c .before .before .before .before .before .walk .last .1 .1 .1 .1 .1 .1 .1 .1 .0))
+    → HazardBounds (f .job .header) (hazardOf (c .before .before .before .before .before .walk .last .1 .1 .1 .1 .1 .1 .1 .1 .1 .0))
 bounds c f l =
     let m = getD-member (f .job .hazards) (header c .before .before .before .before .args .index) (hazardOf []) (omega (arith, l, f .number)) in
     rw (f .noted) (hazard-bounds _ _ (accepted-fits _ _ (f .is-accepted) .fits .hazards .each _ m))
@@ -95,7 +96,7 @@ returns-3 c =
     let w = c .before .before .before .before .before .before in
     let h = w .before .before .before .before .before .before in
     let x = c .before .outcome .given in
-    sym (indexed-refused _ _ (x .0 .0) (walk-refuses _ (read h) 2 (w .walk .result .outcome) _ (w .walk .ensures .answer) (x .0 .0) (x .1)))
+    sym (indexed-refused _ _ (x .0 .0) (walk-refuses _ (read h) 2 All (w .walk .result .outcome) _ (w .walk .ensures .answer) (x .0 .0) (x .1)))
 
 returns-4 : tie.Need-returns-4
 returns-4 c =

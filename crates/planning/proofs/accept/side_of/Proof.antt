@@ -39,14 +39,15 @@ unfolding givenHazards
 returns c =
     let w = c .before .before .before .before .before .before .before in
     let h = w .before .before .before .before .before .before in
-    (side-walked _ (read h) _ (w .walk .result .outcome) _ (w .walk .ensures .answer), w .walk .ensures .keyed)
+    (side-walked _ (read h) _ _ (w .walk .result .outcome) _ (w .walk .ensures .answer), w .walk .ensures .keyed)
 
 returns-2 : tie.Need-returns-2
 returns-2 c =
     let r = c .before .before .before in
     let a = r .before .before .before .before .args in
     let x = c .before .refusal .given in (
-      sym (side-unread (a .s .now) (a .side) (x .0 .0) (accept-unread (a .s .now) (x .0 .0) (sym (r .read-header .ensures) ∙ ap headerAnswer (x .1)))),
+      sym (side-unread (a .s .now) (a .side) (a .window) (x .0 .0)
+          (accept-unread (a .s .now) (x .0 .0) (sym (r .read-header .ensures) ∙ ap headerAnswer (x .1)))),
       none-keyed (a .keys .now) (a .ends .now),
     )
 

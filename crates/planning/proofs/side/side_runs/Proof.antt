@@ -6,6 +6,7 @@ use Rattle.refusal.specs.Refusal.{refusal}
 use Rattle.runs.specs.Required.{requiredRuns}
 use Rattle.runs.specs.Keys.{keyedEnvelopes}
 use Rattle.runs.proofs.StoredLaws.{runs-stored}
+use Rattle.planning.specs.declared.window.Window.the-variants.{All}
 use Rattle.planning.specs.Reply.{acceptedRuns}
 use Rattle.planning.proofs.AcceptedSideLaws.{side-done, side-refused, side-sound, runs-side}
 use Rattle.planning.proofs.side.side_runs.Statement.{statement}
@@ -15,15 +16,15 @@ required-runs-requires : tie.Need-required-runs-requires
 required-runs-requires c κs =
     let r = c .before .before .before .before .before .before in
     let a = r .before .before .before .before .args in
-    let e = side-done _ _ (r .side-of .result) (a .s .now) (a .side) (r .side-of .ensures .0) (c .before .before .enum-told .given .1) in
-    (search needs, (search needs, (r .side-of .ensures .1 .few, side-sound (a .s .now) (a .side) _ e)))
+    let e = side-done _ _ (r .side-of .result) (a .s .now) (a .side) All (r .side-of .ensures .0) (c .before .before .enum-told .given .1) in
+    (search needs, (search needs, (r .side-of .ensures .1 .few, side-sound (a .s .now) (a .side) All _ e)))
 
 returns : tie.Need-returns
 returns c =
     let r = c .before .before .before .before .before .before .before in
     let a = r .before .before .before .before .args in
-    let e = side-done _ _ (r .side-of .result) (a .s .now) (a .side) (r .side-of .ensures .0) (c .before .before .before .enum-told .given .1) in
-    let runs = requiredRuns (keyedEnvelopes (r .side-of .last .1 .1 .0) (r .side-of .last .1 .1 .1 .0) (r .side-of .result .count))
+    let e = side-done _ _ (r .side-of .result) (a .s .now) (a .side) All (r .side-of .ensures .0) (c .before .before .before .enum-told .given .1) in
+    let runs = requiredRuns (keyedEnvelopes (r .side-of .last .1 .1 .1 .0) (r .side-of .last .1 .1 .1 .1 .0) (r .side-of .result .count))
     (r .side-of .result .continuity) in
     let whole : acceptedRuns (a .s .now) (a .side) ≡ accepted runs = runs-side (a .s .now) (a .side) ∙ rw e in
     rw (whole, c .required-runs .ensures) (ap accepted (runs-stored runs), refl)
@@ -33,7 +34,7 @@ returns-2 c =
     let r = c .before .before .before .before .before in
     let a = r .before .before .before .before .args in
     let x = c .before .outcome .given in
-    let e = side-refused _ _ (r .side-of .result) (a .s .now) (a .side) (r .side-of .ensures .0) (x .0 .0) (x .1) in
+    let e = side-refused _ _ (r .side-of .result) (a .s .now) (a .side) All (r .side-of .ensures .0) (x .0 .0) (x .1) in
     let whole : acceptedRuns (a .s .now) (a .side) ≡ refusal (x .0 .0) = runs-side (a .s .now) (a .side) ∙ rw e in
     rw whole (refl, refl)
 

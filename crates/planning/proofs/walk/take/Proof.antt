@@ -13,13 +13,13 @@ use Rattle.runs.specs.RunList.{lastStation}
 use Rattle.planning.specs.declared.Overhangs.{Overhangs}
 use Rattle.planning.specs.declared.envelope.Tested.{Tested}
 use Rattle.planning.specs.Reply.{testedAnswer, testedHazard}
-use Rattle.planning.proofs.WalkLaws.{level-given, start-given, on-side, envelope-taken, none-taken, five-held, five-first}
+use Rattle.planning.proofs.WalkLaws.{given-anyhow, level-given, start-given, on-side, envelope-taken, none-taken, five-held, five-first}
 use Rattle.planning.proofs.walk.take.Statement.{statement}
 use Rattle.planning.proofs.walk.take.Tie as tie
 
 -- What the test of the hazard said.
 told : (c : tie.After-test-hazard) (r : Tested) → c .test-hazard .result ≡ r
-    → let a = c .before .before .before .before .args in testedAnswer r ≡ testedHazard (a .header) (a .side) (a .index) (a .hazard)
+    → let a = c .before .before .before .before .args in testedAnswer r ≡ testedHazard (a .header) (a .side) (a .window) (a .index) (a .hazard)
 told c r e = ap testedAnswer (sym e) ∙ c .test-hazard .ensures
 
 -- The envelope arm: the side is one of two, so there is room, and level and start fit a key.
@@ -30,17 +30,20 @@ record Own (s : tie.Start) (e : Stretch) (o : Overhangs) : Type 0 where
   start : e .start ≤ lastStation
 
 own : (s : tie.Start) (e : Stretch) (o : Overhangs)
-    → accepted (record { envelopes = e ∷ []; overhangs = o }) ≡ testedHazard (s .args .header) (s .args .side) (s .args .index) (s .args .hazard) → Own s e o
+    → accepted (record { envelopes = e ∷ []; overhangs = o })
+    ≡ testedHazard (s .args .header) (s .args .side) (s .args .window) (s .args .index) (s .args .hazard)
+    → Own s e o
 own s e o p =
     let a = s .args in
     let road = header-bounds (a .header) (s .pre .0) in
     let z = hazard-bounds (a .header) (a .hazard) (s .pre .1 .0) in
-    let level = level-given (a .header) (a .side) (a .index) (a .hazard) e o p in
+    let q = given-anyhow (a .header) (a .side) (a .window) (a .index) (a .hazard) e o p in
+    let level = level-given (a .header) (a .side) (a .index) (a .hazard) e o q in
     record {
-      on = on-side (a .header) (a .side) (a .index) (a .hazard) e o p;
+      on = on-side (a .header) (a .side) (a .index) (a .hazard) e o q;
       low = z .side;
       level = omega (arith, level, z .level-top);
-      start = start-given (a .header) (a .side) (a .index) (a .hazard) e o p (omega (arith, road .road, road .road-end))
+      start = start-given (a .header) (a .side) (a .index) (a .hazard) e o q (omega (arith, road .road, road .road-end))
           (omega (arith, z .long, z .ends, road .road-end));
     }
 
@@ -59,8 +62,8 @@ returns c =
     let s = c .before .before .before .before .before .before .before .before in
     let a = s .args in
     let t = c .before .before .enum-told2 .given in
-    five-held (a .header) (a .side) (a .asked) (a .index) (a .hazard) (a .keys .now) (a .ends .now) (a .noted .now) (a .before) (s .pre .1 .1 .1 .1 .1 .0)
-    (s .pre .1 .1 .1 .1 .0)
+    five-held (a .header) (a .side) (a .window) (a .asked) (a .index) (a .hazard) (a .keys .now) (a .ends .now) (a .noted .now) (a .before)
+    (s .pre .1 .1 .1 .1 .1 .0) (s .pre .1 .1 .1 .1 .0)
     (t .0 .0) (told (c .before .before .before .before) _ (t .1)) (c .if2 .taken)
 
 returns-2 : tie.Need-returns-2
@@ -70,8 +73,8 @@ returns-2 c =
     let a = s .args in
     let z = e .envelope .given .0 .0 in
     rw (c .before .key-of .ensures)
-    (envelope-taken (a .header) (a .side) (a .asked) (a .index) (a .hazard) (a .keys .now) (a .ends .now) (a .noted .now) (a .before) (s .pre .1 .1 .1 .1 .1 .0)
-    (s .pre .1 .1 .1 .1 .0)
+    (envelope-taken (a .header) (a .side) (a .window) (a .asked) (a .index) (a .hazard) (a .keys .now) (a .ends .now) (a .noted .now) (a .before)
+    (s .pre .1 .1 .1 .1 .1 .0) (s .pre .1 .1 .1 .1 .0)
     (z .stretch) (z .overhangs) (c .greater-of .result) (told (e .before .before) _ (e .envelope .given .1)) (c .greater-of .ensures) (taken e .low)
     (omega (arith, s .pre .1 .1 .0, s .pre .1 .1 .1 .0)) (room e .0) (room e .1) (omega (arith, taken e .level)))
 
@@ -80,8 +83,8 @@ returns-3 c =
     let t = c .before .before .before .before .before in
     let s = t .before .before .before .before .before .before in
     let a = s .args in
-    none-taken (a .header) (a .side) (a .asked) (a .index) (a .hazard) (a .keys .now) (a .ends .now) (a .noted .now) (a .before) (s .pre .1 .1 .1 .1 .1 .0)
-    (s .pre .1 .1 .1 .1 .0)
+    none-taken (a .header) (a .side) (a .window) (a .asked) (a .index) (a .hazard) (a .keys .now) (a .ends .now) (a .noted .now) (a .before)
+    (s .pre .1 .1 .1 .1 .1 .0) (s .pre .1 .1 .1 .1 .0)
     _ (told (t .before .before) _ (t .enum-told .given .1))
     (λ high. simp (eq-eqb (a .index) (a .asked) (c .before .before .before .before .if1 .taken)) (c .before .before .note .ensures))
 
@@ -90,7 +93,7 @@ returns-4 c =
     let t = c .before in
     let s = t .before .before .before .before .before .before in
     let a = s .args in
-    none-taken (a .header) (a .side) (a .asked) (a .index) (a .hazard) (a .keys .now) (a .ends .now) (a .noted .now) (a .before)
+    none-taken (a .header) (a .side) (a .window) (a .asked) (a .index) (a .hazard) (a .keys .now) (a .ends .now) (a .noted .now) (a .before)
     (s .pre .1 .1 .1 .1 .1 .0) (s .pre .1 .1 .1 .1 .0)
     (a .noted .now) (told (t .before .before) _ (t .enum-told .given .1)) (λ high. simp (ne-eqb (a .index) (a .asked) (c .if1 .left)))
 
@@ -99,8 +102,8 @@ returns-5 c =
     let t = c .before .before .before in
     let s = t .before .before .before .before .before .before in
     let a = s .args in
-    five-first (a .header) (a .side) (a .asked) (a .index) (a .hazard) (a .keys .now) (a .ends .now) (a .noted .now) (a .before) (s .pre .1 .1 .1 .1 .1 .0)
-    (s .pre .1 .1 .1 .1 .0)
+    five-first (a .header) (a .side) (a .window) (a .asked) (a .index) (a .hazard) (a .keys .now) (a .ends .now) (a .noted .now) (a .before)
+    (s .pre .1 .1 .1 .1 .1 .0) (s .pre .1 .1 .1 .1 .0)
     (t .enum-told2 .given .0 .0) (told (t .before .before) _ (t .enum-told2 .given .1)) (c .before .if2 .left) (s .pre .1 .1 .0)
 
 pub take-spec : {M : Type 1} → statement M

@@ -16,12 +16,12 @@ use Rattle.planning.proofs.walk.walk.Statement.{statement}
 use Rattle.planning.proofs.walk.walk.Tie as tie
 
 abbrev Inv-loop : tie.InvT-loop
-Inv-loop s first header given side asked keys₀ ends₀ noted₀ count taken₀ at₀ i₀ keys ends noted taken at i =
-    SoFar header (givenHazards given) side asked s first noted₀ keys ends noted taken at i × (length keys ≡ length keys₀) × (length ends ≡ length ends₀)
+Inv-loop s first header given side window asked keys₀ ends₀ noted₀ count taken₀ at₀ i₀ keys ends noted taken at i =
+    SoFar header (givenHazards given) side window asked s first noted₀ keys ends noted taken at i × (length keys ≡ length keys₀) × (length ends ≡ length ends₀)
     × (length noted ≡ length noted₀)
 
 abbrev μ-loop : tie.MeasureT-loop
-μ-loop s first header given side asked keys₀ ends₀ noted₀ count taken₀ at₀ i₀ keys ends noted taken at i = header .count - i
+μ-loop s first header given side window asked keys₀ ends₀ noted₀ count taken₀ at₀ i₀ keys ends noted taken at i = header .count - i
 
 abbrev begin : tie.After-nothing Inv-loop μ-loop → tie.Start Inv-loop μ-loop
 begin c = c .before .before .before .before .before .before
@@ -30,8 +30,8 @@ loop-holds : tie.Need-loop-holds Inv-loop μ-loop
 loop-holds c =
     let s = begin c in
     let a = s .args in (
-      rw (c .nothing .ensures) (walk-begun (a .header) (givenHazards (a .given .now)) (a .side) (a .asked) (a .s .now) (a .first) (a .noted .now) (a .keys .now)
-          (a .ends .now) (s .pre .1 .1)),
+      rw (c .nothing .ensures) (walk-begun (a .header) (givenHazards (a .given .now)) (a .side) (a .window) (a .asked) (a .s .now) (a .first) (a .noted .now)
+          (a .keys .now) (a .ends .now) (s .pre .1 .1)),
       refl,
       refl,
       refl,
@@ -92,8 +92,9 @@ loop-again c =
     let s = begin (t .before .before .before) in
     let a = s .args in
     let l = t .before .before .loop in (
-      walk-next (a .header) (givenHazards (a .given .now)) (a .side) (a .asked) (a .s .now) (a .first) (a .noted .now) (l .inv .0) (t .before .loop-test .taken)
-          (hazardAnswer (t .next-hazard .result)) (t .next-hazard .ensures) (ap hazardAnswer (h .hazard .given .1)) (k .take .ensures) (k .take .kept .0)
+      walk-next (a .header) (givenHazards (a .given .now)) (a .side) (a .window) (a .asked) (a .s .now) (a .first) (a .noted .now) (l .inv .0)
+          (t .before .loop-test .taken) (hazardAnswer (t .next-hazard .result)) (t .next-hazard .ensures)
+          (ap hazardAnswer (h .hazard .given .1)) (k .take .ensures) (k .take .kept .0)
           (k .take .kept .1 .0) (k .take .kept .1 .1 .0),
       k .take .kept .0 ∙ l .inv .1,
       k .take .kept .1 .0 ∙ l .inv .2,
@@ -106,8 +107,8 @@ returns c =
     let t = r .before .before in
     let a = begin (t .before .before .before) .args in
     rw (c .refused .ensures)
-    (walk-refused (a .header) (givenHazards (a .given .now)) (a .side) (a .asked) (a .s .now) (a .first) (a .noted .now) (t .before .before .loop .inv .0)
-    (t .before .loop-test .taken)
+    (walk-refused (a .header) (givenHazards (a .given .now)) (a .side) (a .window) (a .asked) (a .s .now) (a .first) (a .noted .now)
+    (t .before .before .loop .inv .0) (t .before .loop-test .taken)
     (hazardAnswer (t .next-hazard .result)) (t .next-hazard .ensures) (r .refusal .given .0 .0) (ap hazardAnswer (r .refusal .given .1)))
 
 returns-2 : tie.Need-returns-2 Inv-loop μ-loop
@@ -115,7 +116,7 @@ returns-2 c =
     let l = c .before .before .before in
     let a = begin (l .before) .args in
     rw (c .refused2 .ensures)
-    (walk-over (a .header) (givenHazards (a .given .now)) (a .side) (a .asked) (a .s .now) (a .first) (a .noted .now) (l .loop .inv .0)
+    (walk-over (a .header) (givenHazards (a .given .now)) (a .side) (a .window) (a .asked) (a .s .now) (a .first) (a .noted .now) (l .loop .inv .0)
     (c .before .before .loop-test .left) (c .before .if1 .taken))
 
 returns-3 : tie.Need-returns-3 Inv-loop μ-loop
@@ -123,14 +124,14 @@ returns-3 c =
     let l = c .before .before .before .before .before in
     let a = begin (l .before) .args in
     rw (c .refused3 .ensures)
-    (walk-near (a .header) (givenHazards (a .given .now)) (a .side) (a .asked) (a .s .now) (a .first) (a .noted .now) (l .loop .inv .0)
+    (walk-near (a .header) (givenHazards (a .given .now)) (a .side) (a .window) (a .asked) (a .s .now) (a .first) (a .noted .now) (l .loop .inv .0)
     (c .before .before .before .before .loop-test .left) (c .before .before .before .if1 .left) (c .before .if2 .taken))
 
 returns-4 : tie.Need-returns-4 Inv-loop μ-loop
 returns-4 c =
     let l = c .before .before .before .before in
     let a = begin (l .before) .args in
-    walk-done (a .header) (givenHazards (a .given .now)) (a .side) (a .asked) (a .s .now) (a .first) (a .noted .now) (l .loop .inv .0)
+    walk-done (a .header) (givenHazards (a .given .now)) (a .side) (a .window) (a .asked) (a .s .now) (a .first) (a .noted .now) (l .loop .inv .0)
     (c .before .before .before .loop-test .left) (c .before .before .if1 .left) (c .if2 .left)
 
 pub walk-spec : {M : Type 1} → statement M
