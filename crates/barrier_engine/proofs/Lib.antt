@@ -7,5 +7,7 @@ pub mod Replaced
 pub mod Shell
 pub mod States
 pub mod Steps
+pub mod Passes
+pub mod Lent
 pub mod Tests
 pub mod Walks

@@ -36,7 +36,7 @@ abbrev stays : (Ds : List Data) → Stays (slots 1 Ds) (kepts 1 Ds)
 stays [] = tt
 stays (D ∷ Ds) = (stay-none (λ _. D .row) yes, stays Ds)
 
-silent : (D : Data) (x : D .row .Denot) (f : Last (D .row .exit yes) x) → left (D .row .exit yes) x f ≡ ftrue
+pub silent : (D : Data) (x : D .row .Denot) (f : Last (D .row .exit yes) x) → left (D .row .exit yes) x f ≡ ftrue
 silent D = subst (λ (e : Exit (D .row .Denot)). (x : D .row .Denot) (f : Last e x) → left e x f ≡ ftrue) (sym (D .still yes)) (λ x f. refl)
 
 module _ (κs : Lfts 1) where

@@ -1,11 +1,17 @@
 // The calls on an open job, which is changed in the caller's memory: thin shells over the calls by value. A shell takes the memory apart
 // field by field, so that two or three states are on its stack, and never all nine.
+use job::NamedHazard;
 use open_job::OpenStates;
-use open_job::kept::also_sound;
 use open_job::kept::choose;
+use open_job::kept::extent_of;
 use open_job::kept::kept_from;
 use open_job::kept::nothing_kept;
+use open_job::kept::places_pass;
 use open_memory::GivenHazard;
+use open_memory::rules::Limits;
+use open_memory::rules::limits_of;
+use open_memory::rules::next_low;
+use open_memory::rules::with_bits;
 use replies::PlanReply;
 use replies::ReachReply;
 use replies::Reply;
@@ -21,23 +27,100 @@ ghost use lib.ListN.{length};
 ghost use Rattle.schedule.specs.Plan.{bytesWritten, outputAfter};
 ghost use Rattle.open_memory.specs.Memory.{hazardGiven};
 ghost use Rattle.open_job.specs.States.{allSound};
+ghost use Rattle.open_job.specs.Parts.{alsoSound};
 ghost use Rattle.open_job.specs.Calls.{memoryAfter, openStates, addIn, withdrawIn, scheduleIn, reachIn, keepIn, returnIn};
 ghost use Rattle.base.specs.Answer.{replied};
 ghost use Rattle.replies.specs.Interface.{replyOf, planReplyOf, reachReplyOf};
+
+// Is one kept state sound, behind others that are or are not: nothing, or the places of an open job. They are lent, so that none is copied, and
+// every one is passed without a branch.
+fn also_sound(
+    before: bool,
+    limits: Limits,
+    used: u64,
+    count: u64,
+    places: &[NamedHazard; 256],
+) -> bool
+    ensures { λ r. ⌜ r ≡ alsoSound before limits used count (now (places .entry)) ⌝ }
+{
+    let extent = extent_of(before, limits, used, count);
+    let mut low: u32 = 0;
+    let mut bits: u64 = 0;
+    let mut i: usize = 0;
+    while i < extent.end {
+        low = next_low(limits, low, places[i]);
+        i += 1;
+    }
+    while i < 256 {
+        bits = with_bits(bits, places[i]);
+        i += 1;
+    }
+    places_pass(extent.sound, low, bits)
+}
 
 // Is all that is kept sound. Every call but opening asks this first.
 fn all_sound(job: &OpenStates) -> bool
     ensures { λ r. ⌜ r ≡ allSound (now (job .entry)) ⌝ }
 {
     let header = (*job).present.header;
-    let mut sound = also_sound(true, header, (*job).kept0);
-    sound = also_sound(sound, header, (*job).kept1);
-    sound = also_sound(sound, header, (*job).kept2);
-    sound = also_sound(sound, header, (*job).kept3);
-    sound = also_sound(sound, header, (*job).kept4);
-    sound = also_sound(sound, header, (*job).kept5);
-    sound = also_sound(sound, header, (*job).kept6);
-    sound = also_sound(sound, header, (*job).kept7);
+    let limits = limits_of(header);
+    let mut sound = true;
+    sound = also_sound(
+        sound,
+        limits,
+        (*job).kept0.used,
+        (*job).kept0.count,
+        &(*job).kept0.hazards,
+    );
+    sound = also_sound(
+        sound,
+        limits,
+        (*job).kept1.used,
+        (*job).kept1.count,
+        &(*job).kept1.hazards,
+    );
+    sound = also_sound(
+        sound,
+        limits,
+        (*job).kept2.used,
+        (*job).kept2.count,
+        &(*job).kept2.hazards,
+    );
+    sound = also_sound(
+        sound,
+        limits,
+        (*job).kept3.used,
+        (*job).kept3.count,
+        &(*job).kept3.hazards,
+    );
+    sound = also_sound(
+        sound,
+        limits,
+        (*job).kept4.used,
+        (*job).kept4.count,
+        &(*job).kept4.hazards,
+    );
+    sound = also_sound(
+        sound,
+        limits,
+        (*job).kept5.used,
+        (*job).kept5.count,
+        &(*job).kept5.hazards,
+    );
+    sound = also_sound(
+        sound,
+        limits,
+        (*job).kept6.used,
+        (*job).kept6.count,
+        &(*job).kept6.hazards,
+    );
+    sound = also_sound(
+        sound,
+        limits,
+        (*job).kept7.used,
+        (*job).kept7.count,
+        &(*job).kept7.hazards,
+    );
     sound
 }
 

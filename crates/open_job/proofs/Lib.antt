@@ -1,6 +1,6 @@
 pub mod NumberLaws
 pub mod CallLaws
 pub mod LayoutLaws
-pub mod UnusedLaws
 pub mod StateLaws
+pub mod SoundLaws
 pub mod WholeLaws

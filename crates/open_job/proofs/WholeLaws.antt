@@ -22,11 +22,25 @@ use Rattle.open_job.specs.States.{areOpenStates}
 use Rattle.open_job.specs.Calls.{memoryAfter, openJob, openStates, underRules, changedIn, testState, keepIn, keptJob, returnIn}
 use Rattle.open_job.specs.Parts.{chosen, eachSound, Carries, eachChosen, Keeps, lookedFor, afterOpening}
 use Rattle.open_job.proofs.StateLaws.{replaced}
+use Rattle.open_job.proofs.SoundLaws.{kept-sound}
 
 module _ (m : OpenStates) where
   pub test-whole : eachSound m ≡ allSound m
   unfolding allOf
-  test-whole = simp (and-assoc, and-true)
+  test-whole =
+      let h = m .present .header in
+      simp (
+        kept-sound h (m .kept0),
+        kept-sound h (m .kept1),
+        kept-sound h (m .kept2),
+        kept-sound h (m .kept3),
+        kept-sound h (m .kept4),
+        kept-sound h (m .kept5),
+        kept-sound h (m .kept6),
+        kept-sound h (m .kept7),
+        and-assoc,
+        and-true,
+      )
 
   -- Add, withdraw and return: what a call makes of the present state is carried over into the whole memory.
   pub change-whole : (call : Answer StoredJob) → Carries m (underRules (areOpenStates m) call) (changedIn m call)

@@ -1,31 +1,42 @@
 -- The steps of the calls on the parts of the memory, one kept state at a time.
 -- Assumes nothing.
-use Prim.Native.Nat.{ℕ, _+_, _*_}
+use Prim.Native.Nat.{ℕ}
 use mathlib.Core.Path.{_≡_}
-use mathlib.Core.Bool.{Bool, true, _&&_}
-use lib.Dec.{eqb}
-use lib.ListN.{replicate}
+use mathlib.Core.Bool.{Bool, true, false, _&&_}
+use mathlib.Core.List.{List}
+use lib.Dec.{leb, eqb}
+use lib.ListN.{take, drop, replicate}
 use Rattle.base.specs.Choice.{if_then_else_}
 use Rattle.base.specs.Answer.{Answer, isAccepted, replied}
-use Rattle.job.specs.declared.Header.{Header}
 use Rattle.job.specs.declared.NamedHazard.{NamedHazard}
 use Rattle.job.specs.declared.StoredJob.{StoredJob}
+use Rattle.open_memory.specs.declared.rules.Limits.{Limits}
+use Rattle.open_memory.specs.Memory.{mostStanding}
+use Rattle.open_memory.specs.Steps.{limitsOf, lowAfter, bitsAfter}
+use Rattle.open_job.specs.declared.Extent.{Extent}
 use Rattle.open_job.specs.declared.KeptState.{KeptState}
 use Rattle.open_job.specs.declared.OpenStates.{OpenStates}
-use Rattle.open_job.specs.States.{mostKept, nothingKept, keptSound, keptFrom, keptStates, statesFrom}
+use Rattle.open_job.specs.States.{mostKept, nothingKept, keptFrom, keptStates, statesFrom}
 use Rattle.open_job.specs.Calls.{memoryAfter}
-
--- A place, as it is compared with 0
-
--- A place's numbers of fewer than 64 bits side by side, as they lie in memory: the offsets in the lower 32 bits, then name, side and level.
-abbrev pub restOf : NamedHazard → ℕ
-restOf p = p .near + p .far * 65536 + p .name * 4294967296 + p .side * 281474976710656 + p .level * 72057594037927936
 
 -- One kept state
 
--- What is kept under the numbers before is sound, and so is this.
-abbrev pub alsoSound : (before : Bool) → Header → KeptState → Bool
-alsoSound before h k = before && keptSound h k
+-- Nothing is kept under a number, or the places of an open job are: how many hazards stand, and whether this much is sound, behind other states.
+unfoldable pub extentOf : (before : Bool) → Limits → (used count : ℕ) → Extent
+extentOf before l used count =
+    if eqb used 1
+    then (if l .fits && leb count mostStanding then record { sound = before; end = count } else record { sound = false; end = 0 })
+    else record { sound = before && eqb used 0 && eqb count 0; end = 0 }
+
+-- No name is out of order, and no bit stands behind the hazards.
+abbrev pub placesPass : (sound : Bool) → (low bits : ℕ) → Bool
+placesPass sound low bits = sound && leb low 65536 && eqb bits 0
+
+-- The state's places are tested, and those before it are sound.
+unfoldable pub alsoSound : (before : Bool) → Limits → (used count : ℕ) → List NamedHazard → Bool
+alsoSound before l used count ps =
+    let e = extentOf before l used count in
+    placesPass (e .sound) (lowAfter l 0 (take (e .end) ps)) (bitsAfter 0 (drop (e .end) ps))
 
 -- The new one where it is asked for and the numbers are equal, else the old one.
 unfoldable pub chosen : (asked : Bool) → (number own : ℕ) → (new old : KeptState) → KeptState
@@ -37,11 +48,10 @@ module _ (m : OpenStates) where
   -- The kept states, tested one after the other.
   abbrev pub eachSound : Bool
   eachSound =
-      let h : Header = m .present .header in
-      let to1 : Bool = alsoSound (alsoSound true h (m .kept0)) h (m .kept1) in
-      let to3 : Bool = alsoSound (alsoSound to1 h (m .kept2)) h (m .kept3) in
-      let to5 : Bool = alsoSound (alsoSound to3 h (m .kept4)) h (m .kept5) in
-      alsoSound (alsoSound to5 h (m .kept6)) h (m .kept7)
+      let l : Limits = limitsOf (m .present .header) in
+      let one : Bool → KeptState → Bool = λ before k. alsoSound before l (k .used) (k .count) (k .hazards) in
+      let to3 : Bool = one (one (one (one true (m .kept0)) (m .kept1)) (m .kept2)) (m .kept3) in
+      one (one (one (one to3 (m .kept4)) (m .kept5)) (m .kept6)) (m .kept7)
 
   -- What a call makes of the present state is what the call on the whole memory makes of that, and what is kept stays.
   abbrev pub Carries : Answer StoredJob → Answer OpenStates → Type 0

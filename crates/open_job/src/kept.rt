@@ -1,14 +1,14 @@
 // One kept state: its rules, made and taken back.
+use super::Extent;
 use super::KeptState;
-use super::unused::all_unused;
 use job::Header;
 use job::StoredJob;
 use job::UNUSED;
 use open_memory::places::with_count;
-use open_memory::rules::is_open_job;
+use open_memory::rules::Limits;
 ghost use mathlib.Core.Path.{_≡_};
-ghost use Rattle.open_job.specs.States.{nothingKept, keptFrom, stateOf, isUsed, isNothingKept, keptSound};
-ghost use Rattle.open_job.specs.Parts.{alsoSound, chosen};
+ghost use Rattle.open_job.specs.States.{nothingKept, keptFrom, stateOf, isUsed};
+ghost use Rattle.open_job.specs.Parts.{extentOf, placesPass, chosen};
 
 // The open job, kept.
 pub fn kept_from(present: StoredJob) -> KeptState
@@ -40,41 +40,36 @@ pub fn is_used(kept: KeptState) -> bool
     kept.used == 1
 }
 
-// All is 0.
-fn is_nothing_kept(kept: KeptState) -> bool
-    ensures { λ r. ⌜ r ≡ isNothingKept kept ⌝ }
+// Nothing is kept under a number, or the places of an open job are: how many hazards stand, and whether this much is sound, behind other
+// states that are or are not.
+pub fn extent_of(before: bool, limits: Limits, used: u64, count: u64) -> Extent
+    ensures { λ r. ⌜ r ≡ extentOf before limits used count ⌝ }
 {
-    if kept.used == 0 {
-        if kept.count == 0 {
-            all_unused(kept)
+    if used == 1 {
+        if limits.fits & (count <= 256) {
+            Extent {
+                sound: before,
+                end: count as usize,
+            }
         } else {
-            false
+            Extent {
+                sound: false,
+                end: 0,
+            }
         }
     } else {
-        false
+        Extent {
+            sound: before & (used == 0) & (count == 0),
+            end: 0,
+        }
     }
 }
 
-// It keeps the rules: nothing is kept, or an open job is.
-fn kept_sound(header: Header, kept: KeptState) -> bool
-    ensures { λ r. ⌜ r ≡ keptSound header kept ⌝ }
+// The answer, once every place has been passed: no name out of order, and no bit behind the hazards.
+pub fn places_pass(sound: bool, low: u32, bits: u64) -> bool
+    ensures { λ r. ⌜ r ≡ placesPass sound low bits ⌝ }
 {
-    if is_used(kept) {
-        is_open_job(state_of(header, kept))
-    } else {
-        is_nothing_kept(kept)
-    }
-}
-
-// What is kept under the numbers before is sound, and so is this.
-pub fn also_sound(before: bool, header: Header, kept: KeptState) -> bool
-    ensures { λ r. ⌜ r ≡ alsoSound before header kept ⌝ }
-{
-    if before {
-        kept_sound(header, kept)
-    } else {
-        false
-    }
+    sound & (low <= 65536) & (bits == 0)
 }
 
 // The new one where it is asked for and the numbers are equal, else the old one.

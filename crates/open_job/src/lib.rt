@@ -5,7 +5,6 @@ use refusal::Outcome;
 
 pub mod calls; // the calls on the parts of the memory, by value
 pub mod kept; // one kept state: its rules, made and taken back
-mod unused; // are all places of a kept state 0
 
 // What is kept under a number. Nothing: all is 0. A state: used is 1, and its names and hazards stand as in an open job, whose header is
 // that of the present state.
@@ -28,6 +27,12 @@ pub struct OpenStates {
     pub kept5: KeptState,
     pub kept6: KeptState,
     pub kept7: KeptState,
+}
+
+// How many hazards stand in a state, and whether all that is known beside its places is sound.
+pub struct Extent {
+    pub sound: bool,
+    pub end: usize,
 }
 
 // How a call ended, and the present state after it.

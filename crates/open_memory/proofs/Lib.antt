@@ -3,3 +3,4 @@ pub mod RuleLaws
 pub mod OrderLaws
 pub mod PlaceLaws
 pub mod WalkLaws
+pub mod LimitLaws

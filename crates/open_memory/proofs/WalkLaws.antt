@@ -3,21 +3,21 @@
 use Prim.Native.Nat.{ℕ, suc, _+_, _-_, _≤_, _<_}
 use native.Mathlib.Omega.{arith}
 use native.Mathlib.Decide.{ℕ-discrete}
-use native.Mathlib.Nat.{zero-add, add-zero}
+use native.Mathlib.Nat.{zero-add}
 use native.Mathlib.Numerals.{add-one}
 use mathlib.Core.Path.{_≡_, refl, sym, ap, ap₂, subst, _∙_}
-use mathlib.Core.Bool.{Bool, true, false, _&&_}
+use mathlib.Core.Bool.{true, false}
 use mathlib.Core.List.{List, [], _∷_, _++_, append-assoc, append-nil}
-use lib.ListN.{length, getD, set, take, drop, replicate, length-set, length-append, drop-of-length-le}
-use lib.Seq.{drop-cons, take-take, getD-take, getD-drop, take-suc-set, length-take-le, drop-set-lt, drop-drop, set-split}
+use lib.ListN.{length, getD, set, take, drop, replicate, length-set, length-append, length-drop, drop-of-length-le}
+use lib.Seq.{drop-cons, take-take, getD-take, getD-drop, take-suc-set, length-take-le, drop-set-lt, drop-drop, set-split, take-set-le, drop-append-seam}
 use lib.Dec.{ltb, eqb}
 use borrow.Author.Tests.{lt-ltb, le-ltb, eq-eqb, ne-eqb}
-use Rattle.base.specs.Choice.{if_then_else_, allOf}
+use Rattle.base.specs.Choice.{if_then_else_}
 use Rattle.job.specs.declared.NamedHazard.{NamedHazard}
 use Rattle.job.specs.declared.StoredJob.{StoredJob}
 use Rattle.job.specs.Reply.{unused}
-use Rattle.open_memory.specs.Memory.{standing, laidOut, stands, isUnused, isOpenJob}
-use Rattle.open_memory.specs.Steps.{inOrderFrom, allInOrder, ZerosAfter, rank, putAt, takenAt}
+use Rattle.open_memory.specs.Memory.{standing, laidOut, stands, isOpenJob}
+use Rattle.open_memory.specs.Steps.{ZerosAfter, rank, putAt, takenAt}
 use Rattle.open_memory.proofs.RuleLaws.{open-count, open-standing}
 use Rattle.open_memory.proofs.PlaceLaws.{stands-place, not-at-place}
 use Rattle.job.specs.Job.{counted}
@@ -28,24 +28,17 @@ behind l i h = drop-cons l i unused h ∙ ap (λ (n : ℕ). getD l i unused ∷ 
 
 -- What is known in each loop
 
-pub record OrderLeft (job : StoredJob) (low i : ℕ) : Type 0 where
-  pub most : i ≤ job .header .count
-  pub same : allInOrder (job .header) low (drop i (standing job)) ≡ allInOrder (job .header) 0 (standing job)
-
-pub record UnusedLeft (job : StoredJob) (i : ℕ) : Type 0 where
-  pub most : i ≤ 256
-  pub same : allOf isUnused (drop i (job .hazards)) ≡ allOf isUnused (drop (job .header .count) (job .hazards))
-
 pub record RankLeft (job : StoredJob) (name i : ℕ) : Type 0 where
   pub most : i ≤ job .header .count
   pub same : i + rank name (drop i (standing job)) ≡ rank name (standing job)
 
--- The hazards before index i are in place, the one moved is to stand there, and the others are as they were.
-pub record MovingUp (job : StoredJob) (at : ℕ) (new : NamedHazard) (hazards : List NamedHazard) (moved : NamedHazard) (i : ℕ) : Type 0 where
+-- The hazards from index i on stand one place up, and those before it are as they were.
+pub record MovingUp (job : StoredJob) (at : ℕ) (hazards : List NamedHazard) (i : ℕ) : Type 0 where
   pub most : i ≤ job .header .count
+  pub least : at ≤ i
   pub room : length hazards ≡ 256
-  pub rest : drop i hazards ≡ drop i (job .hazards)
-  pub same : take i hazards ++ moved ∷ drop i (standing job) ≡ putAt at new (standing job)
+  pub front : take i hazards ≡ take i (job .hazards)
+  pub moved : drop (suc i) hazards ≡ drop i (standing job) ++ replicate (256 - (job .header .count + 1)) unused
 
 -- The hazards before index i are in place, the one there is to go, and the others are as they were.
 pub record MovingDown (job : StoredJob) (at : ℕ) (hazards : List NamedHazard) (i : ℕ) : Type 0 where
@@ -66,61 +59,6 @@ module _ (job : StoredJob) (size : length (job .hazards) ≡ 256) (few : job .he
 
   none-ahead : (i : ℕ) → job .header .count ≤ i → drop i (standing job) ≡ []
   none-ahead i e = drop-of-length-le (standing job) {i = i} (omega (arith, standing-length))
-
-  -- Names and ranges
-
-  pub order-start : OrderLeft job 0 0
-  order-start = record { most = omega arith; same = refl }
-
-  module _ {low i : ℕ} (left : OrderLeft job low i) (l : i < job .header .count) where
-    abbrev one : Bool
-    one = inOrderFrom (job .header) low (getD (job .hazards) i unused)
-
-    turned : (one && allInOrder (job .header) (getD (job .hazards) i unused .name + 1) (drop (i + 1) (standing job)))
-        ≡ allInOrder (job .header) 0 (standing job)
-    unfolding allInOrder
-    turned = sym (ap (allInOrder (job .header) low) (ahead i l)) ∙ left .same
-
-    pub order-next : one ≡ true → OrderLeft job (getD (job .hazards) i unused .name + 1) (i + 1)
-    order-next e = record {
-      most = omega arith;
-      same = subst (λ (b : Bool). (b && allInOrder (job .header) (getD (job .hazards) i unused .name + 1) (drop (i + 1) (standing job)))
-          ≡ allInOrder (job .header) 0 (standing job)) e turned;
-    }
-
-    pub order-not : one ≡ false → false ≡ allInOrder (job .header) 0 (standing job)
-    order-not e = subst (λ (b : Bool). (b && allInOrder (job .header) (getD (job .hazards) i unused .name + 1) (drop (i + 1) (standing job)))
-        ≡ allInOrder (job .header) 0 (standing job)) e turned
-
-  pub order-all : {low i : ℕ} → OrderLeft job low i → job .header .count ≤ i → true ≡ allInOrder (job .header) 0 (standing job)
-  unfolding allInOrder
-  order-all {low} {i} left e = sym (ap (allInOrder (job .header) low) (none-ahead i e)) ∙ left .same
-
-  -- The places behind them
-
-  pub unused-start : UnusedLeft job (job .header .count)
-  unused-start = record { most = few; same = refl }
-
-  module _ {i : ℕ} (left : UnusedLeft job i) (l : i < 256) where
-    unused-turn : (isUnused (getD (job .hazards) i unused) && allOf isUnused (drop (i + 1) (job .hazards)))
-        ≡ allOf isUnused (drop (job .header .count) (job .hazards))
-    unfolding allOf
-    unused-turn = sym (ap (allOf isUnused) (behind (job .hazards) i (omega arith))) ∙ left .same
-
-    pub unused-next : isUnused (getD (job .hazards) i unused) ≡ true → UnusedLeft job (i + 1)
-    unused-next e = record {
-      most = omega arith;
-      same =
-          subst (λ (b : Bool). (b && allOf isUnused (drop (i + 1) (job .hazards))) ≡ allOf isUnused (drop (job .header .count) (job .hazards))) e unused-turn;
-    }
-
-    pub unused-not : isUnused (getD (job .hazards) i unused) ≡ false → false ≡ allOf isUnused (drop (job .header .count) (job .hazards))
-    unused-not e =
-        subst (λ (b : Bool). (b && allOf isUnused (drop (i + 1) (job .hazards))) ≡ allOf isUnused (drop (job .header .count) (job .hazards))) e unused-turn
-
-  pub unused-all : {i : ℕ} → UnusedLeft job i → 256 ≤ i → true ≡ allOf isUnused (drop (job .header .count) (job .hazards))
-  unfolding allOf
-  unused-all {i} left e = sym (ap (allOf isUnused) (drop-of-length-le (job .hazards) {i = i} (omega arith))) ∙ left .same
 
   -- The place of a name
 
@@ -172,45 +110,57 @@ module _ (job : StoredJob) (size : length (job .hazards) ≡ 256) (clear : Zeros
 
   -- Putting in
   module _ (few : job .header .count < 256) (at : ℕ) (within : at ≤ job .header .count) (new : NamedHazard) where
-    pub up-start : MovingUp job at new (job .hazards) new at
+    abbrev zeros : List NamedHazard
+    zeros = replicate (256 - (job .header .count + 1)) unused
+
+    pub up-start : MovingUp job at (job .hazards) (job .header .count)
     up-start = record {
-      most = within;
+      most = omega arith;
+      least = within;
       room = size;
-      rest = refl;
-      same = ap (λ (l : List NamedHazard). l ++ new ∷ drop at (standing job)) (sym (take-take at (job .header .count) (job .hazards) within));
+      front = refl;
+      moved = unused-tail (job .header .count) (job .hazards) few (clear .behind)
+          ∙ ap (λ (l : List NamedHazard). l ++ zeros) (sym (none-ahead job size (omega arith) (job .header .count) (omega arith)));
     }
 
-    pub up-next : {hazards : List NamedHazard} {moved : NamedHazard} {i : ℕ} → MovingUp job at new hazards moved i → i < job .header .count
-        → MovingUp job at new (set hazards i moved) (getD hazards i unused) (i + 1)
-    up-next {hazards} {moved} {i} so l =
-        let next : getD hazards i unused ≡ getD (job .hazards) i unused = rw (add-zero i) at (rest-element (job .hazards) hazards i 0 (so .rest)) in
+    pub up-next : {hazards : List NamedHazard} {i : ℕ} → MovingUp job at hazards i → at < i → MovingUp job at (set hazards i (getD hazards (i - 1) unused))
+        (i - 1)
+    up-next {hazards} {i} so l =
+        let k = i - 1 in
+        let x = getD hazards k unused in
+        let up : suc k ≡ i = omega arith in
+        let next : x ≡ getD (job .hazards) k unused = sym (getD-take i hazards k unused (omega arith)) ∙ ap (λ (q : List NamedHazard). getD q k unused) (so
+        .front)
+        ∙ getD-take i (job .hazards) k unused (omega arith) in
+        let behind-it : drop i (set hazards i x) ≡ x ∷ drop (suc i) hazards = ap (drop i) (set-split hazards i x (omega (arith, so .room, so .most)))
+        ∙ subst (λ (n : ℕ). drop n (take i hazards ++ x ∷ drop (suc i) hazards) ≡ x ∷ drop (suc i) hazards)
+        (length-take-le i hazards (omega (arith, so .room, so .most))) (drop-append-seam (take i hazards) (x ∷ drop (suc i) hazards)) in
         record {
-          most = omega arith;
+          most = omega (arith, so .most);
+          least = omega arith;
           room = rw length-set (so .room);
-          rest = rest-next (job .hazards) hazards i moved (so .rest);
-          same =
-              stored-behind hazards moved i (omega (arith, so .room)) (getD hazards i unused ∷ drop (i + 1) (standing job))
-              ∙ ap (λ (l : List NamedHazard). take i hazards ++ moved ∷ l)
-              (ap (λ (p : NamedHazard). p ∷ drop (i + 1) (standing job)) next ∙ sym (ahead job size (omega arith) i l))
-              ∙ so .same;
+          front = take-set-le k hazards i x (omega arith) ∙ sym (take-take k i hazards (omega arith)) ∙ ap (take k) (so .front)
+              ∙ take-take k i (job .hazards) (omega arith);
+          moved = ap (λ (n : ℕ). drop n (set hazards i x)) up ∙ behind-it ∙ ap (λ (q : List NamedHazard). x ∷ q) (so .moved)
+              ∙ ap (λ (q : List NamedHazard). q ++ zeros)
+              (ap₂ (λ (p : NamedHazard) (n : ℕ). p ∷ drop n (standing job)) next (sym up ∙ sym (add-one k)) ∙ sym (ahead job size (omega arith) k (omega
+              (arith, so .most))));
         }
 
-    pub up-end : {hazards : List NamedHazard} {moved : NamedHazard} {i : ℕ} → MovingUp job at new hazards moved i → job .header .count ≤ i
-        → record { header = counted (job .header) (job .header .count + 1); hazards = set hazards (job .header .count) moved }
-        ≡ laidOut (job .header) (putAt at new (standing job))
-    up-end {hazards} {moved} {i} so e =
+    pub up-end : {hazards : List NamedHazard} {i : ℕ} → MovingUp job at hazards i → i ≤ at
+        → record { header = counted (job .header) (job .header .count + 1); hazards = set hazards at new } ≡ laidOut (job .header) (putAt at new (standing job))
+    up-end {hazards} {i} so e =
         let n = job .header .count in
-        let here = subst (λ (k : ℕ). (drop k hazards ≡ drop k (job .hazards)) × (take k hazards ++ moved ∷ drop k (standing job) ≡ putAt at new (standing job)))
-        (let last : i ≡ n = omega (arith, so .most) in last) (so .rest, so .same) in
-        let whole : take n hazards ++ moved ∷ [] ≡ putAt at new (standing job) =
-        ap (λ (l : List NamedHazard). take n hazards ++ moved ∷ l) (sym (none-ahead job size (omega arith) n (omega arith))) ∙ here .1 in
-        let rest = unused-tail n hazards few (here .0 ∙ clear .behind) in
-        let number : length (putAt at new (standing job)) ≡ n + 1 =
-        sym (ap length whole) ∙ length-append (take n hazards) (moved ∷ []) ∙ ap (λ (k : ℕ). k + 1) (length-take-le n hazards (omega (arith, so .room))) in
-        laid (n + 1) (putAt at new (standing job)) (set hazards n moved) number
-        (set-split hazards n moved (omega (arith, so .room)) ∙ ap (λ (l : List NamedHazard). take n hazards ++ moved ∷ l) rest
-        ∙ sym (append-assoc (take n hazards) (moved ∷ []) (replicate (256 - (n + 1)) unused))
-        ∙ ap (λ (l : List NamedHazard). l ++ replicate (256 - (n + 1)) unused) whole)
+        let here = subst (λ (k : ℕ). (take k hazards ≡ take k (job .hazards)) × (drop (suc k) hazards ≡ drop k (standing job) ++ zeros))
+        (let last : i ≡ at = omega (arith, so .least) in last) (so .front, so .moved) in
+        let whole : length (standing job) ≡ n = standing-length job size (omega arith) in
+        let number : length (putAt at new (standing job)) ≡ n + 1 = length-append (take at (standing job)) (new ∷ drop at (standing job))
+        ∙ (let z : length (take at (standing job)) + suc (length (drop at (standing job))) ≡ n + 1 =
+        omega (arith, length-take-le at (standing job) (omega (arith, whole)), length-drop at (standing job)) in z) in
+        laid (n + 1) (putAt at new (standing job)) (set hazards at new) number
+        (set-split hazards at new (omega (arith, so .room))
+        ∙ ap₂ (λ (a b : List NamedHazard). a ++ new ∷ b) (here .0 ∙ sym (take-take at n (job .hazards) within)) (here .1)
+        ∙ sym (append-assoc (take at (standing job)) (new ∷ drop at (standing job)) zeros))
 
   -- Taking out
   module _ (few : job .header .count ≤ 256) (at : ℕ) (within : at < job .header .count) where

@@ -81,7 +81,7 @@ pub fn stands_at(job: StoredJob, at: usize, name: u16) -> bool
     false
 }
 
-// A hazard put in at a place; each one behind it moves up.
+// A hazard put in at a place; each one from there on moves up, the last one first.
 pub fn put_in(job: StoredJob, at: usize, new: NamedHazard) -> StoredJob
     requires { ⌜ ZerosAfter job ⌝ }
     requires { ⌜ job .header .count < 256 ⌝ }
@@ -91,15 +91,13 @@ pub fn put_in(job: StoredJob, at: usize, new: NamedHazard) -> StoredJob
     let header = job.header;
     let count = header.count as usize;
     let mut hazards = job.hazards;
-    let mut moved = new;
-    let mut i = at;
-    while i < count {
-        let p = hazards[i];
-        hazards[i] = moved;
-        moved = p;
-        i += 1;
+    let mut i = count;
+    while at < i {
+        let below = i - 1;
+        hazards[i] = hazards[below];
+        i = below;
     }
-    hazards[count] = moved;
+    hazards[at] = new;
     StoredJob {
         header: with_count(header, header.count + 1),
         hazards,

@@ -1,23 +1,31 @@
 // Is the memory an open job: its header, names and hazards, and zeros behind them.
 use super::GivenHazard;
+use super::places::with_count;
+use base::min;
 use job::Hazard;
 use job::Header;
 use job::NamedHazard;
 use job::StoredJob;
 use job::hazard_fields::in_range;
 use job::road_top;
-use job::unnamed;
-use planning::near::stands_near;
 ghost use mathlib.Core.Path.{_≡_};
 ghost use mathlib.Core.Bool.{true};
 ghost use mathlib.Core.List.{[]};
 ghost use Prim.Native.Nat.{_≤_};
 ghost use lib.ListN.{drop};
-ghost use Rattle.base.specs.Choice.{allOf};
 ghost use Rattle.job.specs.Job.{nextInHeader, sharedNumbers};
 ghost use Rattle.job.specs.Fits.{inRanges, headerInRange, hazardInRange};
-ghost use Rattle.open_memory.specs.Memory.{hazardGiven, standing, isUnused, isOpenJob};
-ghost use Rattle.open_memory.specs.Steps.{lastInRange, inOrderFrom, allInOrder};
+ghost use Rattle.open_memory.specs.Memory.{hazardGiven, standing, isOpenJob};
+ghost use Rattle.open_memory.specs.Steps.{lastInRange, limitsOf, inLimits, nextLow, lowAfter, restOf, withBits, bitsAfter};
+
+// What a header asks of every hazard that stands: the road, and the near offset that is least. It fits: its own numbers lie in their ranges,
+// whatever its hazard count.
+pub struct Limits {
+    pub fits: bool,
+    pub begin: u64,
+    pub end: u64,
+    pub near: u64,
+}
 
 // Each of the thirteen header numbers that every kind has lies in its range, in the table's order.
 fn shared_in_range(h: Header) -> bool
@@ -93,68 +101,101 @@ pub fn hazard_in_range(h: Header, z: GivenHazard) -> bool
     }
 }
 
-// A name from low on, and a hazard that could be added under it. Every name of 16 bits is one.
-fn in_order_from(h: Header, low: u32, p: NamedHazard) -> bool
-    requires { ⌜ headerInRange h ≡ true ⌝ }
-    ensures { λ r. ⌜ r ≡ inOrderFrom h low p ⌝ }
+// The header's part of the test, made once for all states that have it.
+pub fn limits_of(header: Header) -> Limits
+    ensures { λ r. ⌜ r ≡ limitsOf header ⌝ }
 {
-    let name = p.name as u32;
-    let z = unnamed(p);
-    if in_range(h, z) {
-        (low <= name) & !stands_near(h, z)
+    if header_in_range(with_count(header, 0)) {
+        Limits {
+            fits: true,
+            begin: header.begin,
+            end: header.end,
+            near: min(header.zone, header.offset + header.deflection),
+        }
     } else {
-        false
+        Limits {
+            fits: false,
+            begin: 0,
+            end: 0,
+            near: 0,
+        }
     }
 }
 
-// The names rise, and the hazards could be added.
-fn all_in_order(job: StoredJob) -> bool
-    requires { ⌜ headerInRange (job .header) ≡ true ⌝ }
-    ensures { λ r. ⌜ r ≡ allInOrder (job .header) 0 (standing job) ⌝ }
+fn in_limits(limits: Limits, p: NamedHazard) -> bool
+    ensures { λ r. ⌜ r ≡ inLimits limits p ⌝ }
+{
+    (p.side <= 1)
+        & (limits.begin <= p.start)
+        & (p.start < p.end)
+        & (p.end <= limits.end)
+        & (limits.near <= p.near as u64)
+        & (p.near <= p.far)
+        & (p.far <= 60000)
+        & (1 <= p.level)
+        & (p.level <= 6)
+}
+
+// The least name that may stand behind this place; above every name where this one, or one before it, breaks the rules. So all places are
+// passed without a branch.
+pub fn next_low(limits: Limits, low: u32, p: NamedHazard) -> u32
+    ensures { λ r. ⌜ r ≡ nextLow limits low p ⌝ }
+{
+    let name = p.name as u32;
+    if (low <= name) & in_limits(limits, p) {
+        name + 1
+    } else {
+        65537
+    }
+}
+
+// The numbers of fewer than 64 bits side by side, as they lie in memory: the offsets in the lower 32 bits, then name, side and level.
+fn rest_of(p: NamedHazard) -> u64
+    ensures { λ r. ⌜ r ≡ restOf p ⌝ }
+{
+    p.near as u64
+        + p.far as u64 * 65536
+        + p.name as u64 * 4294967296
+        + p.side as u64 * 281474976710656
+        + p.level as u64 * 72057594037927936
+}
+
+// The bits seen so far, and those of this place: 0 while every place is unused.
+pub fn with_bits(bits: u64, p: NamedHazard) -> u64
+    ensures { λ r. ⌜ r ≡ withBits bits p ⌝ }
+{
+    bits | p.start | p.end | rest_of(p)
+}
+
+// The least name that may stand behind the hazards; above every name where one of them breaks the rules.
+fn low_behind(limits: Limits, job: StoredJob) -> u32
+    requires { ⌜ job .header .count ≤ 256 ⌝ }
+    ensures { λ r. ⌜ r ≡ lowAfter limits 0 (standing job) ⌝ }
 {
     let header = job.header;
     let count = header.count as usize;
     let mut low: u32 = 0;
     let mut i: usize = 0;
     while i < count {
-        let p = job.hazards[i];
-        if in_order_from(header, low, p) {
-            low = p.name as u32 + 1;
-            i += 1;
-        } else {
-            return false;
-        }
+        low = next_low(limits, low, job.hazards[i]);
+        i += 1;
     }
-    true
+    low
 }
 
-fn is_unused(p: NamedHazard) -> bool
-    ensures { λ r. ⌜ r ≡ isUnused p ⌝ }
-{
-    (p.start == 0)
-        & (p.end == 0)
-        & (p.near == 0)
-        & (p.far == 0)
-        & (p.name == 0)
-        & (p.side == 0)
-        & (p.level == 0)
-}
-
-// The places behind the hazards.
-fn rest_unused(job: StoredJob) -> bool
+// The bits in the places behind the hazards.
+fn bits_behind(job: StoredJob) -> u64
     requires { ⌜ job .header .count ≤ 256 ⌝ }
-    ensures { λ r. ⌜ r ≡ allOf isUnused (drop (job .header .count) (job .hazards)) ⌝ }
+    ensures { λ r. ⌜ r ≡ bitsAfter 0 (drop (job .header .count) (job .hazards)) ⌝ }
 {
     let header = job.header;
+    let mut bits: u64 = 0;
     let mut i = header.count as usize;
     while i < 256 {
-        if is_unused(job.hazards[i]) {
-            i += 1;
-        } else {
-            return false;
-        }
+        bits = with_bits(bits, job.hazards[i]);
+        i += 1;
     }
-    true
+    bits
 }
 
 // The memory's test: the header, the names and hazards, and zeros behind them.
@@ -162,13 +203,11 @@ pub fn is_open_job(job: StoredJob) -> bool
     ensures { λ r. ⌜ r ≡ isOpenJob job ⌝ }
 {
     let header = job.header;
-    if header_in_range(header) {
-        if all_in_order(job) {
-            rest_unused(job)
-        } else {
-            false
-        }
-    } else {
-        false
+    let limits = limits_of(header);
+    if limits.fits & (header.count <= 256) {
+        let low = low_behind(limits, job);
+        let bits = bits_behind(job);
+        return (low <= 65536) & (bits == 0);
     }
+    false
 }
