@@ -30,7 +30,15 @@ CALLS = {
     "open_job/src/calls.rt": ["open", "add", "withdraw", "schedule", "reach", "test_state", "return_to"],
     "panels/src/layout.rt": ["layout"],
     "barrier_engine/src/lib.rt": [],
-    "barrier_engine/src/open.rt": [],
+    "barrier_engine/src/open.rt": [
+        "barrier_open",
+        "barrier_add",
+        "barrier_withdraw",
+        "barrier_keep",
+        "barrier_return",
+        "barrier_open_schedule",
+        "barrier_open_reach",
+    ],
     "report/src/lib.rt": ["report"],
     "barrier/src/main.rt": [],
 }

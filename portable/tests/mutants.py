@@ -76,6 +76,7 @@ MUTANTS = [     # (name, module, text, wrong text)
     ('a place that is made from what it replaces', 'statements', "if moved or any(", "if any("),
     ('a thing is copied onto itself', 'effects', "in of_place(f, local) and not given", "in of_place(f, local) and False"),
     ('two pointers never reach one place', 'effects', "    if root(a) is None and root(b) is None:\n        return True\n", "    if root(a) is None and root(b) is None:\n        return False\n"),
+    ('what a call gives to a part of the header\'s struct is lost', 'statements', "                e = ('load', beside)\n", "                return\n"),
     ('a call into memory', 'statements', "need(root(s[2]) is not None and not address_reads(self.f, s[2]), '%s: a call into memory', self.f.name)", "need(s[2][0] != 'deref', 'a call into memory')"),
     ('no types', 'program', "        typed(f, self.types, self.functions)\n", ""),
     ('a & may be given as a &mut', 'typed', "of[2] == t[2] and of[1]", "of[2] == t[2]"),

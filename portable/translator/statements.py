@@ -51,6 +51,10 @@ class Writer(Expressions):
         if e == ('load', place):
             return
         if is_view(self.f, self.types, place):
+            if e[0] == 'call':          # what a call gives stands in a variable of its own first
+                beside = self.beside(t)
+                self.assign(beside, e)
+                e = ('load', beside)
             need(e[0] == 'load' and not is_view(self.f, self.types, e[1]), 'a part of the header\'s struct is written with %s', e[0])
             pointer, name, path = viewed(self.f, self.types, place)
             self.emit('%s(%s, %s);' % (self.program.views.name('store', name, path, t), self.text(pointer), self.address(e[1])))

@@ -102,7 +102,7 @@ Way 𝓤 H A q τ b o back = Logic.all 𝓤 (λ (u : Val). wand 𝓤 (H .at q τ
 -- The places within a cell are lent for the time of the question, and come back; what else there is stays.
 module _ {M : Type 1} {𝓤 : URA M} {H : Heap 𝓤} {A : Atoms 𝓤} {K : Type 0} {W : Given 𝓤 H A} {E : Env 𝓤 H} {C : Calls 𝓤 H} {Λ : Loops 𝓤 H}
     {q : Post 𝓤 H} {f : Name} {rest : Code} where
-  pub lends : (t : K) → FmC 𝓤 H (W .laws) C → Triple 𝓤 (C f) (Sounds 𝓤 H A) → (cell : Item 𝓤) {s : Share} {τ : Ty} {b o : ℕ} {v : Val} {back : Val → Item 𝓤}
+  lends : (t : K) → FmC 𝓤 H (W .laws) C → Triple 𝓤 (C f) (Sounds 𝓤 H A) → (cell : Item 𝓤) {s : Share} {τ : Ty} {b o : ℕ} {v : Val} {back : Val → Item 𝓤}
       (ps : List NamedHazard)
       → τ ≡ lone (Places .mir) → Part K W cell s τ b o v back → Is Places ps (v ∷ [])
       → (before : Bool) (l : Limits) (used count : ℕ) → Fits limits l → Fits (uint w64) used → Fits (uint w64) count

@@ -9,7 +9,7 @@ use lib.ListN.{replicate}
 use mathlib.Core.Bool.{false}
 use Rattle.job.specs.declared.StoredJob.{StoredJob}
 use Rattle.open_memory.specs.Memory.{laidOut}
-use Rattle.open_memory.proofs.places.opened.{Symbol.name as #opened, Symbol.routine as opened-routine, Met.met as opened-met}
+use Rattle.open_memory.proofs.places.empty_state.{Symbol.name as #empty-state, Symbol.routine as empty-state-routine, Met.met as empty-state-met}
 use Rattle.open_job.specs.States.{mostKept, nothingKept, keptStates, statesFrom}
 use Rattle.open_job.specs.Parts.{afterOpening}
 use Rattle.open_job.specs.declared.KeptState.{KeptState}
@@ -36,8 +36,8 @@ emptying a = nothingKept
 
 -- The functions that make the states, wherever they are called.
 module _ {M : Type 1} (𝓤 : URA M) (H : Heap 𝓤) (𝓜 : Model 𝓤 H) (𝓖 : GhostRules 𝓤 H) (𝓡 : Running 𝓤 H 𝓜) (γ : Routines) where
-  pub laying-known : γ #opened ≡ opened-routine → Triple 𝓤 (tables 𝓤 H 𝓜 𝓡 γ .C #opened) (Gives 𝓤 H (𝓖 .A) Laid stored laying)
-  laying-known e = cited 𝓤 H (Gives 𝓤 H (𝓖 .A) Laid stored laying) 𝓜 𝓡 γ #opened opened-routine e (opened-met 𝓤 H 𝓜 𝓖 𝓡)
+  pub laying-known : γ #empty-state ≡ empty-state-routine → Triple 𝓤 (tables 𝓤 H 𝓜 𝓡 γ .C #empty-state) (Gives 𝓤 H (𝓖 .A) Laid stored laying)
+  laying-known e = cited 𝓤 H (Gives 𝓤 H (𝓖 .A) Laid stored laying) 𝓜 𝓡 γ #empty-state empty-state-routine e (empty-state-met 𝓤 H 𝓜 𝓖 𝓡)
 
   pub emptying-known : γ #nothing-kept ≡ nothing-kept-routine → Triple 𝓤 (tables 𝓤 H 𝓜 𝓡 γ .C #nothing-kept) (Gives 𝓤 H (𝓖 .A) [] kept emptying)
   emptying-known e = cited 𝓤 H (Gives 𝓤 H (𝓖 .A) [] kept emptying) 𝓜 𝓡 γ #nothing-kept nothing-kept-routine e (nothing-kept-met 𝓤 H 𝓜 𝓖 𝓡)
@@ -57,7 +57,7 @@ empties job none =
 abbrev pub opens : (job reading none done new : ℕ) → Code → Code
 opens job reading none done new rest =
     seq (cond (copy (place done []))
-    (seq (call #opened (copy (place reading (field 0 ∷ [])) ∷ []) (place new []))
+    (seq (call #empty-state (copy (place reading (field 0 ∷ [])) ∷ []) (place new []))
     (seq (storeOf job new 0) (seq (call #nothing-kept [] (place none [])) (empties job none)))) skip) rest
 
 -- the memory's cell, the local with its reference, and the one with what is stored under each number
@@ -85,7 +85,7 @@ module _ {M : Type 1} {𝓤 : URA M} {H : Heap 𝓤} {A : Atoms 𝓤} {K : Type 
 
 module _ {M : Type 1} {𝓤 : URA M} {H : Heap 𝓤} {A : Atoms 𝓤} {K : Type 0} {W : Given 𝓤 H A} {Γ : List (Item 𝓤)} {E : Env 𝓤 H} {C : Calls 𝓤 H} {Λ : Loops 𝓤 H}
     {q : Post 𝓤 H} {ρ : Ty} {b o lj lr ln ld lw : ℕ} {rest : Code}
-    (t : K) (fm : FmC 𝓤 H (W .laws) C) (known-laid : Triple 𝓤 (C #opened) (Gives 𝓤 H A Laid stored laying))
+    (t : K) (fm : FmC 𝓤 H (W .laws) C) (known-laid : Triple 𝓤 (C #empty-state) (Gives 𝓤 H A Laid stored laying))
     (known-none : Triple 𝓤 (C #nothing-kept) (Gives 𝓤 H A [] kept emptying)) (job reading none done new : ℕ)
     (at-job : spotOf 𝓤 H E job ≡ (ρ, lj, zero)) (at-reading : spotOf 𝓤 H E reading ≡ (opening .ty, lr, zero))
     (at-none : spotOf 𝓤 H E none ≡ (kept .ty, ln, zero)) (at-done : spotOf 𝓤 H E done ≡ (truth .ty, ld, zero))

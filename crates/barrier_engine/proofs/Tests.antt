@@ -16,14 +16,14 @@ use Rattle.barrier_engine.proofs.Walks.{_≡_, refl, subst, ℕ, zero, 
 use Rattle.barrier_engine.proofs.Walks.{place, copy, Code, seq, assign, call, Val, WT, hasTy, vptr, rawTy}
 use Rattle.barrier_engine.proofs.Walks.{Share, Lft, GName, fat, Heap, Env, Calls, Loops}
 use Rattle.barrier_engine.proofs.Walks.{spotOf, Atoms, FmC, Given, Item, ‵, ⋆, _⊛_, Post, Step, step, _$_, _∵_, !, qed, runs}
-use Rattle.barrier_engine.proofs.Walks.{look, init, stop, load, all, and-then, no-more, assigns, land}
+use Rattle.barrier_engine.proofs.Walks.{look, init, stop, load, and-then, no-more, assigns, land}
 use Rattle.barrier_engine.proofs.Walks.{Triple, SProp, ent, emp, id⊢, exE, snd∗, sem, fact, Is, shows, RefT, now, ptr, ptr-vals}
 use Rattle.barrier_engine.proofs.Walks.{Signature, plain, Contract, tripleOf, yes}
 use Rattle.barrier_engine.proofs.Walks.{ensured, lasts, calls-at, raw, later, move, use1, use2, split, join, frame, done, nothing, drop, fsplit, fjoin}
 use Rattle.barrier_engine.proofs.Walks.{await, pick, heard, facts, owned, spelt}
 use Rattle.barrier_engine.proofs.Data.{Fits, local, room, truth}
 use Rattle.barrier_engine.proofs.ByValue.{lands-as}
-use Rattle.barrier_engine.proofs.Steps.{here, behind, asks}
+use Rattle.barrier_engine.proofs.Steps.{here, behind}
 use Rattle.barrier_engine.proofs.States.{kept, memory, cellOf}
 use Rattle.barrier_engine.proofs.Borrow.{Token}
 

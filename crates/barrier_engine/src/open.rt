@@ -1,5 +1,5 @@
 // The calls on an open job, which is changed in the caller's memory: thin shells over the calls by value. A shell takes the memory apart
-// field by field, so that two or three states are on its stack, and never all nine.
+// field by field, so that at most three states are on its stack.
 use job::NamedHazard;
 use open_job::OpenStates;
 use open_job::kept::choose;
@@ -8,6 +8,7 @@ use open_job::kept::kept_from;
 use open_job::kept::nothing_kept;
 use open_job::kept::places_pass;
 use open_memory::GivenHazard;
+use open_memory::places::empty_state;
 use open_memory::rules::Limits;
 use open_memory::rules::limits_of;
 use open_memory::rules::next_low;
@@ -131,7 +132,7 @@ pub extern "C" fn barrier_open(job: &mut OpenStates, bytes: &[u8]) -> Reply
     let opening = opened(bytes);
     // A refused opening alters nothing.
     if opening.done {
-        (*job).present = open_memory::places::opened(opening.header);
+        (*job).present = empty_state(opening.header);
         let none = nothing_kept();
         (*job).kept0 = none;
         (*job).kept1 = none;

@@ -2,7 +2,7 @@
 mod field; // a number with its range
 pub mod header_fields; // the header
 pub mod hazard_fields; // a hazard
-mod within; // a hazard, where enough bytes stand for it
+mod within; // a hazard of the usual form, read from words
 pub mod read; // hazards one after the other, and what opening reads
 
 ghost use mathlib.Core.Path.{_≡_};

@@ -2,20 +2,18 @@
 -- Assumes nothing.
 use Prim.Native.Nat.{ℕ, _≤_}
 use native.Mathlib.Omega.{arith}
-use mathlib.Core.Path.{_≡_, refl, sym, ap, ap₂, _∙_}
+use mathlib.Core.Path.{_≡_, refl, sym, ap, _∙_}
 use mathlib.Core.Bool.{Bool, true, false, _&&_, and-true, and-false, and-assoc}
-use mathlib.Core.List.{List}
 use lib.ListN.{take, drop}
 use lib.Dec.{leb, eqb}
-use borrow.Author.Tests.{leb-true, eqb-true, ne-eqb}
-use Rattle.base.specs.Choice.{if_then_else_, allOf}
+use borrow.Author.Tests.{leb-true}
+use Rattle.base.specs.Choice.{if_then_else_}
 use Rattle.base.proofs.TestLaws.{and-left, and-right}
 use Rattle.job.specs.declared.Header.{Header}
-use Rattle.job.specs.declared.NamedHazard.{NamedHazard}
 use Rattle.job.specs.Job.{counted}
 use Rattle.job.specs.Fits.{headerInRange}
 use Rattle.open_memory.specs.declared.rules.Limits.{Limits}
-use Rattle.open_memory.specs.Memory.{mostStanding, isUnused, isOpenJob}
+use Rattle.open_memory.specs.Memory.{mostStanding, isOpenJob}
 use Rattle.open_memory.specs.Steps.{limitsOf, lowAfter, bitsAfter}
 use Rattle.open_memory.proofs.LimitLaws.{state-sound, state-not, limits-fit, bits-after}
 use Rattle.open_job.specs.declared.Extent.{Extent}

@@ -32,7 +32,7 @@ extentOf before l used count =
 abbrev pub placesPass : (sound : Bool) → (low bits : ℕ) → Bool
 placesPass sound low bits = sound && leb low 65536 && eqb bits 0
 
--- The state's places are tested, and those before it are sound.
+-- The state's places are tested, and the states before it are sound.
 unfoldable pub alsoSound : (before : Bool) → Limits → (used count : ℕ) → List NamedHazard → Bool
 alsoSound before l used count ps =
     let e = extentOf before l used count in

@@ -23,7 +23,7 @@ pub fn with_count(h: Header, n: u64) -> Header
 }
 
 // A header, and no hazard.
-pub fn opened(header: Header) -> StoredJob
+pub fn empty_state(header: Header) -> StoredJob
     ensures { λ r. ⌜ r ≡ laidOut header [] ⌝ }
 {
     StoredJob {

@@ -1,7 +1,7 @@
 -- A side that was accepted: it is that of an accepted job, whose envelopes are sound.
 -- Assumes nothing.
 use Prim.Native.Nat.{ℕ, _≤_}
-use mathlib.Core.Path.{_≡_, refl, sym, subst, _∙_}
+use mathlib.Core.Path.{_≡_, sym, subst, _∙_}
 use mathlib.Core.List.{List}
 use Rattle.base.specs.Answer.{accepted, _>>=_}
 use Rattle.base.proofs.AnswerLaws.{bound, bind-assoc}
@@ -17,12 +17,12 @@ use Rattle.planning.specs.declared.window.Window.{Window}
 use Rattle.planning.specs.declared.window.Window.the-variants.{All}
 use Rattle.planning.specs.Envelope.{sideEnvelopes, acceptJob}
 use Rattle.planning.specs.Required.{jobRuns}
-use Rattle.planning.specs.Window.{standingIn}
+use Rattle.planning.specs.Window.{standingIn, jobWithin}
 use Rattle.planning.specs.Reply.{cutsOf, acceptedRuns}
 use Rattle.planning.specs.Accept.{AcceptedSide, sideWithin, sideOf, sideBeside, sideAnswer}
 use Rattle.planning.specs.Rows.{AcceptedFits}
 use Rattle.planning.proofs.EnvelopeLaws.{accepted-fits, side-proper, side-levelled, side-ends}
-use Rattle.planning.proofs.WindowLaws.{within, within-some}
+use Rattle.planning.proofs.WindowLaws.{within-some}
 
 pub job-sound : (j : Job) (side : ℕ) → AcceptedFits j → AllSound (sideEnvelopes j side)
 job-sound j side fits e m =
@@ -41,18 +41,13 @@ module _ (keys ends : List ℕ) (r : Side) (s : List ℕ) (side : ℕ) (w : Wind
 abbrev pub sideOfJob : Job → (side : ℕ) → AcceptedSide
 sideOfJob j side = record { cuts = cutsOf (j .header) side (j .hazards); continuity = j .header .continuity }
 
--- With the window of everything it is the side of all hazards.
-pub side-all : (s : List ℕ) (side : ℕ) → sideOf s side ≡ (acceptJob s >>= λ j. accepted (sideOfJob j side))
-unfolding sideWithin standingIn
-side-all s side = refl
-
 module _ (s : List ℕ) (side : ℕ) (w : Window) (x : AcceptedSide) (e : sideWithin s side w ≡ accepted x) where
   -- What holds of the side of every accepted job, by the hazards in the window, holds of it.
-  pub side-known : (P : AcceptedSide → Type 0) → ((j : Job) → AcceptedFits j → P (sideOfJob (within w j) side)) → P x
+  pub side-known : (P : AcceptedSide → Type 0) → ((j : Job) → AcceptedFits j → P (sideOfJob (jobWithin w j) side)) → P x
   unfolding sideWithin
   side-known P every =
       let b = bound (acceptJob s) _ x e in
-      let same : sideOfJob (within w (b .first)) side ≡ x = let z = b .rest in cc in
+      let same : sideOfJob (jobWithin w (b .first)) side ≡ x = let z = b .rest in cc in
       subst P same (every (b .first) (accepted-fits s (b .first) (b .taken)))
 
   pub side-sound : AllSound (x .cuts .envelopes)

@@ -16,7 +16,7 @@ use Rattle.planning.specs.declared.window.Window.{Window}
 use Rattle.planning.specs.Envelope.{forward, opposite, reached, lengthening, envelope, envelopes, cutToRoad, cutEnvelope, overhang, overhangs, standsNear}
 use Rattle.planning.specs.Envelope.{testHazard}
 use Rattle.planning.specs.Window.{standsIn, standingIn}
-use Rattle.planning.specs.Reply.{Cuts, noCuts, cutsOf, testedHazard}
+use Rattle.planning.specs.Reply.{noCuts, cutsOf, testedHazard}
 use Rattle.planning.proofs.ReachLaws.{reached-near}
 use Rattle.planning.proofs.WindowLaws.{standing-one}
 use Rattle.planning.proofs.OverhangLaws.{greater-none}

@@ -22,7 +22,7 @@ use Rattle.planning.specs.declared.window.Window.the-variants.{All, Betw
 use Rattle.planning.specs.Envelope.{forward, opposite, envelope, cutToRoad, cutEnvelope, sideEnvelopes}
 use Rattle.planning.specs.Required.{jobLevel}
 use Rattle.planning.specs.Rows.{AcceptedFits}
-use Rattle.planning.specs.Window.{standsIn, standingIn, windowReach, windowAbout}
+use Rattle.planning.specs.Window.{standsIn, standingIn, windowReach, windowAbout, jobWithin}
 use Rattle.planning.proofs.ReachLaws.{lengthening-top}
 use Rattle.planning.proofs.EnvelopeLaws.{from-cut, to-cut, side-proper}
 
@@ -54,14 +54,10 @@ unfolding standingIn
 standing-kept All m e = m
 standing-kept (Between from to) m e = filter-intro (standsIn (Between from to)) m e
 
--- A job of the hazards that stand in a window.
-abbrev pub within : Window → Job → Job
-within w j = record { header = j .header; hazards = standingIn w (j .hazards) }
-
 -- Its envelopes are some of the job's.
-pub within-some : (w : Window) (j : Job) (side : ℕ) (e : Stretch) → List·Memᴰ e (sideEnvelopes (within w j) side) → List·Memᴰ e (sideEnvelopes j side)
+pub within-some : (w : Window) (j : Job) (side : ℕ) (e : Stretch) → List·Memᴰ e (sideEnvelopes (jobWithin w j) side) → List·Memᴰ e (sideEnvelopes j side)
 within-some w j side e m =
-    let c = from-cut (within w j) side e m in
+    let c = from-cut (jobWithin w j) side e m in
     rw (c .is)
     (to-cut j side (record { member = standing-some w (j .hazards) (c .own .member); on-side = c .own .on-side; reach = c .own .reach }))
 
@@ -80,19 +76,19 @@ module _ (h : Header) (z : Hazard) (hf : HeaderFits h) (zf : HazardFits h z) (cl
 
 -- The hazards about a station require what all require there.
 pub level-about : (j : Job) (side t : ℕ) → AcceptedFits j
-    → requiredLevel (sideEnvelopes (within (windowAbout t) j) side) (j .header .continuity) t ≡ jobLevel j side t
+    → requiredLevel (sideEnvelopes (jobWithin (windowAbout t) j) side) (j .header .continuity) t ≡ jobLevel j side t
 unfolding jobLevel
 level-about j side t fits =
-    level-near (sideEnvelopes j side) (sideEnvelopes (within (windowAbout t) j) side) (j .header .continuity) t (side-proper j side fits)
+    level-near (sideEnvelopes j side) (sideEnvelopes (jobWithin (windowAbout t) j) side) (j .header .continuity) t (side-proper j side fits)
     (within-some (windowAbout t) j side) kept
   where
     kept : (e : Stretch) → List·Memᴰ e (sideEnvelopes j side) → e .start ≤ t + j .header .continuity → t ≤ e .end + j .header .continuity
-        → List·Memᴰ e (sideEnvelopes (within (windowAbout t) j) side)
+        → List·Memᴰ e (sideEnvelopes (jobWithin (windowAbout t) j) side)
     kept e m before behind =
         let c = from-cut j side e m in
         let z = c .hazard in
         let about = stands-about (j .header) z (fits .fits .header) (fits .fits .hazards .each z (c .own .member))
         (fits .passed z (c .own .member) .clear (c .own .reach)) t (rw (c .is) at before) (rw (c .is) at behind) in
         rw (c .is)
-        (to-cut (within (windowAbout t) j) side
+        (to-cut (jobWithin (windowAbout t) j) side
         (record { member = standing-kept (windowAbout t) (c .own .member) about; on-side = c .own .on-side; reach = c .own .reach }))

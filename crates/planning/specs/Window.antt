@@ -6,6 +6,7 @@ use mathlib.Core.List.{List}
 use lib.Dec.{leb}
 use Rattle.base.specs.Choice.{filter}
 use Rattle.job.specs.declared.Hazard.{Hazard}
+use Rattle.job.specs.Job.{Job}
 use Rattle.runs.specs.RunList.{lastStation}
 use Rattle.planning.specs.declared.window.Window.{Window}
 use Rattle.planning.specs.declared.window.Window.the-variants.{All, Between}
@@ -18,6 +19,10 @@ standsIn (Between from to) z = leb (z .start) to && leb from (z .end)
 unfoldable pub standingIn : Window → List Hazard → List Hazard
 standingIn All zs = zs
 standingIn (Between from to) zs = filter (standsIn (Between from to)) zs
+
+-- A job with these alone.
+abbrev pub jobWithin : Window → Job → Job
+jobWithin w j = record { header = j .header; hazards = standingIn w (j .hazards) }
 
 -- An approach length in whole panels is below 210,000, and G at most 200,000.
 abbrev pub windowReach : ℕ

@@ -70,6 +70,7 @@ pub use Rattle.approach.proofs.PanelLaws.{raised-only}
 pub use Rattle.demands.proofs.PanelLaws.{kind-one}
 -- Document 02, request 5: the level under the inspector's feet
 pub use Rattle.demands.proofs.LevelLaws.{level-lookup, level-refusals}
+pub use Rattle.planning.proofs.WindowLaws.{level-about}
 -- Document 02, request 7: named states of an open job
 pub use Rattle.open_promises.proofs.ListLaws.{return-promise}
 pub use Rattle.open_promises.proofs.AddedLaws.{count-promise}

@@ -1,7 +1,7 @@
 -- What the shells make of the parts of the memory is what the calls on the whole memory say.
 -- Assumes nothing.
 use Prim.Native.Nat.{ℕ}
-use mathlib.Core.Path.{_≡_, refl, ap, _∙_}
+use mathlib.Core.Path.{_≡_, refl, ap}
 use mathlib.Core.Bool.{_&&_}
 use mathlib.Core.List.{List, []}
 use lib.ListN.{length}

@@ -21,7 +21,7 @@ changedBy a call = record { next = memoryAfter call a; reply = replyOf (replied 
 abbrev pub endedBy : Answer ℕ → Keeping
 endedBy a = record { reply = replyOf a; done = isAccepted a }
 
--- The header that an opening read; zeros beside a refusal.
+-- The header beside a refusal: zeros.
 abbrev pub noHeader : Header
 noHeader = record {
   kind = 0;
@@ -41,7 +41,7 @@ noHeader = record {
   count = 0;
 }
 
--- An opening: that header, the reply, and whether it is done.
+-- An opening: the header that it read, the reply, and whether it is done.
 abbrev pub openedBy : (s : List ℕ) → Opening
 openedBy s =
     record { header = acceptedOr noHeader (readOpening s); reply = replyOf (replied (openJob s)); done = isAccepted (replied (openJob s)) }

@@ -1,8 +1,7 @@
 -- `barrier_engine::open::all_sound` meets its contract: a walk of its code. A share of the memory is looked into, and the places of each kept state are
 -- lent to `also_sound`.
 -- All that the proof knows of the functions called is that they meet their contracts. Assumes nothing.
-use lib.Dec.{lit<}
-use types.Run.{addr, lit, free1}
+use types.Run.{free1}
 use base.Fml.{fres, fshr-bor}
 use contract.Running.{tablesOf}
 use denote.Memory.{partAt}
@@ -19,10 +18,6 @@ use Rattle.open_memory.specs.declared.rules.Limits.{Limits}
 use Rattle.open_memory.specs.Steps.{limitsOf}
 use Rattle.open_memory.proofs.rules.limits_of.{Symbol.name as #limits-of, Symbol.routine as limits-of-routine, Met.met as limits-of-met}
 use Rattle.job.specs.declared.Header.{Header}
-use Rattle.job.proofs.Header as Header·t
-use Rattle.job.proofs.Header.Laws as Header·t′
-use Rattle.job.proofs.StoredJob as StoredJob·t
-use Rattle.job.proofs.StoredJob.Laws as StoredJob·t′
 use Rattle.barrier_engine.proofs.Walks.{refl, ℕ, List, [], _∷_, URA, named, rawTy, Val, vptr, vbool, SProp, ent, emp, via, fst∗, GName, Lft, Share}
 use Rattle.barrier_engine.proofs.Walks.{ftrue, flft, fat, Memory, Routine}
 use Rattle.barrier_engine.proofs.Walks.{Heap, Calls, Loops, WpFn, Tables, Atoms, Fun, givenOf, tables, Given, ‵, ⋆, _⊛_, _$_, _∵_, !, qed, by, move}
@@ -36,8 +31,8 @@ use Rattle.barrier_engine.proofs.Data.{Fits, rows, truth}
 use Rattle.barrier_engine.proofs.ByValue.{Gives}
 use Rattle.barrier_engine.proofs.Steps.{var, behind, asks, freed}
 use Rattle.barrier_engine.proofs.States.{header, memory, cellOf, Parts, parts, header-fits}
-use Rattle.barrier_engine.proofs.Passes.{limits, places-fit}
-use Rattle.barrier_engine.proofs.Lent.{Sounds, lends, kept-tested}
+use Rattle.barrier_engine.proofs.Passes.{limits}
+use Rattle.barrier_engine.proofs.Lent.{Sounds, kept-tested}
 use Rattle.barrier_engine.proofs.open.also_sound.{Symbol.name as #also-sound, Symbol.routine as also-sound-routine, Met.met as also-sound-met}
 use Rattle.barrier_engine.proofs.open.all_sound.Key.{name as #f}
 use Rattle.barrier_engine.proofs.open.all_sound as f

@@ -7,7 +7,7 @@ use contract.Running.{tablesOf}
 use denote.Slice.{ShrSlice, shr-slice-tells, shr-slice-lawful, shr-slice-copy}
 use denote.Triple.Walked.{stay-none-slice, goes-none-slice}
 use Rattle.open_memory.specs.Memory.{laidOut}
-use Rattle.open_memory.proofs.places.opened.Symbol.{name as #laid}
+use Rattle.open_memory.proofs.places.empty_state.Symbol.{name as #laid}
 use Rattle.open_job.specs.Calls.{memoryAfter, openStates}
 use Rattle.base.specs.Answer.{replied}
 use Rattle.open_job.specs.declared.OpenStates.{OpenStates}
@@ -148,5 +148,5 @@ barrier-open-spec 𝓤 H 𝓜 𝓖 𝓡 =
     (tables 𝓤 H 𝓜 𝓡 code.env .C) (tables 𝓤 H 𝓜 𝓡 code.env .Λ) #f code.function (code.unfolded 𝓤 H 𝓜 𝓡)
     (f-meets 𝓤 H (𝓖 .A) (givenOf 𝓤 H 𝓜 𝓖) (𝓜 .mem) (𝓡 .run) (tablesOf 𝓤 H 𝓜 (tables 𝓤 H 𝓜 𝓡 code.env))
     (cited 𝓤 H (Opened 𝓤 H (𝓖 .A) (𝓜 .mem) (𝓡 .run)) 𝓜 𝓡 code.env #opened opened-routine code.calls-replies·open·opened (opened-met 𝓤 H 𝓜 𝓖 𝓡))
-    (laying-known 𝓤 H 𝓜 𝓖 𝓡 code.env code.calls-open-memory·places·opened)
+    (laying-known 𝓤 H 𝓜 𝓖 𝓡 code.env code.calls-open-memory·places·empty-state)
     (emptying-known 𝓤 H 𝓜 𝓖 𝓡 code.env code.calls-open-job·kept·nothing-kept))
