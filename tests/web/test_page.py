@@ -527,8 +527,9 @@ class InAndOut(Case):
     def saved(self, button, ending):
         before = set(os.listdir(downloads))
         click(driver, button)
-        name = wait(lambda: [name for name in set(os.listdir(downloads)) - before if name.endswith(ending)])[0]
-        return (pathlib.Path(downloads) / name).read_bytes()
+        # The browser reserves the name with an empty file first.
+        files = lambda: (pathlib.Path(downloads) / name for name in set(os.listdir(downloads)) - before if name.endswith(ending))
+        return wait(lambda: [file for file in files() if file.stat().st_size])[0].read_bytes()
 
     def test_files(self):
         job = read_job(job_text().replace('"', '').encode())
