@@ -37,10 +37,13 @@ pub struct Walked {
     pub taken: Taken,
 }
 
-// The greater overhang, at each end by itself.
+// The greater overhang, at each end by itself. Most envelopes hang over neither end, which is told at once.
 fn greater_of(a: Overhangs, b: Overhangs) -> Overhangs
     ensures { λ r. ⌜ r ≡ greater a b ⌝ }
 {
+    if (b.before == 0) & (b.after == 0) {
+        return a;
+    }
     Overhangs {
         before: max(a.before, b.before),
         after: max(a.after, b.after),
