@@ -8,7 +8,7 @@ use mathlib.Core.Path.{_≡_, refl, sym, ap, _∙_}
 use mathlib.Core.Logic.{_≢_}
 use mathlib.Core.Bool.{Bool, true, false}
 use mathlib.Core.List.{List, [], _∷_, _++_}
-use lib.ListN.{length, getD, set, take}
+use lib.ListN.{length, getD, set, take, List·getD-append}
 use lib.Seq.{getD-set-same, getD-set-other, set-set, take-set-le, take-suc-set, length-take-le}
 use lib.Dec.{ltb}
 use borrow.Author.Tests.{le-ltb, lt-leb, le-leb, eq-eqb, ne-eqb}
@@ -35,6 +35,14 @@ module _ (starts levels : List ℕ) where
   unfolding breaksTo
   breaks-length zero = refl
   breaks-length (suc k) = ap suc (breaks-length k)
+
+  -- What stands behind the starts of break points is none of theirs.
+  pub breaks-front : (more : List ℕ) (k : ℕ) → k ≤ length starts → breaksTo (starts ++ more) levels k ≡ breaksTo starts levels k
+  unfolding breaksTo
+  breaks-front more zero h = refl
+  breaks-front more (suc k) h =
+      rw (List·getD-append starts more 0 k (omega arith))
+      (ap (λ (r : List Break). record { start = getD starts k 0; level = getD levels k 0 } ∷ r) (breaks-front more k (omega arith)))
 
   -- A last break point of level 0 begins no run.
   pub below-last : (e k : ℕ) → levelOf (breaksTo starts levels k) ≡ 0

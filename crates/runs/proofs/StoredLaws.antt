@@ -7,8 +7,22 @@ use native.Mathlib.Numerals.{add-one}
 use mathlib.Core.Path.{_≡_, refl, sym, ap, _∙_}
 use mathlib.Core.Bool.{true}
 use mathlib.Core.List.{List, [], _∷_, _++_, map, map-append, append-assoc, append-nil}
-use lib.ListN.{length, getD, set, take, replicate, length-append, length-map, replicate-append-replicate, List·getD-append, List·getD-map}
-use lib.Seq.{ext-getD, getD-at, set-set, take-all, take-suc-set, length-take-le}
+use lib.ListN.{
+  length,
+  getD,
+  set,
+  take,
+  drop,
+  replicate,
+  length-append,
+  length-map,
+  length-replicate,
+  take-append-drop,
+  replicate-append-replicate,
+  List·getD-append,
+  List·getD-map,
+}
+use lib.Seq.{ext-getD, getD-at, set-at, set-set, drop-at, drop-cons, length-take-le}
 use Rattle.base.specs.Stored.{padded}
 use Rattle.base.proofs.StoredLaws.{padded-more, padded-clear}
 use Rattle.runs.specs.declared.Stretch.{Stretch}
@@ -106,23 +120,39 @@ columns-stored places rs =
 pub runs-stored : (rs : List Stretch) → runsOf (storedRuns rs) ≡ rs
 runs-stored = columns-stored 512
 
--- Zeros stored from a place on, one by one.
-module _ (old : List ℕ) (first : ℕ) (room : first ≤ length old) where
-  pub zeros-none : take first old ≡ take first old ++ replicate (first - first) 0
+-- Zeros stored from a place on, one by one: those up to place i.
+module _ (old : List ℕ) (first : ℕ) where
+  pub zeros-none : old ≡ take first old ++ replicate (first - first) 0 ++ drop first old
   zeros-none =
       let none : first - first ≡ 0 = omega arith in
-      rw none (sym (append-nil (take first old)))
+      rw (none, append-nil (take first old)) (sym (take-append-drop first old))
 
-  pub zeros-more : (new : List ℕ) (i : ℕ) → first ≤ i → i < length new → take i new ≡ take first old ++ replicate (i - first) 0
-      → take (i + 1) (set new i 0) ≡ take first old ++ replicate (i + 1 - first) 0
-  zeros-more new i h k same =
+  pub zeros-more : (i : ℕ) → first ≤ i → i < length old
+      → set (take first old ++ replicate (i - first) 0 ++ drop i old) i 0 ≡ take first old ++ replicate (i + 1 - first) 0 ++ drop (i + 1) old
+  zeros-more i h k =
       let more : i + 1 - first ≡ i - first + 1 = omega arith in
-      rw (add-one i, take-suc-set new i 0 k, same, sym (add-one i), more, sym (replicate-append-replicate {A = ℕ} (i - first) 1 0))
-      (append-assoc (take first old) (replicate (i - first) 0) (0 ∷ []))
+      let front = take first old ++ replicate (i - first) 0 in
+      let long : length front ≡ i =
+      length-append (take first old) (replicate (i - first) 0)
+      ∙ omega (arith, length-take-le first old (omega arith), length-replicate {A = ℕ} (i - first) 0) in
+      rw (drop-cons old i 0 k, more, sym (replicate-append-replicate {A = ℕ} (i - first) 1 0), add-one i)
+      (set-at front (getD old i 0) (drop (suc i) old) 0 i long ∙ sym (append-assoc front (0 ∷ []) (drop (suc i) old))
+      ∙ ap (λ (x : List ℕ). x ++ drop (suc i) old) (append-assoc (take first old) (replicate (i - first) 0) (0 ∷ [])))
 
-  pub zeros-all : (new : List ℕ) (i : ℕ) → length new ≡ length old → i ≡ length old → take i new ≡ take first old ++ replicate (i - first) 0
-      → new ≡ padded (length old) 0 (take first old)
-  zeros-all new i l e same = rw (length-take-le first old room) (sym (take-all i new (omega arith)) ∙ rw (sym e) same)
+  -- Where zeros stand behind those, there are zeros up to the end.
+  pub zeros-all : (n i : ℕ) → first ≤ i → i ≤ n → n ≤ length old → drop i old ≡ replicate (n - i) 0
+      → take first old ++ replicate (i - first) 0 ++ drop i old ≡ padded n 0 (take first old)
+  zeros-all n i h k l e =
+      let all : i - first + (n - i) ≡ n - first = omega arith in
+      rw (e, length-take-le first old (omega arith), sym all, sym (replicate-append-replicate {A = ℕ} (i - first) (n - i) 0))
+      (append-assoc (take first old) (replicate (i - first) 0) (replicate (n - i) 0))
+
+-- Behind the first i of n zeros there are zeros.
+pub zeros-left : (n i : ℕ) → i ≤ n → drop {A = ℕ} i (replicate n 0) ≡ replicate (n - i) 0
+zeros-left n i h =
+    let all : i + (n - i) ≡ n = omega arith in
+    ap (λ (m : ℕ). drop {A = ℕ} i (replicate m 0)) (sym all)
+    ∙ rw (sym (replicate-append-replicate {A = ℕ} i (n - i) 0)) (drop-at (replicate i 0) (replicate (n - i) 0) i (length-replicate {A = ℕ} i 0))
 
 -- A stretch put behind the runs of a list, which then has n of them; and zeros put there.
 abbrev pub withNext : RunList → Stretch → (n : ℕ) → RunList

@@ -4,18 +4,19 @@ use Prim.Native.Nat.{ℕ, zero, suc, _+_, _-_, _*_, _/_, _%_, _≤_, _<_}
 use native.Mathlib.Omega.{arith}
 use native.Mathlib.Numerals.{add-one}
 use mathlib.Core.Path.{_≡_, refl, sym, ap, _∙_}
-use mathlib.Core.List.{List}
-use lib.ListN.{length, getD}
+use mathlib.Core.List.{List, _++_}
+use lib.ListN.{length, getD, drop, length-append, length-drop}
+use lib.Seq.{drop-at}
 use Rattle.runs.specs.Breaks.{Break, breaksTo, runsBelow}
 use Rattle.runs.specs.Sweep.{Raised, distinctTo, SweptTo}
-use Rattle.runs.specs.Steps.{Places, Room, Stepped, envelopesTo, Sweepable, Swept}
+use Rattle.runs.specs.Steps.{Places, Room, Stepped, envelopesTo, Sweepable, Swept, SweptFront}
 use Rattle.runs.specs.Required.{requiredRuns}
 use Rattle.runs.specs.RunList.{lastStation}
 use Rattle.runs.proofs.RunsOfLaws.{runs-of-unique}
 use Rattle.runs.proofs.RequiredLaws.{required-runs}
 use Rattle.runs.proofs.SweepLaws.{tops-fall, above-small}
 use Rattle.runs.proofs.StandLaws.{stands-first, stands-last, last-zero}
-use Rattle.runs.proofs.PlaceLaws.{breaks-length, below-last}
+use Rattle.runs.proofs.PlaceLaws.{breaks-length, breaks-front, below-last}
 
 -- A sweep that is past the first i envelopes, and not past the start of a later one.
 pub record Sweeping (keys ends : List ℕ) (n G i : ℕ) (tops : List ℕ) (level : ℕ) (bs : List Break) : Type 0 where
@@ -35,8 +36,8 @@ module _ (keys ends : List ℕ) (n G : ℕ) where
       → Sweeping keys ends n G i tops level (breaksTo starts levels count) → count + distinctTo tops level ≤ 2 * i
   sweeping-room {i} starts levels count s = omega (arith, s .stands .room, breaks-length starts levels count, envelopes-length keys ends i)
 
-  pub room-left : {i most : ℕ} {tops : List ℕ} {level : ℕ} (starts levels : List ℕ) (count : ℕ) → Places starts levels → length tops ≡ 8 → 2 * i ≤ most
-      → Sweeping keys ends n G i tops level (breaksTo starts levels count) → Room most starts levels tops count level
+  pub room-left : {i free : ℕ} {tops : List ℕ} {level : ℕ} (starts levels : List ℕ) (count : ℕ) → Places starts levels → length tops ≡ 8
+      → 2 * i + free ≤ length starts → Sweeping keys ends n G i tops level (breaksTo starts levels count) → Room free starts levels tops count level
   room-left starts levels count places eight h s =
       record {
         places = places;
@@ -74,3 +75,18 @@ module _ (keys ends : List ℕ) (n G : ℕ) (starts levels : List ℕ) (count : 
       sym (below-last starts levels 0 count (last-zero st))
       ∙ runs-of-unique _ _ (stands-last st 0) (required-runs (envelopesTo keys ends n) G (λ x m. st .begun .sound x m .long)
       (λ x m. st .begun .sound x m .ends))
+
+  -- The same in the front of starts that have more places.
+  pub swept-front : (old : List ℕ) → n * 2 ≤ length old → length starts ≡ n * 2 → SweptFront keys ends n G old (starts ++ drop (n * 2) old) levels count
+  swept-front old h long =
+      let rest = drop (n * 2) old in
+      record {
+        swept = record {
+          within = s .within;
+          tops = s .tops;
+          level = s .level;
+          stands = rw (breaks-front starts levels rest count (omega (arith, s .within))) (s .stands);
+        };
+        as-long = length-append starts rest ∙ omega (arith, length-drop (n * 2) old);
+        behind = drop-at starts rest (n * 2) long;
+      }

@@ -1,9 +1,9 @@
 -- What the steps of the sweep ask and give: the room in the arrays, the fall of the level up to a station, one envelope more, all envelopes.
 -- Assumes nothing.
-use Prim.Native.Nat.{ℕ, zero, suc, _+_, _≤_, _<_}
+use Prim.Native.Nat.{ℕ, zero, suc, _+_, _*_, _≤_, _<_}
 use mathlib.Core.List.{List, [], _∷_}
 use mathlib.Core.Path.{_≡_}
-use lib.ListN.{length, getD}
+use lib.ListN.{length, getD, drop}
 use Rattle.runs.specs.declared.Stretch.{Stretch}
 use Rattle.runs.specs.RunList.{lastStation}
 use Rattle.runs.specs.Breaks.{Break, breaksTo}
@@ -11,21 +11,17 @@ use Rattle.runs.specs.Keys.{envelopeOf}
 use Rattle.runs.specs.Sorted.{RisingKeys}
 use Rattle.runs.specs.Sweep.{Sound, Raised, Falling, distinctTo, SweptTo}
 
--- Places for break points: two for each of 256 envelopes.
-abbrev pub breakPlaces : ℕ
-breakPlaces = 512
+-- Places for break points: there is one for a level beside each for a start.
+abbrev pub Places : (starts levels : List ℕ) → Type 0
+Places starts levels = length starts ≤ length levels
 
-pub record Places (starts levels : List ℕ) : Type 0 where
-  pub start-places : length starts ≡ breakPlaces
-  pub level-places : length levels ≡ breakPlaces
-
--- Each top to which the level will fall takes a place: with those in use they are `most` at most.
-pub record Room (most : ℕ) (starts levels tops : List ℕ) (count level : ℕ) : Type 0 where
+-- Each top to which the level will fall takes a place: beside those and the ones in use, `free` places are left.
+pub record Room (free : ℕ) (starts levels tops : List ℕ) (count level : ℕ) : Type 0 where
   pub places : Places starts levels
   pub eight : length tops ≡ 8
   pub falling : Falling tops
   pub small : level ≤ 6
-  pub within : count + distinctTo tops level ≤ most
+  pub within : count + distinctTo tops level + free ≤ length starts
 
 -- The break points go on up to s.
 pub record Drained (tops : List ℕ) (s count level : ℕ) (bs : List Break) (count′ level′ : ℕ) (bs′ : List Break) : Type 0 where
@@ -55,8 +51,13 @@ pub record Sweepable (keys ends : List ℕ) (n : ℕ) : Type 0 where
 
 -- The break points of the required level up to the last station.
 pub record Swept (keys ends : List ℕ) (n G : ℕ) (starts levels : List ℕ) (count : ℕ) : Type 0 where
-  pub places : length starts ≡ breakPlaces
-  pub within : count ≤ breakPlaces
+  pub within : count ≤ n * 2
   pub tops : List ℕ
   pub level : ℕ
   pub stands : SweptTo (envelopesTo keys ends n) G lastStation tops level (breaksTo starts levels count)
+
+-- The same in the first places, two for each envelope, of starts that may have more: those behind stay as they were.
+pub record SweptFront (keys ends : List ℕ) (n G : ℕ) (starts starts′ levels′ : List ℕ) (count : ℕ) : Type 0 where
+  pub swept : Swept keys ends n G starts′ levels′ count
+  pub as-long : length starts′ ≡ length starts
+  pub behind : drop (n * 2) starts′ ≡ drop (n * 2) starts

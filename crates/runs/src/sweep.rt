@@ -4,16 +4,15 @@ use base::max;
 use base::saturating_sub;
 ghost use mathlib.Core.Path.{_≡_};
 ghost use mathlib.Core.Bool.{true};
-ghost use mathlib.Core.List.{List};
-ghost use Prim.Native.Nat.{ℕ, _+_, _-_, _≤_, _<_, min, max};
-ghost use lib.ListN.{length, take};
-ghost use Rattle.base.specs.Stored.{padded};
+ghost use mathlib.Core.List.{List, _++_};
+ghost use Prim.Native.Nat.{ℕ, _+_, _-_, _*_, _≤_, _<_, min, max};
+ghost use lib.ListN.{length, take, drop, replicate};
 ghost use Rattle.base.specs.Choice.{if_then_else_};
 ghost use Rattle.runs.specs.Required.{requiredRuns};
 ghost use Rattle.runs.specs.Stored.{storedRuns};
 ghost use Rattle.runs.specs.Breaks.{levelOf, breaksTo, breaksBefore, setFrom};
 ghost use Rattle.runs.specs.Sweep.{bit, aboveTo, Raised, Falling, filledFrom, lifted};
-ghost use Rattle.runs.specs.Steps.{breakPlaces, Places, Room, Drained, Stepped, envelopesTo, Sweepable, Swept};
+ghost use Rattle.runs.specs.Steps.{Places, Room, Drained, Stepped, envelopesTo, Sweepable, Swept, SweptFront};
 
 // Where a sweep stands: break points in use, and the required level there.
 pub struct Place {
@@ -73,7 +72,7 @@ fn level_before(levels: &[u8], k: usize) -> u8
 // Level v from t on; before t nothing changes.
 fn set_from(starts: &mut [u64], levels: &mut [u8], count: usize, t: u64, v: usize) -> usize
     requires { ⌜ Places (now starts) (now levels) ⌝ }
-    requires { ⌜ count < breakPlaces ⌝ }
+    requires { ⌜ count < length (now starts) ⌝ }
     requires { ⌜ v ≤ 6 ⌝ }
     ensures { λ r. ⌜ (r ≤ count + 1) × (breaksTo (now (starts .exit)) (now (levels .exit)) r ≡ setFrom t v (breaksTo (now (starts .entry)) (now (levels .entry)) count)) ⌝ }
 {
@@ -91,7 +90,7 @@ fn set_from(starts: &mut [u64], levels: &mut [u8], count: usize, t: u64, v: usiz
 fn fill(starts: &mut [u64], levels: &mut [u8], tops: &[u64], p: Place, v: usize) -> usize
     requires { ⌜ Places (now starts) (now levels) ⌝ }
     requires { ⌜ length (now tops) ≡ 8 ⌝ }
-    requires { ⌜ p .count < breakPlaces ⌝ }
+    requires { ⌜ p .count < length (now starts) ⌝ }
     requires { ⌜ v ≤ 6 ⌝ }
     ensures { λ r. ⌜ (r ≤ p .count + 1) × (breaksTo (now (starts .exit)) (now (levels .exit)) r ≡ filledFrom (now (tops .entry)) (p .level) v (breaksTo (now (starts .entry)) (now (levels .entry)) (p .count))) ⌝ }
 {
@@ -121,7 +120,7 @@ fn lift(
     requires { ⌜ Places (now starts) (now levels) ⌝ }
     requires { ⌜ length (now tops) ≡ 8 ⌝ }
     requires { ⌜ Falling (now tops) ⌝ }
-    requires { ⌜ p .count + 1 < breakPlaces ⌝ }
+    requires { ⌜ p .count + 1 < length (now starts) ⌝ }
     requires { ⌜ l ≤ 6 ⌝ }
     ensures { λ r. ⌜ (r ≤ p .count + 2) × (breaksTo (now (starts .exit)) (now (levels .exit)) r ≡ lifted (now (tops .entry)) (p .level) s l g (breaksTo (now (starts .entry)) (now (levels .entry)) (p .count))) ⌝ }
 {
@@ -138,7 +137,7 @@ fn lift(
 
 // The break points where the level falls, up to s.
 fn drain(starts: &mut [u64], levels: &mut [u8], tops: &[u64], p: Place, s: u64) -> Place
-    requires { ⌜ Room breakPlaces (now starts) (now levels) (now tops) (p .count) (p .level) ⌝ }
+    requires { ⌜ Room 0 (now starts) (now levels) (now tops) (p .count) (p .level) ⌝ }
     ensures { λ r. ⌜ Drained (now (tops .entry)) s (p .count) (p .level) (breaksTo (now (starts .entry)) (now (levels .entry)) (p .count)) (r .count) (r .level) (breaksTo (now (starts .exit)) (now (levels .exit)) (r .count)) ⌝ }
 {
     let mut count = p.count;
@@ -166,7 +165,7 @@ fn step(
     l: usize,
     g: u64,
 ) -> Place
-    requires { ⌜ Room 510 (now starts) (now levels) (now tops) (p .count) (p .level) ⌝ }
+    requires { ⌜ Room 2 (now starts) (now levels) (now tops) (p .count) (p .level) ⌝ }
     requires { ⌜ l ≤ 6 ⌝ }
     ensures { λ r. ⌜ Stepped (now (tops .entry)) s l g (p .level) (breaksTo (now (starts .entry)) (now (levels .entry)) (p .count)) (r .level) (breaksTo (now (starts .exit)) (now (levels .exit)) (r .count)) ⌝ }
 {
@@ -214,11 +213,12 @@ fn sweep(
     ends: &[u64],
     n: usize,
     g: u64,
-    starts: &mut [u64; 512],
+    starts: &mut [u64],
     levels: &mut [u8],
 ) -> usize
     requires { ⌜ Sweepable (now keys) (now ends) n ⌝ }
     requires { ⌜ Places (now starts) (now levels) ⌝ }
+    requires { ⌜ n * 2 ≤ length (now starts) ⌝ }
     ensures { λ r. ⌜ Swept (now (keys .entry)) (now (ends .entry)) n g (now (starts .exit)) (now (levels .exit)) r ⌝ }
 {
     let mut tops: [u64; 8] = [0; 8];
@@ -243,14 +243,50 @@ fn sweep(
     last.count
 }
 
-// Zeros from a place on.
-fn clear_from(starts: &mut [u64; 512], first: usize)
+// The same in the places that n envelopes can use, two for each; the starts behind stay as they are.
+fn sweep_front(
+    keys: &[u64],
+    ends: &[u64],
+    n: usize,
+    g: u64,
+    starts: &mut [u64],
+    levels: &mut [u8],
+) -> usize
+    requires { ⌜ Sweepable (now keys) (now ends) n ⌝ }
+    requires { ⌜ Places (now starts) (now levels) ⌝ }
+    requires { ⌜ n * 2 ≤ length (now starts) ⌝ }
+    ensures { λ r. ⌜ SweptFront (now (keys .entry)) (now (ends .entry)) n g (now (starts .entry)) (now (starts .exit)) (now (levels .exit)) r ⌝ }
+{
+    let used = n * 2;
+    sweep(keys, ends, n, g, &mut starts[..used], &mut levels[..])
+}
+
+// The same of an array, which is how a list's starts are lent.
+fn sweep_array(
+    keys: &[u64],
+    ends: &[u64],
+    n: usize,
+    g: u64,
+    starts: &mut [u64; 512],
+    levels: &mut [u8],
+) -> usize
+    requires { ⌜ Sweepable (now keys) (now ends) n ⌝ }
+    requires { ⌜ Places (now starts) (now levels) ⌝ }
+    requires { ⌜ n * 2 ≤ length (now starts) ⌝ }
+    ensures { λ r. ⌜ SweptFront (now (keys .entry)) (now (ends .entry)) n g (now (starts .entry)) (now (starts .exit)) (now (levels .exit)) r ⌝ }
+{
+    sweep_front(keys, ends, n, g, &mut starts[..], &mut levels[..])
+}
+
+// Zeros from a place on, up to place `used`.
+fn clear_from(starts: &mut [u64; 512], first: usize, used: usize)
     requires { ⌜ length (now starts) ≡ 512 ⌝ }
-    requires { ⌜ first ≤ 512 ⌝ }
-    ensures { λ _. ⌜ now (starts .exit) ≡ padded 512 0 (take first (now (starts .entry))) ⌝ }
+    requires { ⌜ first ≤ used ⌝ }
+    requires { ⌜ used ≤ 512 ⌝ }
+    ensures { λ _. ⌜ now (starts .exit) ≡ take first (now (starts .entry)) ++ replicate (used - first) 0 ++ drop used (now (starts .entry)) ⌝ }
 {
     let mut i = first;
-    while i < 512 {
+    while i < used {
         starts[i] = 0;
         i += 1;
     }
@@ -269,7 +305,7 @@ pub fn swept_runs(keys: &[u64], ends: &[u64], n: usize, g: u64) -> RunList
         levels: [0; 512],
     };
     let mut levels: [u8; 512] = [0; 512];
-    let count = sweep(keys, ends, n, g, &mut list.starts, &mut levels[..]);
+    let count = sweep_array(keys, ends, n, g, &mut list.starts, &mut levels[..]);
     let mut start = list.starts[0];
     let mut k = 0;
     let mut i = 0;
@@ -286,7 +322,7 @@ pub fn swept_runs(keys: &[u64], ends: &[u64], n: usize, g: u64) -> RunList
     // What break points leave behind the runs.
     list.ends[k] = 0;
     list.levels[k] = 0;
-    clear_from(&mut list.starts, k);
+    clear_from(&mut list.starts, k, n * 2);
     list.count = k;
     list
 }

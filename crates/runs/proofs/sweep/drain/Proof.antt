@@ -8,7 +8,6 @@ use lib.ListN.{length, getD}
 use Rattle.runs.specs.declared.Stretch.{Stretch}
 use Rattle.runs.specs.Breaks.{breaksTo}
 use Rattle.runs.specs.Sweep.{distinctTo, SweptTo}
-use Rattle.runs.specs.Steps.{breakPlaces}
 use Rattle.runs.proofs.TopLaws.{distinct-some, count-falls, count-distinct}
 use Rattle.runs.proofs.PlaceLaws.{breaks-push}
 use Rattle.runs.proofs.StandLaws.{Standing, standing-fall, standing-end}
@@ -26,11 +25,11 @@ abbrev μ-loop : tie.MeasureT-loop
 μ-loop starts₀ levels₀ tops s count₀ level₀ starts levels count level = level
 
 -- While the level is not 0 there is a place left.
-place : (c : tie.After-above Inv-loop μ-loop) → c .before .before .before .before .loop .count < breakPlaces
+place : (c : tie.After-above Inv-loop μ-loop) → c .before .before .before .before .loop .count < length (c .before .before .before .before .loop .starts)
 place c =
     let l = c .before .before .before .before .loop in
     let start = c .before .before .before .before .before .before .before .before in
-    omega (arith, distinct-some (start .args .tops .now) (l .level) (c .before .before .before .loop-test .taken), l .inv .3, start .pre .within)
+    omega (arith, distinct-some (start .args .tops .now) (l .level) (c .before .before .before .loop-test .taken), l .inv, start .pre .within)
 
 returns : tie.Need-returns Inv-loop μ-loop
 returns c =

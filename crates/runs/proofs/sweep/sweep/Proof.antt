@@ -22,31 +22,32 @@ abbrev μ-loop : tie.MeasureT-loop
 
 loop-holds : tie.Need-loop-holds Inv-loop μ-loop
 loop-holds c =
-    let a = c .before .before .before .args in
+    let a = c .before .before .before .before .args in
     (omega arith, refl, refl, refl, sweeping-first (a .keys .now) (a .ends .now) (a .n) (a .g) (replicate 8 0) (a .starts .now) (a .levels .now) (zeros 8))
 
 step-requires : tie.Need-step-requires Inv-loop μ-loop
 step-requires c κs =
     let l = c .before .before .before .before .before .loop in
-    let pre = c .before .before .before .before .before .before .before .before .before .pre in
+    let pre = c .before .before .before .before .before .before .before .before .before .before .pre in
     let taken = c .before .before .before .before .loop-test .taken in (
-      room-left _ _ _ _ _ _ _ (record { start-places = search needs; level-places = search needs }) (l .inv .3) (omega (arith, pre .0 .few, taken)) (l .inv .4),
+      room-left _ _ _ _ _ _ _ (search needs) (l .inv .3) (omega (arith, pre .1 .1, l .inv .1, taken)) (l .inv .4),
       omega (arith, pre .0 .sound (l .i) taken .top),
     )
 
 raise-requires : tie.Need-raise-requires Inv-loop μ-loop
 raise-requires c κs =
-    let l = c .before .before .before .before .before .before .before .before .before .before .loop in
-    let pre = c .before .before .before .before .before .before .before .before .before .before .before .before .before .before .pre in
-    let sound = pre .0 .sound (l .i) (c .before .before .before .before .before .before .before .before .before .loop-test .taken) in
+    let l = c .before .before .before .before .before .before .before .before .before .before .before .before .loop in
+    let pre = c .before .before .before .before .before .before .before .before .before .before .before .before .before .before .before .before .before .pre in
+    let sound = pre .0 .sound (l .i) (c .before .before .before .before .before .before .before .before .before .before .before .loop-test .taken) in
     (l .inv .3, (tops-fall (l .inv .4 .stands .begun), omega (arith, sound .top)))
 
 loop-again : tie.Need-loop-again Inv-loop μ-loop
 loop-again c =
-    let l = c .before .before .before .before .before .before .before .before .before .before .before .before .loop in
-    let start = c .before .before .before .before .before .before .before .before .before .before .before .before .before .before .before .before in
-    let taken = c .before .before .before .before .before .before .before .before .before .before .before .loop-test .taken in
-    let stepped = c .before .before .before .before .before .before .step in
+    let l = c .before .before .before .before .before .before .before .before .before .before .before .before .before .before .loop in
+    let start = c .before .before .before .before .before .before .before .before .before .before .before .before .before .before .before .before .before
+    .before .before in
+    let taken = c .before .before .before .before .before .before .before .before .before .before .before .before .before .loop-test .taken in
+    let stepped = c .before .before .before .before .before .before .before .before .step in
     let raised = c .before .raise in (
       omega (arith, taken),
       search needs,
@@ -59,19 +60,17 @@ loop-again c =
 drain-requires : tie.Need-drain-requires Inv-loop μ-loop
 drain-requires c κs =
     let l = c .before .before .before .before .loop in
-    let pre = c .before .before .before .before .before .before .before .before .pre in
-    room-left _ _ _ _ _ _ _ (record { start-places = search needs; level-places = search needs }) (l .inv .3) (omega (arith, pre .0 .few, l .inv .0))
-    (l .inv .4)
+    let pre = c .before .before .before .before .before .before .before .before .before .pre in
+    room-left _ _ _ _ _ _ _ (search needs) (l .inv .3) (omega (arith, pre .1 .1, l .inv)) (l .inv .4)
 
 returns : tie.Need-returns Inv-loop μ-loop
 returns c =
-    let l = c .before .before .before .before .before .before .before .loop in
-    let start = c .before .before .before .before .before .before .before .before .before .before .before in
-    let drained = c .before .before .drain in
-    let same : l .i ≡ start .args .n = omega (arith, l .inv .0, c .before .before .before .before .before .before .loop-test .left) in
+    let l = c .before .before .before .before .before .before .before .before .before .loop in
+    let start = c .before .before .before .before .before .before .before .before .before .before .before .before .before .before in
+    let drained = c .before .before .before .before .drain in
+    let same : l .i ≡ start .args .n = omega (arith, l .inv .0, c .before .before .before .before .before .before .before .before .loop-test .left) in
     record {
-      places = search needs;
-      within = omega (arith, drained .ensures .within, sweeping-room _ _ _ _ _ _ _ (l .inv .4), l .inv .0, start .pre .0 .few);
+      within = omega (arith, drained .ensures .within, sweeping-room _ _ _ _ _ _ _ (l .inv .4), l .inv .0);
       tops = l .tops;
       level = drained .result .level;
       stands = rw same at (drained .ensures .stands (envelopesTo (start .args .keys .now) (start .args .ends .now) (l .i)) (start .args .g) (l .inv .4 .at)
@@ -98,5 +97,6 @@ sweep-spec =
     loop-again
     (λ c. search needs)
     drain-requires
+    (λ c. search needs)
     (λ c. search needs)
     returns)
