@@ -1,15 +1,16 @@
--- The test of one state, whose places are lent: the contract of `also_sound`, its question asked of places that lie within a cell, and the step of code that
--- asks it of one kept state.
+-- The test of one state, whose places are lent: the contract of `also_sound`, its question asked of places that lie within a cell, and the steps of code that
+-- ask it of the present state and of one kept state.
 -- Assumes nothing.
 use Prim.Native.Nat.{_+_}
-use mir.Syntax.{addrOf}
+use native.Mathlib.Omega.{arith}
+use mir.Syntax.{addrOf, int}
 use base.Logic.{allE, apply∗, wand}
 use base.Logic
 use base.Fml.{froom, fsep, flent}
 use prog.Wp.{Spot}
 use types.Kit.{fpack, fpick, mean, rewrite}
 use types.Part.{Part}
-use types.Run.{Finds, addr, forget}
+use types.Run.{Finds, addr, forget, lit}
 use types.Tokens.{lft-new, lft-end, lent-back}
 use denote.Array.{array-vals, array-tells, array-makes}
 use denote.Lend.{lends-shr}
@@ -19,27 +20,32 @@ use denote.Signature.{shrRefTo}
 use denote.Struct.Laws as LL
 use denote.Triple.Clauses.{Ended, Clauses, closing}
 use Rattle.job.specs.declared.NamedHazard.{NamedHazard}
+use Rattle.job.specs.declared.StoredJob.{StoredJob}
+use Rattle.job.proofs.Header as Header·t
+use Rattle.job.proofs.Header.Laws as Header·t′
+use Rattle.job.proofs.StoredJob as StoredJob·t
+use Rattle.job.proofs.StoredJob.Laws as StoredJob·t′
 use Rattle.open_memory.specs.declared.rules.Limits.{Limits}
 use Rattle.open_job.specs.Parts.{alsoSound}
 use Rattle.open_job.specs.declared.KeptState.{KeptState}
 use Rattle.open_job.proofs.KeptState as KeptState·t
 use Rattle.open_job.proofs.KeptState.Laws as KeptState·t′
-use Rattle.barrier_engine.proofs.Walks.{_≡_, refl, sym, _∙_, subst, ℕ, zero, Bool, some, List, [], _∷_}
+use Rattle.barrier_engine.proofs.Walks.{_≡_, refl, sym, _∙_, subst, ℕ, zero, Bool, true, some, List, [], _∷_}
 use Rattle.barrier_engine.proofs.Walks.{URA, fullShare, Holds, Name, named as named′, Ty, w64}
-use Rattle.barrier_engine.proofs.Walks.{deref, field, Place, place, Operand, copy, rvOpd, Code, seq, assign, call, Val}
+use Rattle.barrier_engine.proofs.Walks.{deref, field, Place, place, Operand, opdTrue, copy, rvOpd, Code, seq, assign, call, Val}
 use Rattle.barrier_engine.proofs.Walks.{WT, hasTy, vptr, vbool, vint, rawTy}
 use Rattle.barrier_engine.proofs.Walks.{Share, Lft, GName, fat, fieldOf, Heap, Env, Calls, Loops, spotOf, Atoms, FmC, Given}
 use Rattle.barrier_engine.proofs.Walks.{Item, ‵, ⋆, _⊛_, Post, Step, step}
 use Rattle.barrier_engine.proofs.Walks.{_$_, _∵_, !, qed, runs, Writes, Opds, look, init, store, stop, fld}
-use Rattle.barrier_engine.proofs.Walks.{load, of-opd, sub, look-in, and-then, no-more, assigns}
+use Rattle.barrier_engine.proofs.Walks.{load, of-opd, all, sub, look-in, true-lit, and-then, no-more, assigns}
 use Rattle.barrier_engine.proofs.Walks.{land, lone, Triple, SProp, ent, emp, id⊢, exE, snd∗, sem, fact, Is, shows, RefT, now, ptr-vals, Signature, plain}
 use Rattle.barrier_engine.proofs.Walks.{Contract, tripleOf, yes, ensured, lasts, calls-at, raw, later, move, use1}
 use Rattle.barrier_engine.proofs.Walks.{use2, split, join, frame, done, nothing}
 use Rattle.barrier_engine.proofs.Walks.{drop, fsplit, fjoin, await, pick, heard, facts, owned}
 use Rattle.barrier_engine.proofs.Data.{Fits, local, room, truth, uint}
 use Rattle.barrier_engine.proofs.ByValue.{lands-as}
-use Rattle.barrier_engine.proofs.Steps.{here, behind}
-use Rattle.barrier_engine.proofs.States.{kept, memory}
+use Rattle.barrier_engine.proofs.Steps.{here, within, behind}
+use Rattle.barrier_engine.proofs.States.{header, stored, kept, memory, header-fits}
 use Rattle.barrier_engine.proofs.Borrow.{Token}
 use Rattle.barrier_engine.proofs.Passes.{named, limits, Places, places-fit}
 
@@ -148,6 +154,42 @@ module _ {M : Type 1} {𝓤 : URA M} {H : Heap 𝓤} {A : Atoms 𝓤} {K : Type 
       move t (2 ∷ []) $ use1 W (raw (wand 𝓤 (H .at s τ b o v) (mean 𝓤 H A (back v)))) (allE 𝓤 (λ (u : Val). wand 𝓤 (H .at s τ b o u) (mean 𝓤 H A (back u))) v) $
       move t (1 ∷ 0 ∷ []) $ use2 W (back v) (apply∗ 𝓤 (H .at s τ b o v) (mean 𝓤 H A (back v))) $
       rewrite t 0 (λ (j : Item 𝓤). j) (part .same) refl $ move t (1 ∷ []) $ drop t $ go))))))))))
+
+-- a state that fits has a hazard count that fits
+count-fits : (x : StoredJob) → Fits stored x → Fits (uint w64) (x .header .count)
+count-fits x fits =
+    LL.owed Header·t.the-type Header·t′.the-laws (x .header) _ (header-fits x fits) .1 .1 .1 .1 .1 .1 .1 .1 .1 .1 .1 .1 .1 .1 .0
+
+-- the present state, which is field 0 of the memory and whose header is in a local
+abbrev pub presentOf : (job head lims sound ref : ℕ) → Name → Code → Code
+presentOf job head lims sound ref f rest =
+    seq (assign (place ref []) (addrOf (place job (deref (memory .ty) ∷ field 0 ∷ field 1 ∷ []))))
+    (seq (call f (opdTrue ∷ copy (place lims []) ∷ int w64 1 ∷ copy (place head (field 14 ∷ [])) ∷ copy (place ref []) ∷ []) (place sound [])) rest)
+
+module _ {M : Type 1} {𝓤 : URA M} {H : Heap 𝓤} {A : Atoms 𝓤} {K : Type 0} {W : Given 𝓤 H A} {Γ : List (Item 𝓤)} {E : Env 𝓤 H} {C : Calls 𝓤 H} {Λ : Loops 𝓤 H}
+    {q : Post 𝓤 H} {f : Name} {rest : Code} {ρ σ : Ty} {b o lj lh ll ls lr : ℕ} where
+  pub present-tested : (t : K) → FmC 𝓤 H (W .laws) C → Triple 𝓤 (C f) (Sounds 𝓤 H A) → (job head lims sound ref : ℕ)
+      → spotOf 𝓤 H E job ≡ (ρ, lj, zero) → spotOf 𝓤 H E head ≡ (header .ty, lh, zero) → spotOf 𝓤 H E lims ≡ (limits .ty, ll, zero)
+      → spotOf 𝓤 H E sound ≡ (truth .ty, ls, zero) → spotOf 𝓤 H E ref ≡ (σ, lr, zero)
+      → ((p : ℕ) → Holds (hasTy σ (vptr b p)) × WT (vptr b p)) → (cell : Item 𝓤) {s : Share} {back : Val → Item 𝓤} {d : ℕ}
+      → fieldOf (memory .ty) 0 ≡ some (stored .ty, d) → (x : StoredJob) → Part K W cell s (stored .ty) b (o + d) (stored .val x) back → Fits stored x
+      → (l : Limits) → Fits limits l
+      → Step K W (cell ∷ ‵ (fat fullShare ρ lj zero (vptr b o)) ∷ local limits ll l
+      ∷ local truth ls (alsoSound true l 1 (x .header .count) (x .hazards)) ∷ local header lh (x .header) ∷ ‵ (froom σ lr zero) ∷ Γ) (runs C Λ E rest q)
+      (cell ∷ ‵ (fat fullShare ρ lj zero (vptr b o)) ∷ local limits ll l ∷ room truth ls ∷ local header lh (x .header) ∷ ‵ (froom σ lr zero) ∷ Γ)
+      (runs C Λ E (presentOf job head lims sound ref f rest) q)
+  present-tested t fm known job head lims sound ref at-job at-head at-lims at-sound at-ref typed cell {s} {back} {d} e x part fits l l-fits = step (λ go.
+      assigns t (addr t (behind t at-job (look t 1 refl) (fld t e (fld t refl (stop t))))) (here t at-ref) (init t 5 refl (typed _)) $
+      let parts = LL.owed StoredJob·t.the-type StoredJob·t′.the-laws x _ fits in
+      lends t fm known cell (x .hazards) refl (sub t 1 refl part) (places-fit (x .hazards) _ (parts .1 .0)) true l 1 (x .header .count) l-fits
+      (refl, omega arith) (count-fits x fits) _
+      (λ v. ‵ (fat fullShare ρ lj zero (vptr b o)) ∷ local limits ll l ∷ local truth ls v ∷ local header lh (x .header)
+      ∷ ‵ (fat fullShare σ lr zero (vptr b _)) ∷ Γ) _
+      (λ i j m. and-then t (true-lit t) (and-then t (load t (here t at-lims) (look t 4 refl))
+      (and-then t (lit t tt) (and-then t (load t (within t at-head (fld t refl (stop t))) (look-in t 6 (sub t 14 refl (all t))))
+      (and-then t (load t (here t at-ref) (look t 7 refl)) (no-more t))))))
+      (λ i j m. here t at-sound) (λ i j m v. init t 5 refl) $
+      forget t 5 refl $ go)
 
 -- one kept state, which is field k of the memory
 abbrev pub testOf : (job lims sound used count ref k : ℕ) → Name → Code → Code

@@ -1,13 +1,14 @@
 -- The data that the calls on an open job pass, as a walk reads it (`Data.antt`), and what each part of it fits.
 -- Assumes nothing.
 use denote.Struct.Laws as LL
-use Rattle.barrier_engine.proofs.Walks.{ℕ, URA, Share, fat, Item, ‵}
-use Rattle.barrier_engine.proofs.Data.{Data, Fits, struct, truth}
+use Rattle.barrier_engine.proofs.Walks.{_≡_, ℕ, true, List, _∷_, URA, Share, fat, Item, ‵, Denots}
+use Rattle.barrier_engine.proofs.Data.{Data, Fits, rows, struct, truth}
 use Rattle.job.proofs.Header as Header·t
 use Rattle.job.proofs.Header.Laws as Header·t′
 use Rattle.job.specs.declared.StoredJob.{StoredJob}
 use Rattle.job.proofs.StoredJob as StoredJob·t
 use Rattle.job.proofs.StoredJob.Laws as StoredJob·t′
+use Rattle.open_memory.specs.Memory.{isOpenJob}
 use Rattle.open_job.proofs.KeptState as KeptState·t
 use Rattle.open_job.proofs.KeptState.Laws as KeptState·t′
 use Rattle.open_job.specs.States.{keptStates, statesFrom}
@@ -29,6 +30,10 @@ header = struct Header·t.the-type Header·t′.the-laws Header·t′.the-plain 
 -- a stored job: the present state
 abbrev pub stored : Data
 stored = struct StoredJob·t.the-type StoredJob·t′.the-laws StoredJob·t′.the-plain StoredJob·t′.the-copy
+
+-- what a function asks of a present state that it is handed with what the memory's test said: where the memory keeps the rules, it is an open job
+abbrev pub Open : (Ds : List Data) → Denots (rows 0 tt (truth ∷ stored ∷ Ds)) → Type 0
+Open Ds a = a .0 ≡ true → isOpenJob (a .1 .0) ≡ true
 
 -- one kept state
 abbrev pub kept : Data

@@ -16,7 +16,7 @@ use Rattle.barrier_engine.proofs.Walks.{setV, Share, fat, Heap, Env, Ca
 use Rattle.barrier_engine.proofs.Walks.{runs, Writes, Opd, Opds, look, stop, hop, fld, from, load, of-opd, assigns, land, all}
 use Rattle.barrier_engine.proofs.Walks.{sub, look-in, Denots, flat, Triple}
 use Rattle.barrier_engine.proofs.Data.{Data, Fits, AllFit, rows, machine}
-use Rattle.barrier_engine.proofs.ByValue.{Gives, gives}
+use Rattle.barrier_engine.proofs.ByValue.{Gives, gives, GivesIf, gives-if}
 
 module _ {M : Type 1} {𝓤 : URA M} {H : Heap 𝓤} {A : Atoms 𝓤} {K : Type 0} {W : Given 𝓤 H A} {Γ : List (Item 𝓤)} where
   module _ {E : Env 𝓤 H} where
@@ -46,6 +46,15 @@ module _ {M : Type 1} {𝓤 : URA M} {H : Heap 𝓤} {A : Atoms 𝓤} {K : Type 
           → Finds K W Γ E d sp → (Holds (hasTy (R .ty) (R .val (s a))) × WT (R .val (s a)) → Writes K W Γ (sp .0) (sp .1) (sp .2) (R .val (s a)) Γ′)
           → (Fits R (s a) → Seq K W Γ′ (runs C Λ E rest q)) → Seq K W Γ (runs C Λ E (seq (call f xs d) rest) q)
       asks t fm Ds R s known a fits os found into k = gives t fm Ds R s known a fits os (λ i. land t found (into (R .typed 𝓤 H A W (s a) i)) $ k i)
+
+      -- the same of a function with a requires, which holds
+      pub asks-if : K → FmC 𝓤 H (W .laws) C → (Ds : List Data) (R : Data) (P : Denots (rows 0 tt Ds) → Type 0) (s : Denots (rows 0 tt Ds) → R .row .Denot)
+          {f : Name} → Triple 𝓤 (C f) (GivesIf 𝓤 H A Ds R P s) → (a : Denots (rows 0 tt Ds)) → AllFit 0 tt Ds a → P a
+          → {xs : List Operand} {d : Place} {sp : Spot 𝓤 H} {Γ′ : List (Item 𝓤)} → Opds K W Γ E xs (flat (rows 0 tt Ds) (machine 0 tt Ds a))
+          → Finds K W Γ E d sp → (Holds (hasTy (R .ty) (R .val (s a))) × WT (R .val (s a)) → Writes K W Γ (sp .0) (sp .1) (sp .2) (R .val (s a)) Γ′)
+          → (Fits R (s a) → Seq K W Γ′ (runs C Λ E rest q)) → Seq K W Γ (runs C Λ E (seq (call f xs d) rest) q)
+      asks-if t fm Ds R P s known a fits holds os found into k =
+          gives-if t fm Ds R P s known a fits holds os (λ i. land t found (into (R .typed 𝓤 H A W (s a) i)) $ k i)
 
       -- field k of the struct in entry 0, behind the reference in the local j, is copied into the local i
       pub copies : K → {s : Share} {ν : Sym} {τs : Tys} {vs : Vals} {v : Val} {j i b o d : ℕ} {τ : Ty} {at-j at-i : Spot 𝓤 H} {Γ′ : List (Item 𝓤)} (k : ℕ)

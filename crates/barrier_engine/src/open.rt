@@ -1,5 +1,5 @@
-// The calls on an open job, which is changed in the caller's memory: thin shells over the calls by value. A shell takes the memory apart
-// field by field, so that at most three states are on its stack.
+// The calls on an open job, which is changed in the caller's memory: thin shells over functions by value. A shell tests the memory where it lies and
+// takes it apart field by field, so that no more of its states are on the stack than the call needs.
 use job::NamedHazard;
 use open_job::OpenStates;
 use open_job::kept::choose;
@@ -27,14 +27,14 @@ ghost use mathlib.Core.Path.{_≡_};
 ghost use lib.ListN.{length};
 ghost use Rattle.schedule.specs.Plan.{bytesWritten, outputAfter};
 ghost use Rattle.open_memory.specs.Memory.{hazardGiven};
-ghost use Rattle.open_job.specs.States.{allSound};
+ghost use Rattle.open_job.specs.States.{areOpenStates};
 ghost use Rattle.open_job.specs.Parts.{alsoSound};
 ghost use Rattle.open_job.specs.Calls.{memoryAfter, openStates, addIn, withdrawIn, scheduleIn, reachIn, keepIn, returnIn};
 ghost use Rattle.base.specs.Answer.{replied};
 ghost use Rattle.replies.specs.Interface.{replyOf, planReplyOf, reachReplyOf};
 
-// Is one kept state sound, behind others that are or are not: nothing, or the places of an open job. They are lent, so that none is copied, and
-// every one is passed without a branch.
+// Is one state sound, behind others that are or are not: nothing, or the places of an open job. They are lent, so that none is copied, and every one
+// is passed without a branch.
 fn also_sound(
     before: bool,
     limits: Limits,
@@ -59,13 +59,13 @@ fn also_sound(
     places_pass(extent.sound, low, bits)
 }
 
-// Is all that is kept sound. Every call but opening asks this first.
-fn all_sound(job: &OpenStates) -> bool
-    ensures { λ r. ⌜ r ≡ allSound (now (job .entry)) ⌝ }
+// Does the whole memory keep the rules, the present state and all that is kept. Every call but opening asks this first.
+fn are_open_states(job: &OpenStates) -> bool
+    ensures { λ r. ⌜ r ≡ areOpenStates (now (job .entry)) ⌝ }
 {
     let header = (*job).present.header;
     let limits = limits_of(header);
-    let mut sound = true;
+    let mut sound = also_sound(true, limits, 1, header.count, &(*job).present.hazards);
     sound = also_sound(
         sound,
         limits,
@@ -150,8 +150,8 @@ pub extern "C" fn barrier_open(job: &mut OpenStates, bytes: &[u8]) -> Reply
 pub extern "C" fn barrier_add(job: &mut OpenStates, name: u16, hazard: GivenHazard) -> Reply
     ensures { λ r. ⌜ (now (job .exit) ≡ memoryAfter (addIn (now (job .entry)) name (hazardGiven hazard)) (now (job .entry))) × (r ≡ replyOf (replied (addIn (now (job .entry)) name (hazardGiven hazard)))) ⌝ }
 {
-    let sound = all_sound(&*job);
-    let done = added(sound, (*job).present, name, hazard);
+    let passed = are_open_states(&*job);
+    let done = added(passed, (*job).present, name, hazard);
     (*job).present = done.next;
     done.reply
 }
@@ -160,8 +160,8 @@ pub extern "C" fn barrier_add(job: &mut OpenStates, name: u16, hazard: GivenHaza
 pub extern "C" fn barrier_withdraw(job: &mut OpenStates, name: u16) -> Reply
     ensures { λ r. ⌜ (now (job .exit) ≡ memoryAfter (withdrawIn (now (job .entry)) name) (now (job .entry))) × (r ≡ replyOf (replied (withdrawIn (now (job .entry)) name))) ⌝ }
 {
-    let sound = all_sound(&*job);
-    let done = withdrawn(sound, (*job).present, name);
+    let passed = are_open_states(&*job);
+    let done = withdrawn(passed, (*job).present, name);
     (*job).present = done.next;
     done.reply
 }
@@ -170,8 +170,8 @@ pub extern "C" fn barrier_withdraw(job: &mut OpenStates, name: u16) -> Reply
 pub extern "C" fn barrier_keep(job: &mut OpenStates, state: u64) -> Reply
     ensures { λ r. ⌜ (now (job .exit) ≡ memoryAfter (keepIn (now (job .entry)) state) (now (job .entry))) × (r ≡ replyOf (replied (keepIn (now (job .entry)) state))) ⌝ }
 {
-    let sound = all_sound(&*job);
-    let keeping = kept(sound, (*job).present, state);
+    let passed = are_open_states(&*job);
+    let keeping = kept(passed, state);
     let new = kept_from((*job).present);
     let done = keeping.done;
     (*job).kept0 = choose(done, state, 0, new, (*job).kept0);
@@ -189,7 +189,7 @@ pub extern "C" fn barrier_keep(job: &mut OpenStates, state: u64) -> Reply
 pub extern "C" fn barrier_return(job: &mut OpenStates, state: u64) -> Reply
     ensures { λ r. ⌜ (now (job .exit) ≡ memoryAfter (returnIn (now (job .entry)) state) (now (job .entry))) × (r ≡ replyOf (replied (returnIn (now (job .entry)) state))) ⌝ }
 {
-    let sound = all_sound(&*job);
+    let passed = are_open_states(&*job);
     let mut found = (*job).kept0;
     found = choose(true, state, 1, (*job).kept1, found);
     found = choose(true, state, 2, (*job).kept2, found);
@@ -198,7 +198,7 @@ pub extern "C" fn barrier_return(job: &mut OpenStates, state: u64) -> Reply
     found = choose(true, state, 5, (*job).kept5, found);
     found = choose(true, state, 6, (*job).kept6, found);
     found = choose(true, state, 7, (*job).kept7, found);
-    let done = returned(sound, (*job).present, state, found);
+    let done = returned(passed, (*job).present, state, found);
     (*job).present = done.next;
     done.reply
 }
@@ -207,14 +207,14 @@ pub extern "C" fn barrier_return(job: &mut OpenStates, state: u64) -> Reply
 pub extern "C" fn barrier_open_schedule(job: &OpenStates, side: u64, out: &mut [u8]) -> PlanReply
     ensures { λ r. ⌜ (r ≡ planReplyOf (bytesWritten (scheduleIn (now (job .entry)) side (length (now (out .entry)))))) × (now (out .exit) ≡ outputAfter (scheduleIn (now (job .entry)) side (length (now (out .entry)))) (now (out .entry))) ⌝ }
 {
-    let sound = all_sound(job);
-    scheduled(sound, (*job).present, side, out)
+    let passed = are_open_states(job);
+    scheduled(passed, (*job).present, side, out)
 }
 
 #[no_mangle]
 pub extern "C" fn barrier_open_reach(job: &OpenStates, name: u16) -> ReachReply
     ensures { λ r. ⌜ r ≡ reachReplyOf (reachIn (now (job .entry)) name) ⌝ }
 {
-    let sound = all_sound(job);
-    reached(sound, (*job).present, name)
+    let passed = are_open_states(job);
+    reached(passed, (*job).present, name)
 }

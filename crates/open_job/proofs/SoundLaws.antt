@@ -43,7 +43,7 @@ module _ (h : Header) (k : KeptState) (before : Bool) where
   abbrev bits : ℕ → ℕ
   bits n = bitsAfter 0 (drop n (k .hazards))
 
-  used-sound : eqb (k .used) 1 ≡ true → alsoSound before (limitsOf h) (k .used) (k .count) (k .hazards) ≡ (before && isOpenJob (stateOf h k))
+  pub used-sound : eqb (k .used) 1 ≡ true → alsoSound before (limitsOf h) (k .used) (k .count) (k .hazards) ≡ (before && isOpenJob (stateOf h k))
   unfolding alsoSound extentOf
   used-sound u = go (limitsOf h .fits && leb (k .count) mostStanding) refl
     where

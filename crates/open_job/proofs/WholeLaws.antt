@@ -17,19 +17,20 @@ use Rattle.base.proofs.AnswerLaws.{bind-same}
 use Rattle.job.specs.declared.StoredJob.{StoredJob}
 use Rattle.open_job.specs.declared.KeptState.{KeptState}
 use Rattle.open_job.specs.declared.OpenStates.{OpenStates}
-use Rattle.open_job.specs.States.{greatestStateNumber, nothingKept, keptFrom, stateOf, isUsed, keptStates, keptUnder, statesFrom, allSound}
+use Rattle.open_job.specs.States.{greatestStateNumber, nothingKept, keptFrom, stateOf, isUsed, keptStates, keptUnder, statesFrom}
 use Rattle.open_job.specs.States.{areOpenStates}
 use Rattle.open_job.specs.Calls.{memoryAfter, openJob, openStates, underRules, changedIn, testState, keepIn, keptJob, returnIn}
 use Rattle.open_job.specs.Parts.{chosen, eachSound, Carries, eachChosen, Keeps, lookedFor, afterOpening}
 use Rattle.open_job.proofs.StateLaws.{replaced}
-use Rattle.open_job.proofs.SoundLaws.{kept-sound}
+use Rattle.open_job.proofs.SoundLaws.{used-sound, kept-sound}
 
 module _ (m : OpenStates) where
-  pub test-whole : eachSound m ≡ allSound m
-  unfolding allOf
+  pub test-whole : eachSound m ≡ areOpenStates m
+  unfolding areOpenStates allOf
   test-whole =
       let h = m .present .header in
       simp (
+        used-sound h (keptFrom (m .present)) true refl,
         kept-sound h (m .kept0),
         kept-sound h (m .kept1),
         kept-sound h (m .kept2),

@@ -1,4 +1,4 @@
--- The steps of the calls on the parts of the memory, one kept state at a time.
+-- The steps of the calls on the parts of the memory, one state at a time.
 -- Assumes nothing.
 use Prim.Native.Nat.{ℕ}
 use mathlib.Core.Path.{_≡_}
@@ -19,9 +19,9 @@ use Rattle.open_job.specs.declared.OpenStates.{OpenStates}
 use Rattle.open_job.specs.States.{mostKept, nothingKept, keptFrom, keptStates, statesFrom}
 use Rattle.open_job.specs.Calls.{memoryAfter}
 
--- One kept state
+-- One state
 
--- Nothing is kept under a number, or the places of an open job are: how many hazards stand, and whether this much is sound, behind other states.
+-- Nothing is there, or the places of an open job are: how many hazards stand, and whether this much is sound, behind other states.
 unfoldable pub extentOf : (before : Bool) → Limits → (used count : ℕ) → Extent
 extentOf before l used count =
     if eqb used 1
@@ -45,12 +45,13 @@ chosen asked number own new old = if asked && eqb number own then new else old
 -- The whole memory, part by part
 
 module _ (m : OpenStates) where
-  -- The kept states, tested one after the other.
+  -- The present state, which is in use, and the kept states, tested one after the other.
   abbrev pub eachSound : Bool
   eachSound =
       let l : Limits = limitsOf (m .present .header) in
+      let present : Bool = alsoSound true l 1 (m .present .header .count) (m .present .hazards) in
       let one : Bool → KeptState → Bool = λ before k. alsoSound before l (k .used) (k .count) (k .hazards) in
-      let to3 : Bool = one (one (one (one true (m .kept0)) (m .kept1)) (m .kept2)) (m .kept3) in
+      let to3 : Bool = one (one (one (one present (m .kept0)) (m .kept1)) (m .kept2)) (m .kept3) in
       one (one (one (one to3 (m .kept4)) (m .kept5)) (m .kept6)) (m .kept7)
 
   -- What a call makes of the present state is what the call on the whole memory makes of that, and what is kept stays.

@@ -1,4 +1,4 @@
-// One kept state: its rules, made and taken back.
+// One state among others: its rules; kept, and taken back.
 use super::Extent;
 use super::KeptState;
 use job::Header;
@@ -40,8 +40,8 @@ pub fn is_used(kept: KeptState) -> bool
     kept.used == 1
 }
 
-// Nothing is kept under a number, or the places of an open job are: how many hazards stand, and whether this much is sound, behind other
-// states that are or are not.
+// Nothing is there, or the places of an open job are: how many hazards stand, and whether this much is sound, behind other states that are
+// or are not.
 pub fn extent_of(before: bool, limits: Limits, used: u64, count: u64) -> Extent
     ensures { λ r. ⌜ r ≡ extentOf before limits used count ⌝ }
 {

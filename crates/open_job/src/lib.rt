@@ -4,7 +4,8 @@ use job::StoredJob;
 use refusal::Outcome;
 
 pub mod calls; // the calls on the parts of the memory, by value
-pub mod kept; // one kept state: its rules, made and taken back
+pub mod kept; // one state among others: its rules; kept, and taken back
+pub mod tested; // their steps, once the memory is tested
 
 // What is kept under a number. Nothing: all is 0. A state: used is 1, and its names and hazards stand as in an open job, whose header is
 // that of the present state.

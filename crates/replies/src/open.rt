@@ -1,4 +1,4 @@
-// The calls on the parts of an open job's memory, and what C is told. `sound` says that all that is kept keeps the rules.
+// The calls on the parts of an open job's memory, and what C is told. `passed` says that the whole memory keeps the rules; the caller has tested it.
 use super::PlanReply;
 use super::ReachReply;
 use super::Reply;
@@ -13,7 +13,7 @@ use open_job::KeptState;
 use open_memory::GivenHazard;
 use refusal::Outcome;
 ghost use mathlib.Core.Path.{_≡_};
-ghost use mathlib.Core.Bool.{_&&_};
+ghost use mathlib.Core.Bool.{true};
 ghost use lib.ListN.{length};
 ghost use Rattle.refusal.specs.Refusal.{outcome};
 ghost use Rattle.job.specs.Job.{jobOf};
@@ -104,38 +104,42 @@ pub fn opened(bytes: &[u8]) -> Opening
     }
 }
 
-pub fn added(sound: bool, job: StoredJob, name: u16, hazard: GivenHazard) -> Changed
-    ensures { λ r. ⌜ r ≡ changedBy job (underRules (isOpenJob job && sound) (addTo job name (hazardGiven hazard))) ⌝ }
+pub fn added(passed: bool, job: StoredJob, name: u16, hazard: GivenHazard) -> Changed
+    requires { ⌜ (passed ≡ true → isOpenJob job ≡ true) ⌝ }
+    ensures { λ r. ⌜ r ≡ changedBy job (underRules passed (addTo job name (hazardGiven hazard))) ⌝ }
 {
-    with_reply(open_job::calls::add(sound, job, name, hazard))
+    with_reply(open_job::tested::add(passed, job, name, hazard))
 }
 
-pub fn withdrawn(sound: bool, job: StoredJob, name: u16) -> Changed
-    ensures { λ r. ⌜ r ≡ changedBy job (underRules (isOpenJob job && sound) (withdrawFrom job name)) ⌝ }
+pub fn withdrawn(passed: bool, job: StoredJob, name: u16) -> Changed
+    requires { ⌜ (passed ≡ true → isOpenJob job ≡ true) ⌝ }
+    ensures { λ r. ⌜ r ≡ changedBy job (underRules passed (withdrawFrom job name)) ⌝ }
 {
-    with_reply(open_job::calls::withdraw(sound, job, name))
+    with_reply(open_job::tested::withdraw(passed, job, name))
 }
 
-pub fn kept(sound: bool, job: StoredJob, number: u64) -> Keeping
-    ensures { λ r. ⌜ r ≡ endedBy (replied (underRules (isOpenJob job && sound) (testState number))) ⌝ }
+pub fn kept(passed: bool, number: u64) -> Keeping
+    ensures { λ r. ⌜ r ≡ endedBy (replied (underRules passed (testState number))) ⌝ }
 {
-    ending(open_job::calls::test_state(sound, job, number))
+    ending(open_job::tested::test_state(passed, number))
 }
 
-pub fn returned(sound: bool, job: StoredJob, number: u64, kept: KeptState) -> Changed
-    ensures { λ r. ⌜ r ≡ changedBy job (underRules (isOpenJob job && sound) (keptJob (job .header) number kept)) ⌝ }
+pub fn returned(passed: bool, job: StoredJob, number: u64, kept: KeptState) -> Changed
+    ensures { λ r. ⌜ r ≡ changedBy job (underRules passed (keptJob (job .header) number kept)) ⌝ }
 {
-    with_reply(open_job::calls::return_to(sound, job, number, kept))
+    with_reply(open_job::tested::return_to(passed, job, number, kept))
 }
 
-pub fn scheduled(sound: bool, job: StoredJob, side: u64, out: &mut [u8]) -> PlanReply
-    ensures { λ r. ⌜ (r ≡ planReplyOf (bytesWritten (underRules (isOpenJob job && sound) (plan (writeJob (jobOf job)) side (length (now (out .entry))))))) × (now (out .exit) ≡ outputAfter (underRules (isOpenJob job && sound) (plan (writeJob (jobOf job)) side (length (now (out .entry))))) (now (out .entry))) ⌝ }
+pub fn scheduled(passed: bool, job: StoredJob, side: u64, out: &mut [u8]) -> PlanReply
+    requires { ⌜ (passed ≡ true → isOpenJob job ≡ true) ⌝ }
+    ensures { λ r. ⌜ (r ≡ planReplyOf (bytesWritten (underRules passed (plan (writeJob (jobOf job)) side (length (now (out .entry))))))) × (now (out .exit) ≡ outputAfter (underRules passed (plan (writeJob (jobOf job)) side (length (now (out .entry))))) (now (out .entry))) ⌝ }
 {
-    plan_reply(open_job::calls::schedule(sound, job, side, out))
+    plan_reply(open_job::tested::schedule(passed, job, side, out))
 }
 
-pub fn reached(sound: bool, job: StoredJob, name: u16) -> ReachReply
-    ensures { λ r. ⌜ r ≡ reachReplyOf (underRules (isOpenJob job && sound) (reachUnder job name)) ⌝ }
+pub fn reached(passed: bool, job: StoredJob, name: u16) -> ReachReply
+    requires { ⌜ (passed ≡ true → isOpenJob job ≡ true) ⌝ }
+    ensures { λ r. ⌜ r ≡ reachReplyOf (underRules passed (reachUnder job name)) ⌝ }
 {
-    reach_reply(open_job::calls::reach(sound, job, name))
+    reach_reply(open_job::tested::reach(passed, job, name))
 }

@@ -1,10 +1,8 @@
--- `barrier_engine::open::barrier_keep` meets its contract: a walk of its code. The memory is tested, the present state and the number go through `kept` by
--- value, and each kept state is chosen again.
+-- `barrier_engine::open::barrier_keep` meets its contract: a walk of its code. The memory is tested, the number goes through `kept` by value, and each
+-- kept state is chosen again.
 -- All that the proof knows of the functions called is that they meet their contracts. Assumes nothing.
 use denote.Struct.Laws as LL
-use mathlib.Core.Bool.{_&&_}
-use Rattle.open_memory.specs.Memory.{isOpenJob}
-use Rattle.open_job.specs.States.{keptFrom, allSound}
+use Rattle.open_job.specs.States.{keptFrom, areOpenStates}
 use Rattle.open_job.specs.Calls.{memoryAfter, underRules, testState, keepIn}
 use Rattle.base.specs.Answer.{replied}
 use Rattle.open_job.specs.declared.KeptState.{KeptState}
@@ -20,7 +18,7 @@ use Rattle.replies.proofs.open.Keeping.Laws as Keeping·t′
 use Rattle.replies.proofs.ShellLaws.{tested, keep-shell}
 use Rattle.replies.proofs.open.kept.{Symbol.name as #kept, Symbol.routine as kept-routine, Met.met as kept-met}
 use Rattle.barrier_engine.proofs.Walks.{refl, List, [], _∷_, URA, w64, Lft, Heap, Calls, Loops, Atoms, tables, Given, _$_, _∵_, !, qed, by, move, look}
-use Rattle.barrier_engine.proofs.Walks.{init, store, stop, fld, from, load, of-opd, assigns, and-then, no-more, returns, enter}
+use Rattle.barrier_engine.proofs.Walks.{init, stop, fld, from, load, of-opd, assigns, and-then, no-more, returns, enter}
 use Rattle.barrier_engine.proofs.Walks.{alloc1, alloc0, params1, pass1, pass0, free0, all, sub, look-in, FmC, Denots, Triple, cited}
 use Rattle.barrier_engine.proofs.Data.{Data, Fits, struct, truth, uint, rows}
 use Rattle.barrier_engine.proofs.ByValue.{Gives}
@@ -30,7 +28,8 @@ use Rattle.barrier_engine.proofs.Borrow.{takes, puts}
 use Rattle.barrier_engine.proofs.Tests.{Tells, tells}
 use Rattle.barrier_engine.proofs.Chosen.{Chosen, choice, choice-known, each-kept}
 use Rattle.barrier_engine.proofs.Shell.{lent, leaving, Walk, shell}
-use Rattle.barrier_engine.proofs.open.all_sound.{Symbol.name as #all-sound, Symbol.routine as all-sound-routine, Met.met as all-sound-met}
+use Rattle.barrier_engine.proofs.open.are_open_states.{Symbol.name as #are-open-states, Symbol.routine as are-open-states-routine}
+use Rattle.barrier_engine.proofs.open.are_open_states.{Met.met as are-open-states-met}
 use Rattle.barrier_engine.proofs.open.barrier_keep.Key.{name as #f}
 use Rattle.barrier_engine.proofs.open.barrier_keep.Statement as stated
 use Rattle.barrier_engine.proofs.open.barrier_keep.Code as code
@@ -45,10 +44,10 @@ abbrev Asked : List Data
 Asked = uint w64 ∷ []
 
 abbrev Kept : List Data
-Kept = truth ∷ stored ∷ Asked
+Kept = truth ∷ Asked
 
 abbrev keepingOf : Denots (rows 0 tt Kept) → Keeping
-keepingOf a = endedBy (replied (underRules (isOpenJob (a .1 .0) && a .0) (testState (a .1 .1 .0))))
+keepingOf a = endedBy (replied (underRules (a .0) (testState (a .1 .0))))
 
 abbrev fresh : Denots (rows 0 tt (stored ∷ [])) → KeptState
 fresh a = keptFrom (a .0)
@@ -61,7 +60,7 @@ abbrev made : (κ : Lft) → OpenStates → Denots (rows 1 (κ, tt) Asked) → O
 made κ m a = eachChosen m (result κ m a .done) (a .0) (keptFrom (m .present))
 
 module _ {M : Type 1} (𝓤 : URA M) (H : Heap 𝓤) (A : Atoms 𝓤) (W : Given 𝓤 H A) (C : Calls 𝓤 H) (Λ : Loops 𝓤 H) (fm : FmC 𝓤 H (W .laws) C)
-    (known : Triple 𝓤 (C #all-sound) (Tells 𝓤 H A)) (known-fresh : Triple 𝓤 (C #kept-from) (Gives 𝓤 H A (stored ∷ []) kept fresh))
+    (known : Triple 𝓤 (C #are-open-states) (Tells 𝓤 H A)) (known-fresh : Triple 𝓤 (C #kept-from) (Gives 𝓤 H A (stored ∷ []) kept fresh))
     (known-choice : Triple 𝓤 (C #choose) (Gives 𝓤 H A Chosen kept choice)) (known-kept : Triple 𝓤 (C #kept) (Gives 𝓤 H A Kept keeping keepingOf)) where
   walk : Walk 𝓤 H A Asked made (λ κ m a. result κ m a .reply) C Λ code.function
   walk κ q b o γ m a fits =
@@ -76,10 +75,9 @@ module _ {M : Type 1} (𝓤 : URA M) (H : Heap 𝓤) (A : Atoms 𝓤) (W : Given
       let p : Parts m = parts m was in
       -- [the memory; job, sound, its reference, slot, now, state, keeping, new, done, old, the result; ..]
       move ! (0 ∷ 22 ∷ 18 ∷ 10 ∷ 6 ∷ 8 ∷ 20 ∷ 16 ∷ 14 ∷ 12 ∷ 4 ∷ 24 ∷ []) $ tells ! fm known 1 7 3 refl refl refl (tt, tt) m was $
+      asks ! fm Kept keeping keepingOf known-kept (areOpenStates m, a) (refl, fits)
+      (and-then ! (var ! 2 refl) (and-then ! (var ! 6 refl) (no-more !))) (from ! (stop !)) (init ! 7 refl) (λ i.
       copies ! 0 refl refl refl refl (look ! 1 refl) refl (init ! 5 refl (stored .typed 𝓤 H A W (m .present) (p .present-fits))) $
-      asks ! fm Kept keeping keepingOf known-kept (allSound m, (m .present, a)) (refl, (p .present-fits, fits))
-      (and-then ! (var ! 2 refl) (and-then ! (var ! 5 refl) (and-then ! (var ! 6 refl) (no-more !)))) (from ! (stop !)) (init ! 7 refl) (λ i.
-      copies ! 0 refl refl refl refl (look ! 1 refl) refl (store ! 5 refl (stored .typed 𝓤 H A W (m .present) (p .present-fits))) $
       asks ! fm (stored ∷ []) kept fresh known-fresh (m .present, tt) (p .present-fits, tt) (and-then ! (var ! 5 refl) (no-more !)) (from ! (stop !))
       (init ! 8 refl) (λ j.
       assigns ! (of-opd ! (load ! (from ! (fld ! refl (stop !))) (look-in ! 7 (sub ! 1 refl (all !))))) (from ! (stop !))
@@ -101,7 +99,8 @@ barrier-keep-spec 𝓤 H 𝓜 𝓖 𝓡 =
     shell 𝓤 H 𝓜 𝓖 𝓡 Asked (λ κ m a. memoryAfter (keepIn m (a .0)) m) made (λ κ m a. replyOf (replied (keepIn m (a .0)))) (λ κ m a. result κ m a .reply)
     (λ κ m a. keep-shell m (a .0)) code.env #f code.function (code.unfolded 𝓤 H 𝓜 𝓡)
     (λ W fm. walk 𝓤 H (𝓖 .A) W (tables 𝓤 H 𝓜 𝓡 code.env .C) (tables 𝓤 H 𝓜 𝓡 code.env .Λ) fm
-    (cited 𝓤 H (Tells 𝓤 H (𝓖 .A)) 𝓜 𝓡 code.env #all-sound all-sound-routine code.calls-barrier-engine·open·all-sound (all-sound-met 𝓤 H 𝓜 𝓖 𝓡))
+    (cited 𝓤 H (Tells 𝓤 H (𝓖 .A)) 𝓜 𝓡 code.env #are-open-states are-open-states-routine
+    code.calls-barrier-engine·open·are-open-states (are-open-states-met 𝓤 H 𝓜 𝓖 𝓡))
     (cited 𝓤 H (Gives 𝓤 H (𝓖 .A) (stored ∷ []) kept fresh) 𝓜 𝓡 code.env #kept-from kept-from-routine code.calls-open-job·kept·kept-from
     (kept-from-met 𝓤 H 𝓜 𝓖 𝓡))
     (choice-known 𝓤 H 𝓜 𝓖 𝓡 code.env code.calls-open-job·kept·choose)

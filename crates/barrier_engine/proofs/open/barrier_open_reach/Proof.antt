@@ -9,9 +9,7 @@ use denote.Ref.{ShrRef, shr-tells, shr-copy}
 use denote.Steps.{peeks, looks, shuts}
 use denote.Struct.Laws as LL
 use denote.Triple.Walked.{stay-none-ref, goes-none-ref}
-use mathlib.Core.Bool.{_&&_}
-use Rattle.open_memory.specs.Memory.{isOpenJob}
-use Rattle.open_job.specs.States.{allSound}
+use Rattle.open_job.specs.States.{areOpenStates}
 use Rattle.open_job.specs.Calls.{underRules, reachUnder}
 use Rattle.open_job.specs.declared.OpenStates.{OpenStates}
 use Rattle.open_job.proofs.OpenStates as OpenStates·t
@@ -20,7 +18,7 @@ use Rattle.replies.specs.Interface.{reachReplyOf}
 use Rattle.replies.specs.declared.ReachReply.{ReachReply}
 use Rattle.replies.proofs.ReachReply as ReachReply·t
 use Rattle.replies.proofs.ReachReply.Laws as ReachReply·t′
-use Rattle.replies.proofs.ShellLaws.{tested, reach-shell}
+use Rattle.replies.proofs.ShellLaws.{tested, open-present, reach-shell}
 use Rattle.replies.proofs.open.reached.{Symbol.name as #reached, Symbol.routine as reached-routine, Met.met as reached-met}
 use Rattle.barrier_engine.proofs.Walks.{refl, ℕ, List, [], _∷_, URA, named, w16, rawTy, Val, vptr, vint, SProp, ent, emp, via, fst∗, GName, Lft, Share}
 use Rattle.barrier_engine.proofs.Walks.{flft, fat, Memory, Routine}
@@ -31,12 +29,13 @@ use Rattle.barrier_engine.proofs.Walks.{pass0, free0, FmC, fmOf, WpFn-m
 use Rattle.barrier_engine.proofs.Walks.{owns, Is, shows, RefT, now, ptr, ptr-vals, plain, owned, nothing, spelt, onEntry, Meets, tripleOf, Triple, cited}
 use Rattle.barrier_engine.proofs.Walks.{entered, says, Stays, stay-none, walkOf, goes-none, ends-at, walked, walk-meets, yes}
 use Rattle.barrier_engine.proofs.Data.{Data, Fits, struct, truth, uint, rows}
-use Rattle.barrier_engine.proofs.ByValue.{Gives}
-use Rattle.barrier_engine.proofs.Steps.{var, copies, asks, freed}
-use Rattle.barrier_engine.proofs.States.{stored, memory, cellOf, Parts, parts}
+use Rattle.barrier_engine.proofs.ByValue.{GivesIf}
+use Rattle.barrier_engine.proofs.Steps.{var, copies, asks-if, freed}
+use Rattle.barrier_engine.proofs.States.{stored, memory, Open, cellOf, Parts, parts}
 use Rattle.barrier_engine.proofs.Borrow.{Token}
 use Rattle.barrier_engine.proofs.Tests.{Shared, Tells, told}
-use Rattle.barrier_engine.proofs.open.all_sound.{Symbol.name as #all-sound, Symbol.routine as all-sound-routine, Met.met as all-sound-met}
+use Rattle.barrier_engine.proofs.open.are_open_states.{Symbol.name as #are-open-states, Symbol.routine as are-open-states-routine}
+use Rattle.barrier_engine.proofs.open.are_open_states.{Met.met as are-open-states-met}
 use Rattle.barrier_engine.proofs.open.barrier_open_reach.Key.{name as #f}
 use Rattle.barrier_engine.proofs.open.barrier_open_reach as f
 use Rattle.barrier_engine.proofs.open.barrier_open_reach.Statement as stated
@@ -49,7 +48,7 @@ abbrev Asked : List Data
 Asked = truth ∷ stored ∷ uint w16 ∷ []
 
 abbrev reached : Denots (rows 0 tt Asked) → ReachReply
-reached a = reachReplyOf (underRules (isOpenJob (a .1 .0) && a .0) (reachUnder (a .1 .0) (a .1 .1 .0)))
+reached a = reachReplyOf (underRules (a .0) (reachUnder (a .1 .0) (a .1 .1 .0)))
 
 abbrev stayed : Stays (f.ended .signature .params) (f.ended .kept)
 stayed = (stay-none-ref (0 ∷ []) tt (plain (λ _. memory .row)) yes, (stay-none (λ _. u16) yes, tt))
@@ -82,8 +81,8 @@ module _ {M : Type 1} (𝓤 : URA M) (H : Heap 𝓤) (A : Atoms 𝓤) (W : Given
       owned ! u16 (Is u16) (uint w16 .makes 𝓤 H A W) n _ n-fits $ fjoin ! $
       move ! (1 ∷ 0 ∷ []) $ fjoin ! $ frame ! $ owned ! (reply .row) (Is (reply .row)) (reply .makes 𝓤 H A W) r _ i $ done !
 
-  module _ (C : Calls 𝓤 H) (Λ : Loops 𝓤 H) (fm : FmC 𝓤 H (W .laws) C) (known : Triple 𝓤 (C #all-sound) (Tells 𝓤 H A))
-      (known-reached : Triple 𝓤 (C #reached) (Gives 𝓤 H A Asked reply reached)) where
+  module _ (C : Calls 𝓤 H) (Λ : Loops 𝓤 H) (fm : FmC 𝓤 H (W .laws) C) (known : Triple 𝓤 (C #are-open-states) (Tells 𝓤 H A))
+      (known-reached : Triple 𝓤 (C #reached) (GivesIf 𝓤 H A Asked reply (Open (uint w16 ∷ [])) reached)) where
     walk : ent 𝓤 (onEntry 𝓤 H A f.signature (κ, tt) (q, tt) x at) (WpFn 𝓤 H C Λ code.function (vptr b o ∷ vint w16 n ∷ []) Post)
     walk =
         qed W (Token κ q ∷ ‵ (owns (ShrRef (named 0) κ (memory .row) ∷ u16 ∷ []) x at) ∷ []) ∵ move ! (1 ∷ []) $ fsplit ! $
@@ -103,7 +102,8 @@ module _ {M : Type 1} (𝓤 : URA M) (H : Heap 𝓤) (A : Atoms 𝓤) (W : Given
         -- [a share of the memory; job, sound, now, name, the result; what the memory owns; what shuts it; the borrow; ..]
         move ! (0 ∷ 5 ∷ 6 ∷ 7 ∷ 10 ∷ 13 ∷ []) $
         copies ! 0 refl refl refl refl (look ! 1 refl) refl (init ! 3 refl (stored .typed 𝓤 H A W (m .present) (p .present-fits))) $
-        asks ! fm Asked reply reached known-reached (allSound m, (m .present, (n, tt))) (refl, (p .present-fits, (n-fits, tt)))
+        asks-if ! fm Asked reply (Open (uint w16 ∷ [])) reached known-reached (areOpenStates m, (m .present, (n, tt))) (refl, (p .present-fits, (n-fits, tt)))
+        (open-present m)
         (and-then ! (var ! 2 refl) (and-then ! (var ! 3 refl) (and-then ! (var ! 4 refl) (no-more !)))) (from ! (stop !)) (init ! 5 refl) (λ i.
         move ! (0 ∷ 6 ∷ 7 ∷ []) $ use1 W (‵ (fat s (rawTy (memory .ty)) b o (memory .val m))) (W .laws .at-raw s (memory .ty) b o (memory .val m)) $
         shuts ! tt (memory .row) s m (memory .val m ∷ []) b o $
@@ -112,7 +112,7 @@ module _ {M : Type 1} (𝓤 : URA M) (H : Heap 𝓤) (A : Atoms 𝓤) (W : Given
         keep ! (0 ∷ 3 ∷ 1 ∷ []) $ by ! (exits i)))))))))
 
 f-meets : {M : Type 1} (𝓤 : URA M) (H : Heap 𝓤) (A : Atoms 𝓤) (W : Given 𝓤 H A) (at-mem : Memory → SProp 𝓤) (run : Routine → Fun 𝓤) (𝓣 : Tables 𝓤 H)
-    → Triple 𝓤 (𝓣 .C #all-sound) (Tells 𝓤 H A) → Triple 𝓤 (𝓣 .C #reached) (Gives 𝓤 H A Asked reply reached)
+    → Triple 𝓤 (𝓣 .C #are-open-states) (Tells 𝓤 H A) → Triple 𝓤 (𝓣 .C #reached) (GivesIf 𝓤 H A Asked reply (Open (uint w16 ∷ [])) reached)
     → Meets 𝓤 H A f.signature (WpFn 𝓤 H (𝓣 .C) (𝓣 .Λ) code.function) (f.spec 𝓤 H A at-mem run)
 f-meets 𝓤 H A W at-mem run 𝓣 known known-reached =
     walk-meets 𝓤 H A f.ended stayed W (
@@ -131,5 +131,7 @@ barrier-open-reach-spec 𝓤 H 𝓜 𝓖 𝓡 =
     entered 𝓤 H (tripleOf 𝓤 H (𝓖 .A) f.signature (f.spec 𝓤 H (𝓖 .A) (𝓜 .mem) (𝓡 .run)))
     (tables 𝓤 H 𝓜 𝓡 code.env .C) (tables 𝓤 H 𝓜 𝓡 code.env .Λ) #f code.function (code.unfolded 𝓤 H 𝓜 𝓡)
     (f-meets 𝓤 H (𝓖 .A) (givenOf 𝓤 H 𝓜 𝓖) (𝓜 .mem) (𝓡 .run) (tablesOf 𝓤 H 𝓜 (tables 𝓤 H 𝓜 𝓡 code.env))
-    (cited 𝓤 H (Tells 𝓤 H (𝓖 .A)) 𝓜 𝓡 code.env #all-sound all-sound-routine code.calls-barrier-engine·open·all-sound (all-sound-met 𝓤 H 𝓜 𝓖 𝓡))
-    (cited 𝓤 H (Gives 𝓤 H (𝓖 .A) Asked reply reached) 𝓜 𝓡 code.env #reached reached-routine code.calls-replies·open·reached (reached-met 𝓤 H 𝓜 𝓖 𝓡)))
+    (cited 𝓤 H (Tells 𝓤 H (𝓖 .A)) 𝓜 𝓡 code.env #are-open-states are-open-states-routine
+    code.calls-barrier-engine·open·are-open-states (are-open-states-met 𝓤 H 𝓜 𝓖 𝓡))
+    (cited 𝓤 H (GivesIf 𝓤 H (𝓖 .A) Asked reply (Open (uint w16 ∷ [])) reached) 𝓜 𝓡 code.env #reached reached-routine
+    code.calls-replies·open·reached (reached-met 𝓤 H 𝓜 𝓖 𝓡)))

@@ -2,6 +2,7 @@
 -- present state and the output go through `scheduled`.
 -- All that the proof knows of the functions called is that they meet their contracts. Assumes nothing.
 use base.Fml.{fres, fshr-bor}
+use contract.Monad.{factI}
 use contract.Running.{tablesOf}
 use types.Kit.{feqL}
 use types.Run.{addr}
@@ -18,7 +19,8 @@ use Rattle.schedule.specs.Plan.{PlannedSide, plan, bytesWritten, outputAfter}
 use Rattle.job.specs.declared.StoredJob.{StoredJob}
 use Rattle.job.specs.Job.{jobOf}
 use Rattle.job.specs.Writing.{writeJob}
-use Rattle.open_job.specs.States.{allSound}
+use Rattle.open_memory.specs.Memory.{isOpenJob}
+use Rattle.open_job.specs.States.{areOpenStates}
 use Rattle.open_job.specs.Calls.{scheduleIn}
 use Rattle.open_job.specs.declared.OpenStates.{OpenStates}
 use Rattle.open_job.proofs.OpenStates as OpenStates·t
@@ -27,10 +29,11 @@ use Rattle.replies.specs.Interface.{planReplyOf}
 use Rattle.replies.specs.declared.PlanReply.{PlanReply}
 use Rattle.replies.proofs.PlanReply as PlanReply·t
 use Rattle.replies.proofs.PlanReply.Laws as PlanReply·t′
-use Rattle.replies.proofs.ShellLaws.{tested, schedule-shell}
+use Rattle.replies.proofs.ShellLaws.{tested, open-present, schedule-shell}
 use Rattle.replies.proofs.open.scheduled as scheduled·f
 use Rattle.replies.proofs.open.scheduled.{Symbol.name as #scheduled, Symbol.routine as scheduled-routine, Met.met as scheduled-met}
-use Rattle.barrier_engine.proofs.Walks.{_≡_, refl, _∙_, ℕ, Bool, List, [], _∷_, URA, named, w64, rawTy, Val, WT, hasTy, vptr, vbool, vint, Holds, length}
+use Rattle.barrier_engine.proofs.Walks.{_≡_, refl, _∙_, ℕ, Bool, true, List, [], _∷_, URA, named, w64, rawTy, Val, WT, hasTy, vptr, vbool}
+use Rattle.barrier_engine.proofs.Walks.{vint, Holds, length}
 use Rattle.barrier_engine.proofs.Walks.{SProp, ent, emp, via, fst∗, id⊢, GName, Lft, Share, flft, fat, Memory, Routine}
 use Rattle.barrier_engine.proofs.Walks.{Heap, Calls, Loops, WpFn, Tables, Atoms, Fun, fact, givenOf, tables, Given, Item, ‵, ⋆, raw, some, later, _⊛_}
 use Rattle.barrier_engine.proofs.Walks.{_$_, _∵_, !, qed, by, move, keep, drop, use1, use2, split, join, pick, fsplit, fsplit3}
@@ -44,7 +47,8 @@ use Rattle.barrier_engine.proofs.Steps.{var, copies, freed}
 use Rattle.barrier_engine.proofs.States.{stored, memory, cellOf, Parts, parts}
 use Rattle.barrier_engine.proofs.Borrow.{sliced, Token}
 use Rattle.barrier_engine.proofs.Tests.{Shared, Tells, told}
-use Rattle.barrier_engine.proofs.open.all_sound.{Symbol.name as #all-sound, Symbol.routine as all-sound-routine, Met.met as all-sound-met}
+use Rattle.barrier_engine.proofs.open.are_open_states.{Symbol.name as #are-open-states, Symbol.routine as are-open-states-routine}
+use Rattle.barrier_engine.proofs.open.are_open_states.{Met.met as are-open-states-met}
 use Rattle.barrier_engine.proofs.open.barrier_open_schedule.Key.{name as #f}
 use Rattle.barrier_engine.proofs.open.barrier_open_schedule as f
 use Rattle.barrier_engine.proofs.open.barrier_open_schedule.Statement as stated
@@ -72,12 +76,14 @@ module _ {M : Type 1} (𝓤 : URA M) (H : Heap 𝓤) (A : Atoms 𝓤) (at-mem : 
     abbrev Ensured : PlanReply → SProp 𝓤
     Ensured r = ensured 𝓤 H A scheduled·f.ended (scheduled·f.clauses 𝓤 H A at-mem run) (κ′, tt) (z, (a, (n, (y, tt)))) tt r
 
-    goes-in : Given 𝓤 H A → Fits stored a → Fits (uint w64) n → ent 𝓤 (⋆ 𝓤 H A (Output κ′ y ∷ Token κ′ q′ ∷ [])) (Schedules .pre given)
-    goes-in W fits n-fits =
+    goes-in : Given 𝓤 H A → (z ≡ true → isOpenJob a ≡ true) → Fits stored a → Fits (uint w64) n
+        → ent 𝓤 (⋆ 𝓤 H A (Output κ′ y ∷ Token κ′ q′ ∷ [])) (Schedules .pre given)
+    goes-in W holds fits n-fits =
         qed W (Output κ′ y ∷ Token κ′ q′ ∷ []) ∵ nothing ! $ move ! (1 ∷ 0 ∷ []) $ fjoin ! $ owned ! u64 (Is u64) (uint w64 .makes 𝓤 H A W) n _ n-fits $
         fjoin ! $
         owned ! (stored .row) (Is (stored .row)) (stored .makes 𝓤 H A W) a _ fits $ fjoin ! $
-        owned ! (truth .row) (Is (truth .row)) (truth .makes 𝓤 H A W) z _ refl $ fjoin ! $ move ! (1 ∷ 0 ∷ []) $ join ! $ frame ! $ done !
+        owned ! (truth .row) (Is (truth .row)) (truth .makes 𝓤 H A W) z _ refl $ fjoin ! $ move ! (1 ∷ 0 ∷ []) $ join ! $ frame ! $
+        by ! (factI 𝓤 (z ≡ true → isOpenJob a ≡ true) _ holds)
 
 module _ {M : Type 1} (𝓤 : URA M) (H : Heap 𝓤) (A : Atoms 𝓤) (W : Given 𝓤 H A) (at-mem : Memory → SProp 𝓤) (run : Routine → Fun 𝓤) (κ κ′ : Lft) (q q′ : Share)
     (b o : ℕ) (γ : GName) (m : OpenStates) (y : RefT (List ℕ)) (n : ℕ) (n-fits : Fits (uint w64) n) where
@@ -112,7 +118,7 @@ module _ {M : Type 1} (𝓤 : URA M) (H : Heap 𝓤) (A : Atoms 𝓤) (W : Given
   abbrev Said : PlanReply → List ℕ → Type 0
   Said r zs = (r ≡ planReplyOf (bytesWritten answer)) × (zs ≡ outputAfter answer (now y))
 
-  module _ (C : Calls 𝓤 H) (Λ : Loops 𝓤 H) (fm : FmC 𝓤 H (W .laws) C) (known : Triple 𝓤 (C #all-sound) (Tells 𝓤 H A))
+  module _ (C : Calls 𝓤 H) (Λ : Loops 𝓤 H) (fm : FmC 𝓤 H (W .laws) C) (known : Triple 𝓤 (C #are-open-states) (Tells 𝓤 H A))
       (known-scheduled : Triple 𝓤 (C #scheduled) (Schedules 𝓤 H A at-mem run)) where
     walk : Holds (hasTy (lone (MutSlice (named 1) κ′ u8 .mir)) (sliced y)) × WT (sliced y) → Room u8 (length (now y))
         → ent 𝓤 (onEntry 𝓤 H A f.signature (κ, (κ′, tt)) (q, (q′, tt)) x at) (WpFn 𝓤 H C Λ code.function (vptr b o ∷ vint w64 n ∷ sliced y ∷ []) Post)
@@ -142,16 +148,17 @@ module _ {M : Type 1} (𝓤 : URA M) (H : Heap 𝓤) (A : Atoms 𝓤) (W : Given
         (from ! (stop !)) (init ! 5 refl (tt, (tt, (record { fits = space .0 }, tt)))) $
         -- replies::open::scheduled, with the output
         move ! (9 ∷ []) $ fsplit ! $ drop ! $ fsplit ! $ move ! (0 ∷ 11 ∷ []) $
-        use2 W (raw (Schedules 𝓤 H A at-mem run .pre (given 𝓤 H A at-mem run κ′ q′ (allSound m) (m .present) n y)))
-        (goes-in 𝓤 H A at-mem run κ′ q′ (allSound m) (m .present) n y W (p .present-fits) n-fits) $
-        calls-at ! fm (Schedules 𝓤 H A at-mem run) known-scheduled (given 𝓤 H A at-mem run κ′ q′ (allSound m) (m .present) n y)
+        use2 W (raw (Schedules 𝓤 H A at-mem run .pre (given 𝓤 H A at-mem run κ′ q′ (areOpenStates m) (m .present) n y)))
+        (goes-in 𝓤 H A at-mem run κ′ q′ (areOpenStates m) (m .present) n y W (open-present m) (p .present-fits) n-fits) $
+        calls-at ! fm (Schedules 𝓤 H A at-mem run) known-scheduled (given 𝓤 H A at-mem run κ′ q′ (areOpenStates m) (m .present) n y)
         (and-then ! (var ! 4 refl) (and-then ! (var ! 5 refl) (and-then ! (var ! 8 refl) (and-then ! (var ! 7 refl) (no-more !))))) (λ w.
         use1 W (later (some (λ (r : PlanReply). (Token κ′ q′ ⊛ ‵ (planned .row .own r (w ∷ [])))
-        ⊛ raw (Ensured 𝓤 H A at-mem run κ′ q′ (allSound m) (m .present) n y r)))) (id⊢ 𝓤 _) $ await ! tt $ pick ! (λ r.
+        ⊛ raw (Ensured 𝓤 H A at-mem run κ′ q′ (areOpenStates m) (m .present) n y r)))) (id⊢ 𝓤 _) $ await ! tt $ pick ! (λ r.
         -- what it ensures, at some last output
         split ! $ move ! (1 ∷ []) $
         use1 W (some (λ (zs : (Unit {0} × (Unit {0} × (Unit {0} × (List ℕ × Unit {0}))))).
-        ‵ (lasts scheduled·f.ended (κ′, tt) (allSound m, (m .present, (n, (y, tt)))) zs) ⊛ raw (fact 𝓤 (Said r (zs .1 .1 .1 .0))))) (id⊢ 𝓤 _) $ pick ! (λ zs.
+        ‵ (lasts scheduled·f.ended (κ′, tt) (areOpenStates m, (m .present, (n, (y, tt)))) zs)
+        ⊛ raw (fact 𝓤 (Said r (zs .1 .1 .1 .0))))) (id⊢ 𝓤 _) $ pick ! (λ zs.
         split ! $ move ! (1 ∷ []) $ heard ! (Said r (zs .1 .1 .1 .0))
         (λ e. fsplit ! $ drop ! $ fsplit ! $ drop ! $ fsplit ! $ drop ! $ fsplit ! $ fsplit ! $ move ! (1 ∷ []) $ feqL ! (λ l.
         move ! (2 ∷ []) $ split ! $ move ! (1 ∷ []) $ peeks ! (planned .row) (Is (planned .row)) (shows 𝓤 H A (planned .row)) r (w ∷ []) (λ is.
@@ -165,7 +172,7 @@ module _ {M : Type 1} (𝓤 : URA M) (H : Heap 𝓤) (A : Atoms 𝓤) (W : Given
         by ! (exits r w (zs .1 .1 .1 .0) (e .0 ∙ schedule-shell m n (now y) .0, e .1 ∙ schedule-shell m n (now y) .1) l)))))))))))))))))
 
 f-meets : {M : Type 1} (𝓤 : URA M) (H : Heap 𝓤) (A : Atoms 𝓤) (W : Given 𝓤 H A) (at-mem : Memory → SProp 𝓤) (run : Routine → Fun 𝓤) (𝓣 : Tables 𝓤 H)
-    → Triple 𝓤 (𝓣 .C #all-sound) (Tells 𝓤 H A) → Triple 𝓤 (𝓣 .C #scheduled) (Schedules 𝓤 H A at-mem run)
+    → Triple 𝓤 (𝓣 .C #are-open-states) (Tells 𝓤 H A) → Triple 𝓤 (𝓣 .C #scheduled) (Schedules 𝓤 H A at-mem run)
     → Meets 𝓤 H A f.signature (WpFn 𝓤 H (𝓣 .C) (𝓣 .Λ) code.function) (f.spec 𝓤 H A at-mem run)
 f-meets 𝓤 H A W at-mem run 𝓣 known known-scheduled =
     walk-meets 𝓤 H A f.ended stayed W (
@@ -186,5 +193,6 @@ barrier-open-schedule-spec 𝓤 H 𝓜 𝓖 𝓡 =
     entered 𝓤 H (tripleOf 𝓤 H (𝓖 .A) f.signature (f.spec 𝓤 H (𝓖 .A) (𝓜 .mem) (𝓡 .run)))
     (tables 𝓤 H 𝓜 𝓡 code.env .C) (tables 𝓤 H 𝓜 𝓡 code.env .Λ) #f code.function (code.unfolded 𝓤 H 𝓜 𝓡)
     (f-meets 𝓤 H (𝓖 .A) (givenOf 𝓤 H 𝓜 𝓖) (𝓜 .mem) (𝓡 .run) (tablesOf 𝓤 H 𝓜 (tables 𝓤 H 𝓜 𝓡 code.env))
-    (cited 𝓤 H (Tells 𝓤 H (𝓖 .A)) 𝓜 𝓡 code.env #all-sound all-sound-routine code.calls-barrier-engine·open·all-sound (all-sound-met 𝓤 H 𝓜 𝓖 𝓡))
+    (cited 𝓤 H (Tells 𝓤 H (𝓖 .A)) 𝓜 𝓡 code.env #are-open-states are-open-states-routine
+    code.calls-barrier-engine·open·are-open-states (are-open-states-met 𝓤 H 𝓜 𝓖 𝓡))
     (cited 𝓤 H (Schedules 𝓤 H (𝓖 .A) (𝓜 .mem) (𝓡 .run)) 𝓜 𝓡 code.env #scheduled scheduled-routine code.calls-replies·open·scheduled (scheduled-met 𝓤 H 𝓜 𝓖 𝓡)))

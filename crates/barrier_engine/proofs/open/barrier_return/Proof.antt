@@ -1,9 +1,7 @@
 -- `barrier_engine::open::barrier_return` meets its contract: a walk of its code. The memory is tested, the state asked for is looked for and goes with the
 -- present state through `returned` by value, and what comes of it is stored.
 -- All that the proof knows of the functions called is that they meet their contracts. Assumes nothing.
-use mathlib.Core.Bool.{_&&_}
-use Rattle.open_memory.specs.Memory.{isOpenJob}
-use Rattle.open_job.specs.States.{keptStates, statesFrom, allSound}
+use Rattle.open_job.specs.States.{keptStates, statesFrom, areOpenStates}
 use Rattle.open_job.specs.Calls.{memoryAfter, underRules, keptJob, returnIn}
 use Rattle.base.specs.Answer.{replied}
 use Rattle.open_job.specs.declared.OpenStates.{OpenStates}
@@ -25,7 +23,8 @@ use Rattle.barrier_engine.proofs.Borrow.{takes, puts, changes}
 use Rattle.barrier_engine.proofs.Tests.{Tells, tells}
 use Rattle.barrier_engine.proofs.Chosen.{Chosen, choice, choice-known, all-found}
 use Rattle.barrier_engine.proofs.Shell.{lent, leaving, Walk, shell}
-use Rattle.barrier_engine.proofs.open.all_sound.{Symbol.name as #all-sound, Symbol.routine as all-sound-routine, Met.met as all-sound-met}
+use Rattle.barrier_engine.proofs.open.are_open_states.{Symbol.name as #are-open-states, Symbol.routine as are-open-states-routine}
+use Rattle.barrier_engine.proofs.open.are_open_states.{Met.met as are-open-states-met}
 use Rattle.barrier_engine.proofs.open.barrier_return.Key.{name as #f}
 use Rattle.barrier_engine.proofs.open.barrier_return.Statement as stated
 use Rattle.barrier_engine.proofs.open.barrier_return.Code as code
@@ -37,7 +36,7 @@ abbrev Returned : List Data
 Returned = truth ∷ stored ∷ uint w64 ∷ kept ∷ []
 
 abbrev returned : Denots (rows 0 tt Returned) → Changed
-returned a = changedBy (a .1 .0) (underRules (isOpenJob (a .1 .0) && a .0) (keptJob (a .1 .0 .header) (a .1 .1 .0) (a .1 .1 .1 .0)))
+returned a = changedBy (a .1 .0) (underRules (a .0) (keptJob (a .1 .0 .header) (a .1 .1 .0) (a .1 .1 .1 .0)))
 
 -- what the code computes
 abbrev result : (κ : Lft) → OpenStates → Denots (rows 1 (κ, tt) Asked) → Changed
@@ -47,7 +46,7 @@ abbrev made : (κ : Lft) → OpenStates → Denots (rows 1 (κ, tt) Asked) → O
 made κ m a = statesFrom (result κ m a .next) (keptStates m)
 
 module _ {M : Type 1} (𝓤 : URA M) (H : Heap 𝓤) (A : Atoms 𝓤) (W : Given 𝓤 H A) (C : Calls 𝓤 H) (Λ : Loops 𝓤 H) (fm : FmC 𝓤 H (W .laws) C)
-    (known : Triple 𝓤 (C #all-sound) (Tells 𝓤 H A)) (known-choice : Triple 𝓤 (C #choose) (Gives 𝓤 H A Chosen kept choice))
+    (known : Triple 𝓤 (C #are-open-states) (Tells 𝓤 H A)) (known-choice : Triple 𝓤 (C #choose) (Gives 𝓤 H A Chosen kept choice))
     (known-returned : Triple 𝓤 (C #returned) (Gives 𝓤 H A Returned changed returned)) where
   walk : Walk 𝓤 H A Asked made (λ κ m a. result κ m a .reply) C Λ code.function
   walk κ q b o γ m a fits =
@@ -63,7 +62,7 @@ module _ {M : Type 1} (𝓤 : URA M) (H : Heap 𝓤) (A : Atoms 𝓤) (W : Given
       -- [the memory; job, slot, found, state, sound, now, done, the result, the reference; ..]
       move ! (0 ∷ 1 ∷ 4 ∷ 5 ∷ 6 ∷ 2 ∷ 7 ∷ 8 ∷ 9 ∷ []) $ all-found ! fm known-choice 1 2 7 4 refl refl refl refl (a .0) (fits .0) m p (λ found.
       copies ! 0 refl refl refl refl (look ! 1 refl) refl (init ! 6 refl (stored .typed 𝓤 H A W (m .present) (p .present-fits))) $
-      asks ! fm Returned changed returned known-returned (allSound m, (m .present, (a .0, (lookedFor m (a .0), tt))))
+      asks ! fm Returned changed returned known-returned (areOpenStates m, (m .present, (a .0, (lookedFor m (a .0), tt))))
       (refl, (p .present-fits, (fits .0, (found, tt))))
       (and-then ! (var ! 5 refl) (and-then ! (var ! 6 refl) (and-then ! (var ! 4 refl) (and-then ! (var ! 3 refl) (no-more !))))) (from ! (stop !))
       (init ! 7 refl) (λ i.
@@ -80,6 +79,7 @@ barrier-return-spec 𝓤 H 𝓜 𝓖 𝓡 =
     shell 𝓤 H 𝓜 𝓖 𝓡 Asked (λ κ m a. memoryAfter (returnIn m (a .0)) m) made (λ κ m a. replyOf (replied (returnIn m (a .0)))) (λ κ m a. result κ m a .reply)
     (λ κ m a. return-shell m (a .0)) code.env #f code.function (code.unfolded 𝓤 H 𝓜 𝓡)
     (λ W fm. walk 𝓤 H (𝓖 .A) W (tables 𝓤 H 𝓜 𝓡 code.env .C) (tables 𝓤 H 𝓜 𝓡 code.env .Λ) fm
-    (cited 𝓤 H (Tells 𝓤 H (𝓖 .A)) 𝓜 𝓡 code.env #all-sound all-sound-routine code.calls-barrier-engine·open·all-sound (all-sound-met 𝓤 H 𝓜 𝓖 𝓡))
+    (cited 𝓤 H (Tells 𝓤 H (𝓖 .A)) 𝓜 𝓡 code.env #are-open-states are-open-states-routine
+    code.calls-barrier-engine·open·are-open-states (are-open-states-met 𝓤 H 𝓜 𝓖 𝓡))
     (choice-known 𝓤 H 𝓜 𝓖 𝓡 code.env code.calls-open-job·kept·choose)
     (cited 𝓤 H (Gives 𝓤 H (𝓖 .A) Returned changed returned) 𝓜 𝓡 code.env #returned returned-routine code.calls-replies·open·returned (returned-met 𝓤 H 𝓜 𝓖 𝓡)))

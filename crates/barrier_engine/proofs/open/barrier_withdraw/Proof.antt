@@ -1,28 +1,27 @@
 -- `barrier_engine::open::barrier_withdraw` meets its contract: a walk of its code. The memory is tested, the present state goes through `withdrawn` by value,
 -- and what comes of it is stored.
 -- All that the proof knows of the functions called is that they meet their contracts. Assumes nothing.
-use mathlib.Core.Bool.{_&&_}
-use Rattle.open_memory.specs.Memory.{isOpenJob}
-use Rattle.open_job.specs.States.{keptStates, statesFrom, allSound}
+use Rattle.open_job.specs.States.{keptStates, statesFrom, areOpenStates}
 use Rattle.open_job.specs.Calls.{memoryAfter, underRules, withdrawFrom, withdrawIn}
 use Rattle.base.specs.Answer.{replied}
 use Rattle.open_job.specs.declared.OpenStates.{OpenStates}
 use Rattle.replies.specs.Interface.{replyOf}
 use Rattle.replies.specs.OpenInterface.{changedBy}
 use Rattle.replies.specs.declared.open.Changed.{Changed}
-use Rattle.replies.proofs.ShellLaws.{tested, withdraw-shell}
+use Rattle.replies.proofs.ShellLaws.{tested, open-present, withdraw-shell}
 use Rattle.replies.proofs.open.withdrawn.{Symbol.name as #withdrawn, Symbol.routine as withdrawn-routine, Met.met as withdrawn-met}
 use Rattle.barrier_engine.proofs.Walks.{refl, List, [], _∷_, URA, w16, Lft, Heap, Calls, Loops, Atoms, tables, Given, _$_, _∵_, !, qed, by, move, look}
 use Rattle.barrier_engine.proofs.Walks.{init, stop, from, and-then, no-more, returns, enter, alloc1, alloc0, params1, pass1, pass0}
 use Rattle.barrier_engine.proofs.Walks.{free0, FmC, Denots, Triple, cited}
 use Rattle.barrier_engine.proofs.Data.{Data, truth, uint, rows}
-use Rattle.barrier_engine.proofs.ByValue.{Gives}
-use Rattle.barrier_engine.proofs.Steps.{var, copies, asks, freed}
-use Rattle.barrier_engine.proofs.States.{stored, changed, Parts, parts, whole, with-now, changed-fits}
+use Rattle.barrier_engine.proofs.ByValue.{GivesIf}
+use Rattle.barrier_engine.proofs.Steps.{var, copies, asks-if, freed}
+use Rattle.barrier_engine.proofs.States.{stored, changed, Open, Parts, parts, whole, with-now, changed-fits}
 use Rattle.barrier_engine.proofs.Borrow.{takes, puts, changes}
 use Rattle.barrier_engine.proofs.Tests.{Tells, tells}
 use Rattle.barrier_engine.proofs.Shell.{lent, leaving, Walk, shell}
-use Rattle.barrier_engine.proofs.open.all_sound.{Symbol.name as #all-sound, Symbol.routine as all-sound-routine, Met.met as all-sound-met}
+use Rattle.barrier_engine.proofs.open.are_open_states.{Symbol.name as #are-open-states, Symbol.routine as are-open-states-routine}
+use Rattle.barrier_engine.proofs.open.are_open_states.{Met.met as are-open-states-met}
 use Rattle.barrier_engine.proofs.open.barrier_withdraw.Key.{name as #f}
 use Rattle.barrier_engine.proofs.open.barrier_withdraw.Statement as stated
 use Rattle.barrier_engine.proofs.open.barrier_withdraw.Code as code
@@ -34,7 +33,7 @@ abbrev Withdrawn : List Data
 Withdrawn = truth ∷ stored ∷ Asked
 
 abbrev withdrawn : Denots (rows 0 tt Withdrawn) → Changed
-withdrawn a = changedBy (a .1 .0) (underRules (isOpenJob (a .1 .0) && a .0) (withdrawFrom (a .1 .0) (a .1 .1 .0)))
+withdrawn a = changedBy (a .1 .0) (underRules (a .0) (withdrawFrom (a .1 .0) (a .1 .1 .0)))
 
 -- what the code computes
 abbrev result : (κ : Lft) → OpenStates → Denots (rows 1 (κ, tt) Asked) → Changed
@@ -44,7 +43,8 @@ abbrev made : (κ : Lft) → OpenStates → Denots (rows 1 (κ, tt) Asked) → O
 made κ m a = statesFrom (result κ m a .next) (keptStates m)
 
 module _ {M : Type 1} (𝓤 : URA M) (H : Heap 𝓤) (A : Atoms 𝓤) (W : Given 𝓤 H A) (C : Calls 𝓤 H) (Λ : Loops 𝓤 H) (fm : FmC 𝓤 H (W .laws) C)
-    (known : Triple 𝓤 (C #all-sound) (Tells 𝓤 H A)) (known-withdrawn : Triple 𝓤 (C #withdrawn) (Gives 𝓤 H A Withdrawn changed withdrawn)) where
+    (known : Triple 𝓤 (C #are-open-states) (Tells 𝓤 H A))
+    (known-withdrawn : Triple 𝓤 (C #withdrawn) (GivesIf 𝓤 H A Withdrawn changed (Open Asked) withdrawn)) where
   walk : Walk 𝓤 H A Asked made (λ κ m a. result κ m a .reply) C Λ code.function
   walk κ q b o γ m a fits =
       let r : Changed = result κ m a in
@@ -56,7 +56,7 @@ module _ {M : Type 1} (𝓤 : URA M) (H : Heap 𝓤) (A : Atoms 𝓤) (W : Given
       -- [the memory; job, sound, its reference, now, name, done, the result; ..]
       move ! (0 ∷ 14 ∷ 10 ∷ 6 ∷ 4 ∷ 12 ∷ 8 ∷ 16 ∷ []) $ tells ! fm known 1 5 3 refl refl refl (tt, tt) m was $
       copies ! 0 refl refl refl refl (look ! 1 refl) refl (init ! 4 refl (stored .typed 𝓤 H A W (m .present) (p .present-fits))) $
-      asks ! fm Withdrawn changed withdrawn known-withdrawn (allSound m, (m .present, a)) (refl, (p .present-fits, fits))
+      asks-if ! fm Withdrawn changed (Open Asked) withdrawn known-withdrawn (areOpenStates m, (m .present, a)) (refl, (p .present-fits, fits)) (open-present m)
       (and-then ! (var ! 2 refl) (and-then ! (var ! 4 refl) (and-then ! (var ! 5 refl) (no-more !)))) (from ! (stop !)) (init ! 6 refl) (λ i.
       move ! (0 ∷ 1 ∷ 6 ∷ 7 ∷ []) $ changes ! 1 4 refl refl refl m r i $
       move ! (0 ∷ 8 ∷ 9 ∷ 10 ∷ []) $ puts ! tt b o (made κ m a) (whole (made κ m a) (with-now m (r .next) p (changed-fits r i .0))) $
@@ -71,6 +71,7 @@ barrier-withdraw-spec 𝓤 H 𝓜 𝓖 𝓡 =
     shell 𝓤 H 𝓜 𝓖 𝓡 Asked (λ κ m a. memoryAfter (withdrawIn m (a .0)) m) made (λ κ m a. replyOf (replied (withdrawIn m (a .0)))) (λ κ m a. result κ m a .reply)
     (λ κ m a. withdraw-shell m (a .0)) code.env #f code.function (code.unfolded 𝓤 H 𝓜 𝓡)
     (λ W fm. walk 𝓤 H (𝓖 .A) W (tables 𝓤 H 𝓜 𝓡 code.env .C) (tables 𝓤 H 𝓜 𝓡 code.env .Λ) fm
-    (cited 𝓤 H (Tells 𝓤 H (𝓖 .A)) 𝓜 𝓡 code.env #all-sound all-sound-routine code.calls-barrier-engine·open·all-sound (all-sound-met 𝓤 H 𝓜 𝓖 𝓡))
-    (cited 𝓤 H (Gives 𝓤 H (𝓖 .A) Withdrawn changed withdrawn) 𝓜 𝓡 code.env #withdrawn withdrawn-routine code.calls-replies·open·withdrawn
+    (cited 𝓤 H (Tells 𝓤 H (𝓖 .A)) 𝓜 𝓡 code.env #are-open-states are-open-states-routine
+    code.calls-barrier-engine·open·are-open-states (are-open-states-met 𝓤 H 𝓜 𝓖 𝓡))
+    (cited 𝓤 H (GivesIf 𝓤 H (𝓖 .A) Withdrawn changed (Open Asked) withdrawn) 𝓜 𝓡 code.env #withdrawn withdrawn-routine code.calls-replies·open·withdrawn
     (withdrawn-met 𝓤 H 𝓜 𝓖 𝓡)))

@@ -1,4 +1,4 @@
--- `replies::open::kept` meets its contract: the call by value, and its reply. Assumes nothing.
+-- `replies::open::kept` meets its contract: the call on tested memory, and its reply. Assumes nothing.
 use mathlib.Core.Path.{ap, _∙_}
 use borrow.Author.Needs.{needs}
 use Rattle.base.specs.Answer.{replied}

@@ -1,4 +1,4 @@
--- `replies::open::reached` meets its contract: the call by value, as C is told it. Assumes nothing.
+-- `replies::open::reached` meets its contract: the call on tested memory, as C is told it. Assumes nothing.
 use mathlib.Core.Path.{ap, _∙_}
 use borrow.Author.Needs.{needs}
 use Rattle.replies.specs.Interface.{reachReplyOf}
@@ -9,4 +9,4 @@ returns : tie.Need-returns
 returns c = c .reach-reply .ensures ∙ ap reachReplyOf (c .before .reach .ensures)
 
 pub reached-spec : {M : Type 1} → statement M
-reached-spec = tie.close (tie.spec (λ c κs. search needs) (λ c κs. search needs) returns)
+reached-spec = tie.close (tie.spec (λ c κs. c .pre) (λ c κs. search needs) returns)

@@ -1,4 +1,4 @@
--- `replies::open::returned` meets its contract: the call by value, and its reply. Assumes nothing.
+-- `replies::open::returned` meets its contract: the call on tested memory, and its reply. Assumes nothing.
 use mathlib.Core.Path.{_∙_}
 use borrow.Author.Needs.{needs}
 use Rattle.replies.proofs.OpenLaws.{changes-seen}

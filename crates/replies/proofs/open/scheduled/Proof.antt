@@ -11,4 +11,4 @@ returns c =
     (c .plan-reply .ensures ∙ ap planReplyOf (planned .ensures .0), planned .ensures .1)
 
 pub scheduled-spec : {M : Type 1} → statement M
-scheduled-spec = tie.close (tie.spec (λ c κs. search needs) (λ c κs. search needs) (λ c. search needs) returns)
+scheduled-spec = tie.close (tie.spec (λ c κs. c .before .before .pre) (λ c κs. search needs) (λ c. search needs) returns)

@@ -1,4 +1,4 @@
--- `open_job::calls::test_given` meets its contract: the ranges, and then the test of the hazard. Assumes nothing.
+-- `open_job::tested::test_given` meets its contract: the ranges, and then the test of the hazard. Assumes nothing.
 use mathlib.Core.Path.{_≡_, sym, ap, _∙_}
 use mathlib.Core.Bool.{Bool, true}
 use borrow.Author.Needs.{needs}
@@ -8,8 +8,8 @@ use Rattle.job.specs.Fits.{hazardInRange}
 use Rattle.open_memory.specs.Memory.{hazardGiven}
 use Rattle.open_memory.proofs.RuleLaws.{admit-unranged}
 use Rattle.open_job.proofs.CallLaws.{given-near, given-clear}
-use Rattle.open_job.proofs.calls.test_given.Statement.{statement}
-use Rattle.open_job.proofs.calls.test_given.Tie as tie
+use Rattle.open_job.proofs.tested.test_given.Statement.{statement}
+use Rattle.open_job.proofs.tested.test_given.Tie as tie
 
 -- The hazard is in its ranges.
 ranged : (c : tie.Then1) → let a = c .before .before .args in hazardInRange (a .header) (hazardGiven (a .hazard)) ≡ true

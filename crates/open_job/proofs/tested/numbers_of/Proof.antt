@@ -1,4 +1,4 @@
--- `open_job::calls::numbers_of` meets its contract: three numbers behind the others are a hazard more. Assumes nothing.
+-- `open_job::tested::numbers_of` meets its contract: three numbers behind the others are a hazard more. Assumes nothing.
 use Prim.Native.Nat.{_≤_, _-_}
 use native.Mathlib.Omega.{arith}
 use mathlib.Core.Path.{_≡_}
@@ -6,8 +6,8 @@ use lib.ListN.{length, length-map, length-set}
 use borrow.Author.Needs.{needs}
 use Rattle.job.proofs.RangeLaws.{header-bounds}
 use Rattle.open_job.proofs.NumberLaws.{NumbersTo, numbers-none, numbers-more}
-use Rattle.open_job.proofs.calls.numbers_of.Statement.{statement}
-use Rattle.open_job.proofs.calls.numbers_of.Tie as tie
+use Rattle.open_job.proofs.tested.numbers_of.Statement.{statement}
+use Rattle.open_job.proofs.tested.numbers_of.Tie as tie
 
 abbrev Inv-loop : tie.InvT-loop
 Inv-loop given₀ job count i₀ given i = (i ≤ count) × (count ≤ 256) × (length given ≡ 768) × NumbersTo job given i

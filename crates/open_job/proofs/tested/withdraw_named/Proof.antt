@@ -1,4 +1,4 @@
--- `open_job::calls::withdraw_named` meets its contract: the name, and then the hazard is taken out. Assumes nothing.
+-- `open_job::tested::withdraw_named` meets its contract: the name, and then the hazard is taken out. Assumes nothing.
 use native.Mathlib.Omega.{arith}
 use mathlib.Core.Path.{_≡_, refl, sym, _∙_}
 use mathlib.Core.Bool.{true}
@@ -11,8 +11,8 @@ use Rattle.open_memory.proofs.PlaceLaws.{rank-within}
 use Rattle.open_memory.proofs.WalkLaws.{standing-length}
 use Rattle.open_job.specs.Calls.{withdrawFrom}
 use Rattle.open_job.proofs.CallLaws.{changes-refused, changes-done, withdraw-done}
-use Rattle.open_job.proofs.calls.withdraw_named.Statement.{statement}
-use Rattle.open_job.proofs.calls.withdraw_named.Tie as tie
+use Rattle.open_job.proofs.tested.withdraw_named.Statement.{statement}
+use Rattle.open_job.proofs.tested.withdraw_named.Tie as tie
 
 -- How long the array is.
 size : (c : tie.Start) → length (c .args .job .hazards) ≡ 256

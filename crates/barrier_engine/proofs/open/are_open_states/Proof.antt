@@ -1,5 +1,5 @@
--- `barrier_engine::open::all_sound` meets its contract: a walk of its code. A share of the memory is looked into, and the places of each kept state are
--- lent to `also_sound`.
+-- `barrier_engine::open::are_open_states` meets its contract: a walk of its code. A share of the memory is looked into, and the places of each state are lent
+-- to `also_sound`.
 -- All that the proof knows of the functions called is that they meet their contracts. Assumes nothing.
 use types.Run.{free1}
 use base.Fml.{fres, fshr-bor}
@@ -23,7 +23,7 @@ use Rattle.barrier_engine.proofs.Walks.{ftrue, flft, fat, Memory, Routi
 use Rattle.barrier_engine.proofs.Walks.{Heap, Calls, Loops, WpFn, Tables, Atoms, Fun, givenOf, tables, Given, ‵, ⋆, _⊛_, _$_, _∵_, !, qed, by, move}
 use Rattle.barrier_engine.proofs.Walks.{keep, drop, use1, split, join, fsplit, fsplit3, fjoin, fjoin3, feqI}
 use Rattle.barrier_engine.proofs.Walks.{suffices, frame, done, look, init, stop, from, of-opd, assigns, returns, enter, alloc1, alloc0, params1, pass1}
-use Rattle.barrier_engine.proofs.Walks.{pass0, free0, FmC, fmOf, WpFn-mono, fld, load, true-lit, look-in, sub}
+use Rattle.barrier_engine.proofs.Walks.{pass0, free0, FmC, fmOf, WpFn-mono, fld, load, look-in, sub}
 use Rattle.barrier_engine.proofs.Walks.{all, and-then, no-more, Denots, cited, true}
 use Rattle.barrier_engine.proofs.Walks.{owns, Is, shows, RefT, now, ptr, ptr-vals, plain, owned, nothing, spelt, onEntry, Meets, tripleOf, Triple}
 use Rattle.barrier_engine.proofs.Walks.{entered, says, Stays, walkOf, ends-at, walked, walk-meets, yes}
@@ -32,12 +32,12 @@ use Rattle.barrier_engine.proofs.ByValue.{Gives}
 use Rattle.barrier_engine.proofs.Steps.{var, behind, asks, freed}
 use Rattle.barrier_engine.proofs.States.{header, memory, cellOf, Parts, parts, header-fits}
 use Rattle.barrier_engine.proofs.Passes.{limits}
-use Rattle.barrier_engine.proofs.Lent.{Sounds, kept-tested}
+use Rattle.barrier_engine.proofs.Lent.{Sounds, present-tested, kept-tested}
 use Rattle.barrier_engine.proofs.open.also_sound.{Symbol.name as #also-sound, Symbol.routine as also-sound-routine, Met.met as also-sound-met}
-use Rattle.barrier_engine.proofs.open.all_sound.Key.{name as #f}
-use Rattle.barrier_engine.proofs.open.all_sound as f
-use Rattle.barrier_engine.proofs.open.all_sound.Statement as stated
-use Rattle.barrier_engine.proofs.open.all_sound.Code as code
+use Rattle.barrier_engine.proofs.open.are_open_states.Key.{name as #f}
+use Rattle.barrier_engine.proofs.open.are_open_states as f
+use Rattle.barrier_engine.proofs.open.are_open_states.Statement as stated
+use Rattle.barrier_engine.proofs.open.are_open_states.Code as code
 
 abbrev limited : Denots (rows 0 tt (header ∷ [])) → Limits
 limited a = limitsOf (a .0)
@@ -72,9 +72,9 @@ module _ {M : Type 1} (𝓤 : URA M) (H : Heap 𝓤) (A : Atoms 𝓤) (W : Given
     walk =
         qed W ((‵ (flft κ q) ⊛ ‵ ftrue) ∷ ‵ (owns (ShrRef (named 0) κ (memory .row) ∷ []) x at) ∷ []) ∵ enter ! C Λ code.function (vptr b o ∷ []) _ $
         alloc1 ! (λ l0. alloc1 ! (λ l1. alloc1 ! (λ l2. alloc1 ! (λ l3. alloc1 ! (λ l4. alloc1 ! (λ l5. alloc1 ! (λ l6. alloc1 ! (λ l7. alloc1 ! (λ l8.
-        alloc1 ! (λ l9. alloc1 ! (λ l10. alloc1 ! (λ l11. alloc1 ! (λ l12. alloc1 ! (λ l13. alloc1 ! (λ l14. alloc0 ! $ params1 ! $
-        pass1 ! (init ! 26 refl (tt, tt)) $ pass0 ! $
-        move ! (31 ∷ []) $ fsplit ! $ fsplit3 ! $ drop ! $ move ! (33 ∷ []) $ split ! $ move ! (3 ∷ 0 ∷ []) $
+        alloc1 ! (λ l9. alloc1 ! (λ l10. alloc1 ! (λ l11. alloc1 ! (λ l12. alloc1 ! (λ l13. alloc1 ! (λ l14. alloc1 ! (λ l15. alloc0 ! $ params1 ! $
+        pass1 ! (init ! 28 refl (tt, tt)) $ pass0 ! $
+        move ! (33 ∷ []) $ fsplit ! $ fsplit3 ! $ drop ! $ move ! (35 ∷ []) $ split ! $ move ! (3 ∷ 0 ∷ []) $
         looks ! tt (memory .row) (Is (memory .row)) (shows 𝓤 H A (memory .row)) (λ d. memory .val d ∷ []) (memory .tells)
         (LL.copy OpenStates·t.the-type OpenStates·t′.the-copy 𝓤 H A W) m b o (λ s vs.
         spelt ! (memory .row) (Is (memory .row)) (shows 𝓤 H A (memory .row)) (λ d. memory .val d ∷ []) (memory .tells) s m vs b o $ move ! (1 ∷ []) $
@@ -84,37 +84,42 @@ module _ {M : Type 1} (𝓤 : URA M) (H : Heap 𝓤) (A : Atoms 𝓤) (W : Given
         let hf : Fits header h = header-fits (m .present) (p .present-fits) in
         let l : Limits = limitsOf h in
         move ! (1 ∷ 0 ∷ []) $ use1 W (cellOf s b o m) (W .laws .raw-at s (memory .ty) b o (memory .val m)) $
-        -- [a share of the memory; job, limits, sound, used, count, the references, header; what the memory owns; what shuts it; the borrow; ..]
-        move ! (0 ∷ 33 ∷ 29 ∷ 27 ∷ 25 ∷ 23 ∷ 21 ∷ 19 ∷ 17 ∷ 15 ∷ 13 ∷ 11 ∷ 9 ∷ 7 ∷ 31 ∷ []) $
-        assigns ! (of-opd ! (load ! (behind ! {j = 1} refl (look ! 1 refl) (fld ! refl (fld ! refl (stop !)))) (look-in ! 0 (sub ! 0 refl (sub ! 0 refl (all !))))))
+        -- [a share of the memory; job, limits, sound, used, count, the references to what is kept, header, the present state's reference; what the memory
+        -- owns; what shuts it; the borrow; ..]
+        move ! (0 ∷ 35 ∷ 31 ∷ 29 ∷ 25 ∷ 23 ∷ 21 ∷ 19 ∷ 17 ∷ 15 ∷ 13 ∷ 11 ∷ 9 ∷ 7 ∷ 33 ∷ 27 ∷ []) $
+        assigns ! (of-opd ! (load ! (behind ! {j = 1} refl (look ! 1 refl) (fld ! refl (fld ! refl (stop !))))
+        (look-in ! 0 (sub ! 0 refl (sub ! 0 refl (all !))))))
         (from ! (stop !)) (init ! 14 refl (header .typed 𝓤 H A W h hf)) $
         asks ! fm (header ∷ []) limits limited known-limits (h, tt) (hf, tt) (and-then ! (var ! 14 refl) (no-more !)) (from ! (stop !)) (init ! 2 refl) (λ lf.
-        assigns ! (of-opd ! (true-lit !)) (from ! (stop !)) (init ! 3 refl (truth .typed 𝓤 H A W true refl)) $
-        move ! (0 ∷ 1 ∷ 2 ∷ 3 ∷ 4 ∷ 5 ∷ 6 ∷ []) $ kept-tested ! fm known 1 3 4 5 6 7 refl refl refl refl refl refl (λ _. (tt, tt)) (cellOf s b o m) 1 refl
+        move ! (0 ∷ 1 ∷ 2 ∷ 3 ∷ 14 ∷ 15 ∷ []) $ present-tested ! fm known 1 2 3 4 5 refl refl refl refl refl (λ _. (tt, tt)) (cellOf s b o m) refl
+        (m .present) (sub ! 0 refl (all !)) (p .present-fits) l lf $
+        -- [a share of the memory; job, limits, sound, used, count, the references to what is kept; header, the present state's reference; ..]
+        move ! (0 ∷ 1 ∷ 2 ∷ 3 ∷ 6 ∷ 7 ∷ 8 ∷ 9 ∷ 10 ∷ 11 ∷ 12 ∷ 13 ∷ 14 ∷ 15 ∷ 4 ∷ 5 ∷ []) $
+        move ! (0 ∷ 1 ∷ 2 ∷ 3 ∷ 4 ∷ 5 ∷ 6 ∷ []) $ kept-tested ! fm known 1 3 4 6 7 8 refl refl refl refl refl refl (λ _. (tt, tt)) (cellOf s b o m) 1 refl
         (m .kept0) (sub ! 1 refl (all !)) (p .fits0) _ l lf $
-        move ! (0 ∷ 1 ∷ 2 ∷ 3 ∷ 4 ∷ 5 ∷ 7 ∷ []) $ kept-tested ! fm known 1 3 4 5 6 8 refl refl refl refl refl refl (λ _. (tt, tt)) (cellOf s b o m) 2 refl
+        move ! (0 ∷ 1 ∷ 2 ∷ 3 ∷ 4 ∷ 5 ∷ 7 ∷ []) $ kept-tested ! fm known 1 3 4 6 7 9 refl refl refl refl refl refl (λ _. (tt, tt)) (cellOf s b o m) 2 refl
         (m .kept1) (sub ! 2 refl (all !)) (p .fits1) _ l lf $
-        move ! (0 ∷ 1 ∷ 2 ∷ 3 ∷ 4 ∷ 5 ∷ 8 ∷ []) $ kept-tested ! fm known 1 3 4 5 6 9 refl refl refl refl refl refl (λ _. (tt, tt)) (cellOf s b o m) 3 refl
+        move ! (0 ∷ 1 ∷ 2 ∷ 3 ∷ 4 ∷ 5 ∷ 8 ∷ []) $ kept-tested ! fm known 1 3 4 6 7 10 refl refl refl refl refl refl (λ _. (tt, tt)) (cellOf s b o m) 3 refl
         (m .kept2) (sub ! 3 refl (all !)) (p .fits2) _ l lf $
-        move ! (0 ∷ 1 ∷ 2 ∷ 3 ∷ 4 ∷ 5 ∷ 9 ∷ []) $ kept-tested ! fm known 1 3 4 5 6 10 refl refl refl refl refl refl (λ _. (tt, tt)) (cellOf s b o m) 4 refl
+        move ! (0 ∷ 1 ∷ 2 ∷ 3 ∷ 4 ∷ 5 ∷ 9 ∷ []) $ kept-tested ! fm known 1 3 4 6 7 11 refl refl refl refl refl refl (λ _. (tt, tt)) (cellOf s b o m) 4 refl
         (m .kept3) (sub ! 4 refl (all !)) (p .fits3) _ l lf $
-        move ! (0 ∷ 1 ∷ 2 ∷ 3 ∷ 4 ∷ 5 ∷ 10 ∷ []) $ kept-tested ! fm known 1 3 4 5 6 11 refl refl refl refl refl refl (λ _. (tt, tt)) (cellOf s b o m) 5 refl
+        move ! (0 ∷ 1 ∷ 2 ∷ 3 ∷ 4 ∷ 5 ∷ 10 ∷ []) $ kept-tested ! fm known 1 3 4 6 7 12 refl refl refl refl refl refl (λ _. (tt, tt)) (cellOf s b o m) 5 refl
         (m .kept4) (sub ! 5 refl (all !)) (p .fits4) _ l lf $
-        move ! (0 ∷ 1 ∷ 2 ∷ 3 ∷ 4 ∷ 5 ∷ 11 ∷ []) $ kept-tested ! fm known 1 3 4 5 6 12 refl refl refl refl refl refl (λ _. (tt, tt)) (cellOf s b o m) 6 refl
+        move ! (0 ∷ 1 ∷ 2 ∷ 3 ∷ 4 ∷ 5 ∷ 11 ∷ []) $ kept-tested ! fm known 1 3 4 6 7 13 refl refl refl refl refl refl (λ _. (tt, tt)) (cellOf s b o m) 6 refl
         (m .kept5) (sub ! 6 refl (all !)) (p .fits5) _ l lf $
-        move ! (0 ∷ 1 ∷ 2 ∷ 3 ∷ 4 ∷ 5 ∷ 12 ∷ []) $ kept-tested ! fm known 1 3 4 5 6 13 refl refl refl refl refl refl (λ _. (tt, tt)) (cellOf s b o m) 7 refl
+        move ! (0 ∷ 1 ∷ 2 ∷ 3 ∷ 4 ∷ 5 ∷ 12 ∷ []) $ kept-tested ! fm known 1 3 4 6 7 14 refl refl refl refl refl refl (λ _. (tt, tt)) (cellOf s b o m) 7 refl
         (m .kept6) (sub ! 7 refl (all !)) (p .fits6) _ l lf $
-        move ! (0 ∷ 1 ∷ 2 ∷ 3 ∷ 4 ∷ 5 ∷ 13 ∷ []) $ kept-tested ! fm known 1 3 4 5 6 14 refl refl refl refl refl refl (λ _. (tt, tt)) (cellOf s b o m) 8 refl
+        move ! (0 ∷ 1 ∷ 2 ∷ 3 ∷ 4 ∷ 5 ∷ 13 ∷ []) $ kept-tested ! fm known 1 3 4 6 7 15 refl refl refl refl refl refl (λ _. (tt, tt)) (cellOf s b o m) 8 refl
         (m .kept7) (sub ! 8 refl (all !)) (p .fits7) _ l lf $
-        assigns ! (of-opd ! (var ! 3 refl)) (from ! (stop !)) (init ! 35 refl (truth .typed 𝓤 H A W (eachSound m) refl)) $
-        move ! (0 ∷ 15 ∷ 16 ∷ []) $ use1 W (‵ (fat s (rawTy (memory .ty)) b o (memory .val m))) (W .laws .at-raw s (memory .ty) b o (memory .val m)) $
+        assigns ! (of-opd ! (var ! 3 refl)) (from ! (stop !)) (init ! 37 refl (truth .typed 𝓤 H A W (eachSound m) refl)) $
+        move ! (0 ∷ 16 ∷ 17 ∷ []) $ use1 W (‵ (fat s (rawTy (memory .ty)) b o (memory .val m))) (W .laws .at-raw s (memory .ty) b o (memory .val m)) $
         shuts ! tt (memory .row) s m (memory .val m ∷ []) b o $
         -- [the token; the locals; the borrow; true; res; true; what frees each local]
-        returns ! (look ! 33 refl) $
-        move ! (33 ∷ 34 ∷ 1 ∷ 32 ∷ 14 ∷ 31 ∷ 2 ∷ 30 ∷ 3 ∷ 29 ∷ 4 ∷ 28 ∷ 5 ∷ 27 ∷ 13 ∷ 26 ∷ 12 ∷ 25 ∷ 11 ∷ 24 ∷ 10 ∷ 23 ∷ 9 ∷ 22 ∷ 8 ∷ 21 ∷ 7 ∷ 20 ∷ 6 ∷ 19
-        ∷ []) $
+        returns ! (look ! 35 refl) $
+        move ! (35 ∷ 36 ∷ 1 ∷ 34 ∷ 14 ∷ 33 ∷ 2 ∷ 32 ∷ 3 ∷ 31 ∷ 15 ∷ 30 ∷ 4 ∷ 29 ∷ 5 ∷ 28 ∷ 13 ∷ 27 ∷ 12 ∷ 26 ∷ 11 ∷ 25 ∷ 10 ∷ 24 ∷ 9 ∷ 23 ∷ 8 ∷ 22 ∷ 7 ∷ 21
+        ∷ 6 ∷ 20 ∷ []) $
         freed ! $ freed ! $ freed ! $ freed ! $ freed ! $ free1 ! $ free1 ! $ free1 ! $ free1 ! $ free1 ! $ free1 ! $ free1 ! $ free1 ! $ free1 ! $
-        free1 ! $ free0 ! $ keep ! (0 ∷ 3 ∷ 1 ∷ []) $ by ! exits))))))))))))))))))
+        free1 ! $ free1 ! $ free0 ! $ keep ! (0 ∷ 3 ∷ 1 ∷ []) $ by ! exits)))))))))))))))))))
 
 f-meets : {M : Type 1} (𝓤 : URA M) (H : Heap 𝓤) (A : Atoms 𝓤) (W : Given 𝓤 H A) (at-mem : Memory → SProp 𝓤) (run : Routine → Fun 𝓤) (𝓣 : Tables 𝓤 H)
     → Triple 𝓤 (𝓣 .C #limits-of) (Gives 𝓤 H A (header ∷ []) limits limited) → Triple 𝓤 (𝓣 .C #also-sound) (Sounds 𝓤 H A)
@@ -127,9 +132,9 @@ f-meets 𝓤 H A W at-mem run 𝓣 known-limits known =
     via 𝓤 _ (fst∗ 𝓤 _ (emp 𝓤)) (walk 𝓤 H A W at-mem run (κs .0) (qs .0) (a .0 .ptr .0) (a .0 .ptr .1) (a .0 .name) (a .0 .now) (𝓣 .C) (𝓣 .Λ)
     (fmOf 𝓤 H (W .laws) 𝓣) known-limits known)))
 
-pub all-sound-spec : {M : Type 1} → stated.statement M
+pub are-open-states-spec : {M : Type 1} → stated.statement M
 unfolding code.routine tablesOf
-all-sound-spec 𝓤 H 𝓜 𝓖 𝓡 =
+are-open-states-spec 𝓤 H 𝓜 𝓖 𝓡 =
     entered 𝓤 H (tripleOf 𝓤 H (𝓖 .A) f.signature (f.spec 𝓤 H (𝓖 .A) (𝓜 .mem) (𝓡 .run)))
     (tables 𝓤 H 𝓜 𝓡 code.env .C) (tables 𝓤 H 𝓜 𝓡 code.env .Λ) #f code.function (code.unfolded 𝓤 H 𝓜 𝓡)
     (f-meets 𝓤 H (𝓖 .A) (givenOf 𝓤 H 𝓜 𝓖) (𝓜 .mem) (𝓡 .run) (tablesOf 𝓤 H 𝓜 (tables 𝓤 H 𝓜 𝓡 code.env))

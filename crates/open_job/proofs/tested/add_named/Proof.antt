@@ -1,4 +1,4 @@
--- `open_job::calls::add_named` meets its contract: the name, the room, then the tests of the hazard, and then it is put in. Assumes nothing.
+-- `open_job::tested::add_named` meets its contract: the name, the room, then the tests of the hazard, and then it is put in. Assumes nothing.
 use native.Mathlib.Omega.{arith}
 use mathlib.Core.Path.{_≡_, refl, sym, ap, _∙_}
 use mathlib.Core.Bool.{false}
@@ -15,8 +15,8 @@ use Rattle.open_memory.proofs.PlaceLaws.{rank-most}
 use Rattle.open_memory.proofs.WalkLaws.{standing-length}
 use Rattle.open_job.specs.Calls.{addTo}
 use Rattle.open_job.proofs.CallLaws.{changes-refused, changes-done, full-count, add-done}
-use Rattle.open_job.proofs.calls.add_named.Statement.{statement}
-use Rattle.open_job.proofs.calls.add_named.Tie as tie
+use Rattle.open_job.proofs.tested.add_named.Statement.{statement}
+use Rattle.open_job.proofs.tested.add_named.Tie as tie
 
 -- How long the array is.
 size : (c : tie.Start) → length (c .args .job .hazards) ≡ 256

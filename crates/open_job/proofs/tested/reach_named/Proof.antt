@@ -1,16 +1,16 @@
--- `open_job::calls::reach_named` meets its contract: the name, and then the hazard at its place. Assumes nothing.
+-- `open_job::tested::reach_named` meets its contract: the name, and then the hazard at its place. Assumes nothing.
 use Prim.Native.Nat.{_<_}
 use native.Mathlib.Omega.{arith}
-use mathlib.Core.Path.{_≡_, refl, sym, _∙_}
+use mathlib.Core.Path.{_≡_, sym, _∙_}
 use mathlib.Core.Bool.{true}
 use lib.ListN.{length, length-map}
 use borrow.Author.Needs.{needs}
 use Rattle.open_memory.specs.Memory.{standing, stands}
-use Rattle.open_memory.proofs.RuleLaws.{Admitted, open-header, open-count}
+use Rattle.open_memory.proofs.RuleLaws.{open-header, open-count}
 use Rattle.open_job.specs.Calls.{reachUnder}
 use Rattle.open_job.proofs.CallLaws.{place-within, place-admitted, reach-done}
-use Rattle.open_job.proofs.calls.reach_named.Statement.{statement}
-use Rattle.open_job.proofs.calls.reach_named.Tie as tie
+use Rattle.open_job.proofs.tested.reach_named.Statement.{statement}
+use Rattle.open_job.proofs.tested.reach_named.Tie as tie
 
 -- How long the array is.
 size : (c : tie.Start) → length (c .args .t1 .hazards) ≡ 256
