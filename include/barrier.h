@@ -764,10 +764,10 @@ extern "C" {
  * barrier_version from 3.2.0 on, barrier_reach and barrier_open_reach from
  * 3.3.0 on.
  */
-#define BARRIER_VERSION "3.3.1"
+#define BARRIER_VERSION "3.3.2"
 #define BARRIER_VERSION_MAJOR 3
 #define BARRIER_VERSION_MINOR 3
-#define BARRIER_VERSION_PATCH 1
+#define BARRIER_VERSION_PATCH 2
 
 /*
  * CONSTANTS
@@ -1404,7 +1404,7 @@ barrier_reply barrier_return(barrier_open_job *job, uint64_t state);
 
 /*
  * Version: that of the engine which is linked, or loaded, as one number:
- * MAJOR * 1000000 + MINOR * 1000 + PATCH, 3003001 for 3.3.1.  The macros
+ * MAJOR * 1000000 + MINOR * 1000 + PATCH, 3003002 for 3.3.2.  The macros
  * BARRIER_VERSION_MAJOR, BARRIER_VERSION_MINOR and BARRIER_VERSION_PATCH are
  * this header's; where the two differ, "Versions" says what may be done.
  */

@@ -26,7 +26,7 @@ from .turning import (
     turn_station,
 )
 
-__version__ = "3.3.1"
+__version__ = "3.3.2"
 
 __all__ = [
     "HAZARD_NUMBERS", "SCHEDULE_MAX", "TRIES_MAX", "Corner", "Corners", "Hazard", "Header", "Job",

@@ -1,10 +1,10 @@
 //! The constants of barrier.h, without their BARRIER_ in front.
 
 /// The version of barrier.h that this crate was written for, and its own.
-pub const VERSION: &str = "3.3.1";
+pub const VERSION: &str = "3.3.2";
 pub const VERSION_MAJOR: u32 = 3;
 pub const VERSION_MINOR: u32 = 3;
-pub const VERSION_PATCH: u32 = 1;
+pub const VERSION_PATCH: u32 = 2;
 
 /// The schedule of every job fits in this many bytes.
 pub const SCHEDULE_MAX: usize = 5624;

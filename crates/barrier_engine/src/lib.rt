@@ -96,5 +96,5 @@ pub extern "C" fn barrier_layout(lengths: &[u64], run: u64, limit: u64) -> Layou
 pub extern "C" fn barrier_version() -> u32
     ensures { λ r. ⌜ r ≡ version ⌝ }
 {
-    3003001
+    3003002
 }

@@ -87,6 +87,6 @@ layoutOf a =
     let some : ℕ = if r .found then 1 else 0 in
     record { number = how .number; value = how .value; found = some; overrun = r .overrun; counts = r .counts; tries = r .tries; floor = r .floor }
 
--- Version 3.3.1, as one number.
+-- Version 3.3.2, as one number.
 abbrev pub version : ℕ
-version = 3 * 1000000 + 3 * 1000 + 1
+version = 3 * 1000000 + 3 * 1000 + 2
