@@ -13,7 +13,7 @@ use Rattle.job.specs.declared.Hazard.{Hazard}
 use Rattle.job.specs.Job.{with_offset}
 use Rattle.job.proofs.RangeLaws.{header_bounds, hazard_bounds}
 use Rattle.planning.specs.Envelope.{Traffic, forward, opposite, adjacent_traffic, runout, lengthening}
-use Rattle.planning.proofs.ReachLaws.{reaches-adjacent, present_runout, runout_top}
+use Rattle.planning.proofs.ReachLaws.{reaches_adjacent, present_runout, runout_top}
 use Rattle.planning.proofs.AdjacentLaws.{is_adjacent, adjacent_reaches_lem}
 use Rattle.clear_offset.specs.Offset.{length_at}
 use Rattle.clear_offset.specs.Steps.{Clear}
@@ -52,7 +52,7 @@ module _ (h : Header) (z : Hazard) (c : Clear h z) where
     unfolding length_at lengthening adjacent_traffic
     length_is =
         let t = adjacent_traffic h z.side in
-        let by = reaches-adjacent (with_offset h M) z t (is_adjacent (with_offset h M) z.side (hazard_bounds h z c.hazard).side).beside in
+        let by = reaches_adjacent (with_offset h M) z t (is_adjacent (with_offset h M) z.side (hazard_bounds h z c.hazard).side).beside in
         rw (adjacent_reaches_lem (with_offset h M) z (hazard_bounds h z c.hazard).side ∙ lt-ltb z.near h.zone c.reach, by.1, by.2, runout_same h M t)
 
   pub length_at_some : (M : ℕ) → M + h.deflection ≤ z.near → 1 ≤ length_at h z M

@@ -21,7 +21,7 @@ use Rattle.job.specs.declared.Hazard.{Hazard}
 use Rattle.job.specs.Fits.{HeaderFits, HazardFits}
 use Rattle.job.proofs.RangeLaws.{header_bounds}
 use Rattle.planning.specs.Envelope.{Traffic, forward, opposite, adjacent, runout, reaches, lengthening}
-use Rattle.planning.proofs.ReachLaws.{reaches-adjacent, reaching_domain, reaching_length, reaching_raised, lengthening_top}
+use Rattle.planning.proofs.ReachLaws.{reaches_adjacent, reaching_domain, reaching_length, reaching_raised, lengthening_top}
 use Rattle.corners.specs.declared.points.Lengths.{Lengths}
 use Rattle.corners.specs.declared.reply.Corners.{Corners}
 use Rattle.corners.specs.Corners.{upstream_by, length_before, flare_entered, upstream_offset, Point, point_at, approach_points}
@@ -33,13 +33,13 @@ module _ (h : Header) (z : Hazard) (t : Traffic) (hf : HeaderFits h) (zf : Hazar
     (beside : adjacent h z.side t ≡ true) (reach : reaches h z t ≡ true)
     {L R : ℕ} (p : L ≡ runout h t) (q : R ≡ min z.far h.zone) where
   pub asked_domain : Domain h.along h.across h.straight L R h.offset
-  asked_domain = let e = reaches-adjacent h z t beside in rw (e.1, e.2, ← p, ← q) at (reaching_domain h z hf zf clear t reach)
+  asked_domain = let e = reaches_adjacent h z t beside in rw (e.1, e.2, ← p, ← q) at (reaching_domain h z hf zf clear t reach)
 
   pub asked_lengths : {l : Lengths} → l.before ≡ approach_length h.along h.across h.straight L R h.offset
       → l.raised ≡ raised_length h.panel h.along h.across h.straight L R h.offset → LengthsOf h z t l
   unfolding length_before
   asked_lengths {l} before raised =
-      let e = reaches-adjacent h z t beside in
+      let e = reaches_adjacent h z t beside in
       let same : l.before ≡ length_before h z t = cc (e.1, e.2) in
       let raise : l.raised ≡ lengthening h z t = cc (e.1, e.2, reaching_length h z hf zf clear t reach) in
       let not_smaller : length_before h z t ≤ lengthening h z t = (reaching_raised h z hf zf clear t reach).holds.not_smaller in

@@ -26,7 +26,7 @@ use Rattle.schedule.specs.Schedule.{write_schedule}
 use Rattle.schedule.specs.Plan.{fitted, plan}
 use Rattle.schedule.specs.Planned.{Accepted}
 use Rattle.demands.specs.Demands.{Alike}
-use Rattle.demands.proofs.DemandLaws.{alike_reached, more-envelopes}
+use Rattle.demands.proofs.DemandLaws.{alike_reached, more_envelopes}
 
 alike_overhang : (h k : Header) → Alike h k → (z : Hazard) → overhang h z ≡ overhang k z
 unfolding overhang lengthening reaches reach_of offset_of farther
@@ -53,8 +53,8 @@ module _ (j₁ j₂ : Job) (alike₁ : Alike j₁.header j₂.header) (alike₂ 
   unfolding job_level
   same_levels t =
       ap (λ (G : ℕ). required_level (side_envelopes j₁ side) G t) (ap (λ (x : Header). x.continuity) alike₁)
-      ∙ level_same (side_envelopes j₁ side) (side_envelopes j₂ side) j₂.header.continuity t (more-envelopes j₁ j₂ alike₁ side more₁)
-      (more-envelopes j₂ j₁ alike₂ side more₂)
+      ∙ level_same (side_envelopes j₁ side) (side_envelopes j₂ side) j₂.header.continuity t (more_envelopes j₁ j₂ alike₁ side more₁)
+      (more_envelopes j₂ j₁ alike₂ side more₂)
 
   same_overhangs : side_overhangs j₁ side ≡ side_overhangs j₂ side
   same_overhangs = λ i. record {

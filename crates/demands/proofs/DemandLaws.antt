@@ -142,19 +142,19 @@ unfolding cut_envelope cut_to_road envelope lengthening reaches reach_of offset_
 alike_envelope h k a z = ap (λ (x : Header). cut_envelope x z) a
 
 -- So an envelope of the first job is one of the second, where that has the hazard too.
-pub alike-cut :
+pub alike_cut :
     (j₁ j₂ : Job) → Alike j₁.header j₂.header → (side : ℕ) (e : Stretch) (w : FromCut j₁ side e) → Memᴰ w.hazard j₂.hazards
     → Memᴰ e (side_envelopes j₂ side)
-alike-cut j₁ j₂ alike side e w m =
+alike_cut j₁ j₂ alike side e w m =
     let r : reached j₂.header w.hazard ≡ true = sym (alike_reached j₁.header j₂.header alike w.hazard) ∙ w.own.reach in
     let q : e ≡ cut_envelope j₂.header w.hazard = w.is ∙ alike_envelope j₁.header j₂.header alike w.hazard in
     subst (λ (x : Stretch). Memᴰ x (side_envelopes j₂ side)) (sym q) (to_cut j₂ side (record { member = m; on_side = w.own.on_side; reach = r }))
 
 -- And all of them, where it has every hazard that gives the side an envelope.
-pub more-envelopes :
+pub more_envelopes :
     (j₁ j₂ : Job) → Alike j₁.header j₂.header → (side : ℕ) → ((z : Hazard) → SideHazard j₁ side z → Memᴰ z j₂.hazards)
     → (e : Stretch) → Memᴰ e (side_envelopes j₁ side) → Memᴰ e (side_envelopes j₂ side)
-more-envelopes j₁ j₂ alike side more e m = let w = from_cut j₁ side e m in alike-cut j₁ j₂ alike side e w (more w.hazard w.own)
+more_envelopes j₁ j₂ alike side more e m = let w = from_cut j₁ side e m in alike_cut j₁ j₂ alike side e w (more w.hazard w.own)
 
 -- Headers that differ in the hazard count alone.
 pub counted_alike : (h : Header) (a b : ℕ) → Alike (counted h a) (counted h b)
@@ -174,7 +174,7 @@ demand3_growth s₁ s₂ j₁ j₂ side w₁ w₂ a₁ a₂ h p₁ p₂ alike mo
 
     grows : required_level (side_envelopes j₁ side) j₂.header.continuity t ≤ required_level (side_envelopes j₂ side) j₂.header.continuity t
     grows =
-        required_more (side_envelopes j₁ side) (side_envelopes j₂ side) j₂.header.continuity t (more-envelopes j₁ j₂ alike side (λ z s. more z s.member))
+        required_more (side_envelopes j₁ side) (side_envelopes j₂ side) j₂.header.continuity t (more_envelopes j₁ j₂ alike side (λ z s. more z s.member))
 
 pub millimetres_add : (f : ℕ → ℕ) (v p q r : ℕ) → p ≤ q → q ≤ r → millimetres f v p q + millimetres f v q r ≡ millimetres f v p r
 unfolding millimetres

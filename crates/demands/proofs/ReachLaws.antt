@@ -34,7 +34,7 @@ use Rattle.demands.specs.Reach.{InEnvelope, InStretch, Around, Enveloped, Says, 
 use Rattle.demands.specs.Reach.{ReachRefusals, NoHazard, ReachFourteen}
 use Rattle.demands.proofs.DemandLaws.{demand2}
 use Rattle.demands.proofs.RefusalLaws.{OneToSeven, accept_refusals, plan_refuses}
-use Rattle.demands.proofs.WithdrawalLaws.{same-shown, withdrawal_reach_lem}
+use Rattle.demands.proofs.WithdrawalLaws.{same_shown, withdrawal_reach_lem}
 
 -- The reply for a hazard, reached or not
 module _ (h : Header) (z : Hazard) where
@@ -164,7 +164,7 @@ reach_given s j a i l = (
     covered =
         λ w p. covers_envelope h z (schedule_level w) (λ e t on k. (demand2 s j (hazard_reach h z).side w a low p).covers z own (sym (own_side h z)) e t on k);
     levels = same;
-    shown = same-shown s (write_job (without_hazard j i)) j (without_hazard j i) a far.still_accepted (Untouched (hazard_reach h z)) same;
+    shown = same_shown s (write_job (without_hazard j i)) j (without_hazard j i) a far.still_accepted (Untouched (hazard_reach h z)) same;
     nothing_alters = λ side u room. far.nothing_alters side (untouched_side h z (hazard_reach h z) says side u) room;
   },
 )

@@ -35,7 +35,7 @@ use Rattle.open_memory.proofs.RuleLaws.{made_fits}
 use Rattle.demands.specs.Demands.{Alike}
 use Rattle.demands.specs.Withdrawal.{without_at, without_hazard, Unaltered, without_envelope, other_side, Beyond, outside, unaltered, SameLevels, SameShown}
 use Rattle.demands.specs.Withdrawal.{WithdrawalReach}
-use Rattle.demands.proofs.DemandLaws.{alike-cut, more-envelopes, counted_alike}
+use Rattle.demands.proofs.DemandLaws.{alike_cut, more_envelopes, counted_alike}
 use Rattle.demands.proofs.AlikeLaws.{same_levels, same_plan}
 use Rattle.demands.proofs.LevelLaws.{level_lookup}
 
@@ -113,7 +113,7 @@ module _ (j k : Job) (to : Alike j.header k.header) (back : Alike k.header j.hea
 
       go : (w.hazard ≡ z) ⊎ Memᴰ w.hazard k.hazards → (e ≡ cut_envelope j.header z) ⊎ Memᴰ e (side_envelopes k side)
       go (inl q) = inl (w.is ∙ ap (cut_envelope j.header) q)
-      go (inr o) = inr (alike-cut j k to side e w o)
+      go (inr o) = inr (alike_cut j k to side e w o)
 
   module _ (fits : AcceptedFits j) (own : Memᴰ z j.hazards) where
     outside_levels : (side : ℕ) → SideHazard j side z → (t : ℕ) → Outside (cut_envelope j.header z) j.header.continuity t
@@ -123,7 +123,7 @@ module _ (j k : Job) (to : Alike j.header k.header) (back : Alike k.header j.hea
         let long = (side_lies j side fits (cut_envelope j.header z) (to_cut j side s)).long in
         ap (λ (G : ℕ). required_level (side_envelopes k side) G t) (ap (λ (x : Header). x.continuity) back)
         ∙ sym (level_without (cut_envelope j.header z) (side_envelopes j side) (side_envelopes k side) j.header.continuity t long out (either side)
-        (more-envelopes k j back side (λ x s. fewer x s.member)))
+        (more_envelopes k j back side (λ x s. fewer x s.member)))
 
     pub same_beyond : SameLevels (Beyond j.header z) (job_level j) (job_level k)
     same_beyond side t (unaltered u) = side_levels side u t
@@ -135,10 +135,10 @@ module _ (j k : Job) (to : Alike j.header k.header) (back : Alike k.header j.hea
         go (no off) r = side_levels side (other_side off) t
 
 -- Lookup shows what the jobs require.
-pub same-shown :
+pub same_shown :
     (s₁ s₂ : List ℕ) (j k : Job) → Accepted s₁ j → Accepted s₂ k → (Away : (side t : ℕ) → Type 0) → SameLevels Away (job_level j) (job_level k)
     → SameShown Away (job_level j) (Planned s₁) (Planned s₂)
-same-shown s₁ s₂ j k a₁ a₂ Away same side low right left rightAfter leftAfter p₁ p₂ t b = record {
+same_shown s₁ s₂ j k a₁ a₂ Away same side low right left rightAfter leftAfter p₁ p₂ t b = record {
   before = (level_lookup s₁ j side right left a₁ low p₁ t).shown;
   after = (level_lookup s₂ k side rightAfter leftAfter a₂ low p₂ t).shown ∙ ap accepted (same side t b);
 }
@@ -148,7 +148,7 @@ withdrawal_reach_lem s j a i l = record {
   one_less = one_less ∙ fits.fits.hazards.count;
   still_accepted = still;
   levels = same;
-  shown = same-shown s (write_job k) j k a still (Beyond j.header z) same;
+  shown = same_shown s (write_job k) j k a still (Beyond j.header z) same;
   nothing_alters = side_plans j k to back z only fewer s (write_job k) a still;
 }
   where

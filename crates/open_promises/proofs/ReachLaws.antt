@@ -25,7 +25,7 @@ use Rattle.withdrawal.specs.Reach.{hazard_reach}
 use Rattle.demands.specs.Withdrawal.{SameLevels}
 use Rattle.demands.specs.Reach.{Says, Untouched}
 use Rattle.demands.proofs.DemandLaws.{demand2}
-use Rattle.demands.proofs.WithdrawalLaws.{same-shown}
+use Rattle.demands.proofs.WithdrawalLaws.{same_shown}
 use Rattle.demands.proofs.ReachLaws.{own_side, hazard_says, untouched_side, untouched_levels, covers_envelope}
 use Rattle.open_memory.specs.Memory.{standing, laid_out, stands, hazard_under, without}
 use Rattle.open_job.specs.States.{kept_states, states_from}
@@ -127,7 +127,7 @@ module _ (s : List ℕ) (j : Job) (calls : List Call) (m : OpenStates) (from : C
           (sym (own_side old.header z)) q t on k);
       levels = levels;
       shown = λ side good right left rightAfter leftAfter p q.
-          same-shown (write_job old) (write_job new) old new far.before.job_is_accepted far.after.job_is_accepted (Untouched r) levels side good right left
+          same_shown (write_job old) (write_job new) old new far.before.job_is_accepted far.after.job_is_accepted (Untouched r) levels side good right left
           rightAfter leftAfter
           (scheduled_planned m old far.before side _ p) (scheduled_planned next new far.after side _ q);
       nothing_alters =

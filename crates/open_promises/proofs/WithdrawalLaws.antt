@@ -26,7 +26,7 @@ use Rattle.demands.specs.Demands.{Alike}
 use Rattle.withdrawal.specs.Reach.{lengthened_at_both_ends, withdrawal_reach}
 use Rattle.demands.specs.Withdrawal.{Unaltered, without_envelope, other_side, Beyond, outside, unaltered, SameLevels}
 use Rattle.demands.proofs.DemandLaws.{counted_alike}
-use Rattle.demands.proofs.WithdrawalLaws.{same_beyond, side_plans, same-shown}
+use Rattle.demands.proofs.WithdrawalLaws.{same_beyond, side_plans, same_shown}
 use Rattle.open_memory.specs.Memory.{standing, stands, without}
 use Rattle.open_memory.proofs.RuleLaws.{open_standing}
 use Rattle.open_job.specs.Calls.{test_add, memory_after, open_states, withdraw_in}
@@ -146,7 +146,7 @@ withdrawal_promise s j calls m from name next e = record {
   after = after;
   levels = levels;
   shown = λ side low right left rightAfter leftAfter p q.
-      same-shown (write_job old) (write_job new) old new before.job_is_accepted after.job_is_accepted (Beyond h (unnamed found.0)) levels side low right left
+      same_shown (write_job old) (write_job new) old new before.job_is_accepted after.job_is_accepted (Beyond h (unnamed found.0)) levels side low right left
       rightAfter leftAfter
       (scheduled_planned m old before side _ p) (scheduled_planned next new after side _ q);
   nothing_alters = λ side u room. after.planned side room ∙ plans side u room ∙ sym (before.planned side room);

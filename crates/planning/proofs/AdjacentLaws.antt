@@ -11,7 +11,7 @@ use Rattle.base.proofs.TestLaws.{or_left, or_right}
 use Rattle.job.specs.declared.Header.{Header}
 use Rattle.job.specs.declared.Hazard.{Hazard}
 use Rattle.planning.specs.Envelope.{adjacent_traffic, reaches, Adjacent}
-use Rattle.planning.proofs.ReachLaws.{reaches-adjacent}
+use Rattle.planning.proofs.ReachLaws.{reaches_adjacent}
 
 -- "The adjacent traffic of the right side is forward; of the left side opposite. With LO = 0, forward is adjacent to both sides."
 pub is_adjacent : (h : Header) (side : ℕ) → side ≤ 1 → Adjacent h side (adjacent_traffic h side)
@@ -31,4 +31,4 @@ is_adjacent h side l = go (ℕ_discrete side 0) (ℕ_discrete h.opposite 0)
 pub adjacent_reaches_lem : (h : Header) (z : Hazard) → z.side ≤ 1 → reaches h z (adjacent_traffic h z.side) ≡ ltb z.near h.zone
 adjacent_reaches_lem h z l =
     let a = is_adjacent h z.side l in
-    (reaches-adjacent h z (adjacent_traffic h z.side) a.beside).0 ∙ ap (λ (there : Bool). there && ltb z.near h.zone) a.there
+    (reaches_adjacent h z (adjacent_traffic h z.side) a.beside).0 ∙ ap (λ (there : Bool). there && ltb z.near h.zone) a.there

@@ -56,23 +56,23 @@ overhang_after h z d = (λ l. omega arith, λ l. omega arith)
 -- At one end.
 module _ (h : Header) (side : ℕ) (end : Overhangs → ℕ) (nothing : end no_overhang ≡ 0)
     (picks : (a b : Overhangs) → end (greater a b) ≡ max (end a) (end b)) where
-  abbrev Job·of : List Hazard → Job
-  Job·of zs = record { header = h; hazards = zs }
+  abbrev job_with : List Hazard → Job
+  job_with zs = record { header = h; hazards = zs }
 
-  later : {z x : Hazard} {zs : List Hazard} → SideHazard (Job·of zs) side x → SideHazard (Job·of (z ∷ zs)) side x
+  later : {z x : Hazard} {zs : List Hazard} → SideHazard (job_with zs) side x → SideHazard (job_with (z ∷ zs)) side x
   later s = record { member = Memᴰ.tail s.member; on_side = s.on_side; reach = s.reach }
 
   -- One hazard more.
-  with_one : (z : Hazard) (zs : List Hazard) (on : eqb z.side side && reached h z ≡ true) (r : Overhangs) → Greatest (Job·of zs) side end (end r)
-      → Greatest (Job·of (z ∷ zs)) side end (end (greater (overhang h z) r))
+  with_one : (z : Hazard) (zs : List Hazard) (on : eqb z.side side && reached h z ≡ true) (r : Overhangs) → Greatest (job_with zs) side end (end r)
+      → Greatest (job_with (z ∷ zs)) side end (end (greater (overhang h z) r))
   with_one z zs on r g = record { none_greater = λ x s. below x s (Memᴰ.cases_cons s.member); attained = pick (dec_le (end r) (end (overhang h z))) }
     where
-      below : (x : Hazard) → SideHazard (Job·of (z ∷ zs)) side x → (x ≡ z) ⊎ Memᴰ x zs → end (overhang h x) ≤ end (greater (overhang h z) r)
+      below : (x : Hazard) → SideHazard (job_with (z ∷ zs)) side x → (x ≡ z) ⊎ Memᴰ x zs → end (overhang h x) ≤ end (greater (overhang h z) r)
       below x s (inl q) = rw q (omega (arith, picks (overhang h z) r))
       below x s (inr m) = omega (arith, picks (overhang h z) r, g.none_greater x (record { member = m; on_side = s.on_side; reach = s.reach }))
 
       pick : Dec (end r ≤ end (overhang h z)) → 0 < end (greater (overhang h z) r)
-          → (x : Hazard) × SideHazard (Job·of (z ∷ zs)) side x × (end (overhang h x) ≡ end (greater (overhang h z) r))
+          → (x : Hazard) × SideHazard (job_with (z ∷ zs)) side x × (end (overhang h x) ≡ end (greater (overhang h z) r))
       pick (yes l) some = (
         z,
         record { member = Memᴰ.head refl; on_side = eqb-true _ _ (and_left _ (reached h z) on); reach = and_right (eqb z.side side) _ on },
@@ -82,22 +82,22 @@ module _ (h : Header) (side : ℕ) (end : Overhangs → ℕ) (nothing : end no_o
           let w = g.attained (omega (arith, picks (overhang h z) r)) in
           (w.0, later w.1, omega (arith, picks (overhang h z) r, w.2))
 
-  without_one : (z : Hazard) (zs : List Hazard) (off : eqb z.side side && reached h z ≡ false) (n : ℕ) → Greatest (Job·of zs) side end n
-      → Greatest (Job·of (z ∷ zs)) side end n
+  without_one : (z : Hazard) (zs : List Hazard) (off : eqb z.side side && reached h z ≡ false) (n : ℕ) → Greatest (job_with zs) side end n
+      → Greatest (job_with (z ∷ zs)) side end n
   without_one z zs off n g =
       record { none_greater = λ x s. below x s (Memᴰ.cases_cons s.member); attained = λ some. let w = g.attained some in (w.0, later w.1, w.2) }
     where
-      below : (x : Hazard) → SideHazard (Job·of (z ∷ zs)) side x → (x ≡ z) ⊎ Memᴰ x zs → end (overhang h x) ≤ n
+      below : (x : Hazard) → SideHazard (job_with (z ∷ zs)) side x → (x ≡ z) ⊎ Memᴰ x zs → end (overhang h x) ≤ n
       below x s (inl q) = absurd (false≢true (sym off ∙ and_intro (eq-eqb _ _ (ap (λ (y : Hazard). y.side) (sym q) ∙ s.on_side)) (rw q at s.reach)))
       below x s (inr m) = g.none_greater x (record { member = m; on_side = s.on_side; reach = s.reach })
 
-  greatest : (zs : List Hazard) → Greatest (Job·of zs) side end (end (overhangs h side zs))
+  greatest : (zs : List Hazard) → Greatest (job_with zs) side end (end (overhangs h side zs))
   unfolding overhangs
   greatest [] = record { none_greater = λ x s. absurd (Memᴰ.not-nil s.member); attained = λ some. absurd (omega (arith, nothing)) }
   greatest (z ∷ zs) = go (eqb z.side side && reached h z) refl (greatest zs)
     where
-      go : (b : Bool) → (eqb z.side side && reached h z) ≡ b → Greatest (Job·of zs) side end (end (overhangs h side zs))
-          → Greatest (Job·of (z ∷ zs)) side end (end (if b then greater (overhang h z) (overhangs h side zs) else overhangs h side zs))
+      go : (b : Bool) → (eqb z.side side && reached h z) ≡ b → Greatest (job_with zs) side end (end (overhangs h side zs))
+          → Greatest (job_with (z ∷ zs)) side end (end (if b then greater (overhang h z) (overhangs h side zs) else overhangs h side zs))
       go true on g = with_one z zs on (overhangs h side zs) g
       go false off g = without_one z zs off (end (overhangs h side zs)) g
 

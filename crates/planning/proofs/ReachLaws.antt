@@ -24,20 +24,20 @@ use Rattle.planning.specs.Envelope.{Traffic, forward, opposite, present, adjacen
 -- The paper's sentences
 
 -- "Adjacent traffic reaches the hazard if n < C; then R is the lesser of f and C, and m = M."
-pub reaches-adjacent :
+pub reaches_adjacent :
     (h : Header) (z : Hazard) (t : Traffic) → adjacent h z.side t ≡ true
     → (reaches h z t ≡ (present h t && ltb z.near h.zone)) × (reach_of h z t ≡ min z.far h.zone) × (offset_of h z t ≡ h.offset)
 unfolding reaches reach_of offset_of farther
-reaches-adjacent h z t e = rw e (rw add-zero, rw add-zero, rw add-zero)
+reaches_adjacent h z t e = rw e (rw add-zero, rw add-zero, rw add-zero)
 
 -- "Far traffic reaches it if n + W < C; then R is the lesser of f + W and C, and m = M + W."
-pub reaches-far :
+pub reaches_far :
     (h : Header) (z : Hazard) (t : Traffic) → adjacent h z.side t ≡ false
     → (reaches h z t ≡ (present h t && ltb (z.near + h.way) h.zone))
     × (reach_of h z t ≡ min (z.far + h.way) h.zone)
     × (offset_of h z t ≡ h.offset + h.way)
 unfolding reaches reach_of offset_of farther
-reaches-far h z t e = rw e (refl, refl, refl)
+reaches_far h z t e = rw e (refl, refl, refl)
 
 in_zone : (h : Header) (z : Hazard) (t : Traffic) → reaches h z t ≡ true → z.near + farther h z.side t < h.zone
 unfolding reaches
@@ -45,7 +45,7 @@ in_zone h z t r = ltb-true (z.near + farther h z.side t) h.zone (and_right (pres
 
 adjacent_reaches_lem : (h : Header) (z : Hazard) (t : Traffic) → present h t ≡ true → adjacent h z.side t ≡ true → ltb z.near h.zone ≡ true
     → reaches h z t ≡ true
-adjacent_reaches_lem h z t p a l = rw (reaches-adjacent h z t a).0 (and_intro p l)
+adjacent_reaches_lem h z t p a l = rw (reaches_adjacent h z t a).0 (and_intro p l)
 
 -- A hazard is reached exactly if n < C: far traffic reaches only where adjacent traffic does.
 pub reached_near : (h : Header) (z : Hazard) → z.side ≤ 1 → reached h z ≡ ltb z.near h.zone

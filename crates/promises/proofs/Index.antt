@@ -23,7 +23,7 @@ pub use Rattle.demands.proofs.QueryLaws.{quantity_add}
 -- Document 01
 pub use Rattle.planning.proofs.EnvelopeLaws.{cut_has, domain_of}
 pub use Rattle.demands.proofs.CaseLaws.{cases_hold, printed_plan}
-pub use Rattle.planning.proofs.ReachLaws.{reaches-adjacent, reaches-far, reached_near}
+pub use Rattle.planning.proofs.ReachLaws.{reaches_adjacent, reaches_far, reached_near}
 pub use Rattle.planning.proofs.AdjacentLaws.{is_adjacent}
 pub use Rattle.number.proofs.ReadLaws.{read_writing, read_stands}
 pub use Rattle.number.proofs.WriteLaws.{group_count_lem, groups_hold}
