@@ -1,15 +1,15 @@
 -- The approach length: the least whole number not below the rule's exact value; never longer than the formula alone, nor than L; its parts in the domain.
 -- Assumes nothing.
+use Rattle.std.specs.Prelude.{if◌then◌else◌}
 use Prim.Native.Nat.{ℕ, suc, ◌+◌, ◌-◌, ◌*◌, ◌≤◌, ◌<◌}
 use native.Mathlib.Omega.{arith}
 use native.Mathlib.Nat.{mul-le-mul_left, mul-le-mul, le_of_mul-le-mul_left, lt_of_not-le}
 use native.Mathlib.Decide.{dec_le}
 use mathlib.Core.Path.{◌≡◌, ap, ◌∙◌, refl, sym}
-use mathlib.Core.Logic.{◌↔◌, ◌⊎◌, inl, inr, ⊎_elim}
+use mathlib.Core.Logic.{◌↔◌, inl, inr, ⊎_elim}
 use mathlib.Core.Bool.{Bool, true, false}
 use lib.Dec.{leb}
 use borrow.Author.Tests.{le-leb, lt-leb, leb-true, leb-false}
-use Rattle.base.specs.Choice.{if◌then◌else◌}
 use Rattle.approach.specs.Approach.{formula_length, approach_length, BelowFormula, BelowRule, Domain}
 use Rattle.approach.specs.Steps.{flare_across}
 use Rattle.approach.proofs.FormulaLaws.{formula_below, flare_adds, flare_shortens, unflared_exactly}

@@ -1,7 +1,6 @@
 -- The approach length: the published length-of-need formula, rounded up to the whole millimetre, and the rule for a barrier that ends in its straight part.
 -- Assumes nothing.
-use Rattle.std.specs.Prelude.{ℕ, ◌+◌, ◌-◌, ◌*◌, ◌/◌, ◌≤◌, ◌<◌, ◌⊎◌, leb}
-use Rattle.base.specs.Choice.{if◌then◌else◌}
+use Rattle.std.specs.Prelude.{ℕ, ◌+◌, ◌-◌, ◌*◌, ◌/◌, ◌≤◌, ◌<◌, ◌⊎◌, leb, if◌then◌else◌}
 
 -- x / y, rounded up to the next whole number if not whole.
 unfoldable pub ceil_div : (x y : ℕ) → ℕ

@@ -1,4 +1,6 @@
 // The approach length in whole panels, exact over its whole domain: the promise that planning, schedule and program cite.
+#![tactic(auto)]
+
 ghost use Rattle.std.specs.Prelude.{◌≡◌, ◌≤◌};
 ghost use Rattle.base.specs.Least.{next_multiple};
 ghost use Rattle.approach.specs.Approach.{formula_length, approach_length, Domain};
@@ -53,9 +55,9 @@ pub fn approach_length(
 
 // A length raised to whole panels. Panel length 1, that of every kind 1 job, spares the division.
 fn raised_to(panel: u64, length: u64) -> u64
-    requires le_panel { 1 ≤ panel }
+    requires panel_nonzero { 1 ≤ panel }
     requires panel_bound { panel ≤ 10000 }
-    requires length_len_bound { length ≤ 200000 }
+    requires length_bound { length ≤ 200000 }
     ensures { result ≡ next_multiple panel length }
 {
     if panel <= 1 {
@@ -75,7 +77,7 @@ pub fn raised_length(
     reach: u64,
     offset: u64,
 ) -> u64
-    requires le_panel { 1 ≤ panel }
+    requires panel_nonzero { 1 ≤ panel }
     requires panel_bound { panel ≤ 10000 }
     requires domain { Domain along across straight runout reach offset }
     ensures { result ≡ raised_length panel along across straight runout reach offset }

@@ -1,5 +1,6 @@
 -- Numbers up to 2,000,000,000 take five bytes at most: those of jobs and schedules that were accepted before document 02's request 11.
 -- Assumes nothing.
+use Rattle.std.specs.Prelude.{if◌then◌else◌}
 use Prim.Native.Nat.{ℕ, ◌-◌, ◌≤◌}
 use native.Mathlib.Omega.{arith}
 use mathlib.Core.Path.{◌≡◌, refl, sym, ap, ap₂, ◌∙◌}
@@ -7,7 +8,7 @@ use mathlib.Core.Bool.{Bool, true, false}
 use mathlib.Core.List.{List, [], ◌∷◌, ◌++◌, append_assoc, append-nil, Memᴰ}
 use lib.ListN.{length, get_or, take, drop}
 use lib.Dec.{leb, eqb}
-use Rattle.base.specs.Choice.{if◌then◌else◌, all_of}
+use Rattle.base.specs.Choice.{all_of}
 use Rattle.number.specs.Number.{write_in, write_number}
 use Rattle.number.proofs.WriteLaws.{write_five}
 use Rattle.job.specs.declared.Header.{Header}

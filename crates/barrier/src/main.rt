@@ -1,10 +1,12 @@
 // The program: a job from standard input, its report to standard output. What is printed is decided by crate `report`.
+#![tactic(auto)]
+
 ghost use Rattle.std.specs.Prelude.{◌≡◌, ◌≤◌, length, take};
-ghost use Rattle.io.specs.Counts.{IsPrefixLen};
 ghost use Rattle.report.specs.Input.{passed_on};
 ghost use Rattle.report.specs.Text.{reported};
 
 use report::Reply;
+use std::io::{Read, Write};
 
 // Room for as many bytes as are passed on.
 fn job_room() -> [u8; 8192]
@@ -13,12 +15,25 @@ fn job_room() -> [u8; 8192]
     [0; 8192]
 }
 
-// So many bytes of standard input, or as many as it has. How many were read is proved to lie in the memory; which bytes they are is tested.
-fn read_input(job: &mut [u8]) -> usize
+// So many bytes of the input, or as many as it has; where it cannot be read it ends. How many were read is proved to lie in the memory; which bytes they
+// are is tested.
+fn read_input<R: Read>(input: &mut R, job: &mut [u8]) -> usize
     requires { passed_on ≡ length job.old }
-    ensures { IsPrefixLen result job.new }
+    ensures in_bounds { result ≤ length job.new }
+    ensures prefix_len { result ≡ length (take result job.new) }
 {
-    io::read_full(libc::STDIN_FILENO, job)
+    let mut read = 0;
+    while read < job.len() {
+        let count = match input.read(&mut job[read..]) {
+            Ok(count) => count,
+            Err(_) => 0,
+        };
+        if count == 0 {
+            break;
+        }
+        read += count;
+    }
+    read
 }
 
 // Room for every report.
@@ -31,7 +46,8 @@ fn text_room() -> [u8; 32768]
 // The report stands in the first bytes of the text; this many.
 fn fill(job: &[u8], text: &mut [u8]) -> usize
     requires { 32768 ≤ length text.old }
-    ensures prefix_len { IsPrefixLen result text.new }
+    ensures in_bounds { result ≤ length text.new }
+    ensures prefix_len { result ≡ length (take result text.new) }
     ensures text_after { take result text.new ≡ reported job.now }
 {
     match report::report(job, text) {
@@ -40,16 +56,16 @@ fn fill(job: &[u8], text: &mut [u8]) -> usize
     }
 }
 
-// That it reads into the whole room, hands over what was read and writes what was filled is tested, not proved: `main` has no contract.
-fn main() {
+// That it reads into the whole room, hands over what was read and writes what was filled is tested, not proved: `main` has no contract. It ends with status 0
+// also where the report cannot be written, and says so where it can.
+fn main(rt: HostRuntime) {
     let mut job = job_room();
     let mut text = text_room();
-    let read = read_input(&mut job);
+    let read = read_input(&mut rt.stdin(), &mut job);
     let count = fill(&job[..read], &mut text);
-    if !io::write_all(libc::STDOUT_FILENO, &text[..count]) {
-        io::write_all(
-            libc::STDERR_FILENO,
-            b"barrier: the report could not be written\n",
-        );
+    if rt.stdout().write_all(&text[..count]).is_err() {
+        let _ = rt
+            .stderr()
+            .write_all(b"barrier: the report could not be written\n");
     }
 }

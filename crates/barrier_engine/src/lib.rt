@@ -1,4 +1,6 @@
 // The engine's C interface: numbers, slices as pointer and length, and replies as plain structs. include/barrier.h declares it.
+#![tactic(auto)]
+
 pub mod open; // the calls on an open job
 
 ghost use Rattle.std.specs.Prelude.{◌≡◌, length};
@@ -17,78 +19,63 @@ use replies::{
     Corners, LayoutReply, PlanReply, Quantities, ReachReply, Record, Reply, SmallestOffset,
 };
 
-#[unsafe(no_mangle)]
-pub extern "C" fn barrier_plan(job: &[u8], side: u64, out: &mut [u8]) -> PlanReply
+pub fn barrier_plan(job: &[u8], side: u64, out: &mut [u8]) -> PlanReply
     ensures value { result ≡ plan_reply_of (bytes_written (plan job.now side (length out.old))) }
     ensures out_after { out.new ≡ output_after (plan job.now side (length out.old)) out.old }
 {
     replies::calls::plan(job, side, out)
 }
 
-#[unsafe(no_mangle)]
-pub extern "C" fn barrier_level(job: &[u8], side: u64, station: u64) -> Reply
+pub fn barrier_level(job: &[u8], side: u64, station: u64) -> Reply
     ensures { result ≡ reply_of (level_at job.now side station) }
 {
     replies::calls::level(job, side, station)
 }
 
-#[unsafe(no_mangle)]
-pub extern "C" fn barrier_offset(job: &[u8], hazard: u64, longest: u64) -> SmallestOffset
+pub fn barrier_offset(job: &[u8], hazard: u64, longest: u64) -> SmallestOffset
     ensures { result ≡ smallest_of (smallest_offset job.now hazard longest) }
 {
     replies::hazard::offset(job, hazard, longest)
 }
 
-#[unsafe(no_mangle)]
-pub extern "C" fn barrier_reach(job: &[u8], hazard: u64) -> ReachReply
+pub fn barrier_reach(job: &[u8], hazard: u64) -> ReachReply
     ensures { result ≡ reach_reply_of (reach job.now hazard) }
 {
     replies::hazard::reach(job, hazard)
 }
 
-#[unsafe(no_mangle)]
-pub extern "C" fn barrier_quantity(schedule: &[u8], level: u64, p: u64, q: u64) -> Reply
+pub fn barrier_quantity(schedule: &[u8], level: u64, p: u64, q: u64) -> Reply
     ensures { result ≡ reply_of (quantity schedule.now level p q) }
 {
     replies::calls::quantity(schedule, level, p, q)
 }
 
-#[unsafe(no_mangle)]
-pub extern "C" fn barrier_lookup(right: &[u8], left: &[u8], side: u64, station: u64) -> Record
+pub fn barrier_lookup(right: &[u8], left: &[u8], side: u64, station: u64) -> Record
     ensures { result ≡ record_of (lookup right.now left.now side station) }
 {
     replies::calls::lookup(right, left, side, station)
 }
 
-#[unsafe(no_mangle)]
-pub extern "C" fn barrier_quantities(schedule: &[u8], level: u64, ranges: &[u64]) -> Quantities
+pub fn barrier_quantities(schedule: &[u8], level: u64, ranges: &[u64]) -> Quantities
     ensures { result ≡ quantities_of (quantities schedule.now level ranges.now) }
 {
     replies::calls::quantities(schedule, level, ranges)
 }
 
-#[unsafe(no_mangle)]
-pub extern "C" fn barrier_corners(
-    job: &[u8],
-    hazard: u64,
-    sheet_station: u64,
-    sheet_offset: u64,
-) -> Corners
+pub fn barrier_corners(job: &[u8], hazard: u64, sheet_station: u64, sheet_offset: u64) -> Corners
     ensures { result ≡ corners_reply_of (corners_of job.now hazard sheet_station sheet_offset) }
 {
     replies::calls::corners(job, hazard, sheet_station, sheet_offset)
 }
 
-#[unsafe(no_mangle)]
-pub extern "C" fn barrier_layout(lengths: &[u64], run: u64, limit: u64) -> LayoutReply
+pub fn barrier_layout(lengths: &[u64], run: u64, limit: u64) -> LayoutReply
     ensures { result ≡ layout_of (panels_for lengths.now run limit) }
 {
     replies::layout::layout(lengths, run, limit)
 }
 
 // Which engine is linked: 1,000,000 times the first number of its version, 1,000 times the second, and the third.
-#[unsafe(no_mangle)]
-pub extern "C" fn barrier_version() -> u32
+pub fn barrier_version() -> u32
     ensures { result ≡ version }
 {
     3003002

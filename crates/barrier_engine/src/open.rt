@@ -110,8 +110,7 @@ fn are_open_states(job: &OpenStates) -> bool
     sound
 }
 
-#[unsafe(no_mangle)]
-pub extern "C" fn barrier_open(job: &mut OpenStates, bytes: &[u8]) -> Reply
+pub fn barrier_open(job: &mut OpenStates, bytes: &[u8]) -> Reply
     ensures { (job.new ≡ memory_after (open_states bytes.now) job.old) × (result ≡ reply_of (replied (open_states bytes.now))) }
 {
     let opening = opened(bytes);
@@ -131,8 +130,7 @@ pub extern "C" fn barrier_open(job: &mut OpenStates, bytes: &[u8]) -> Reply
     opening.reply
 }
 
-#[unsafe(no_mangle)]
-pub extern "C" fn barrier_add(job: &mut OpenStates, name: u16, hazard: GivenHazard) -> Reply
+pub fn barrier_add(job: &mut OpenStates, name: u16, hazard: GivenHazard) -> Reply
     ensures { (job.new ≡ memory_after (add_in job.old name (hazard_given hazard)) job.old) × (result ≡ reply_of (replied (add_in job.old name (hazard_given hazard)))) }
 {
     let passed = are_open_states(&*job);
@@ -141,8 +139,7 @@ pub extern "C" fn barrier_add(job: &mut OpenStates, name: u16, hazard: GivenHaza
     done.reply
 }
 
-#[unsafe(no_mangle)]
-pub extern "C" fn barrier_withdraw(job: &mut OpenStates, name: u16) -> Reply
+pub fn barrier_withdraw(job: &mut OpenStates, name: u16) -> Reply
     ensures { (job.new ≡ memory_after (withdraw_in job.old name) job.old) × (result ≡ reply_of (replied (withdraw_in job.old name))) }
 {
     let passed = are_open_states(&*job);
@@ -151,8 +148,7 @@ pub extern "C" fn barrier_withdraw(job: &mut OpenStates, name: u16) -> Reply
     done.reply
 }
 
-#[unsafe(no_mangle)]
-pub extern "C" fn barrier_keep(job: &mut OpenStates, state: u64) -> Reply
+pub fn barrier_keep(job: &mut OpenStates, state: u64) -> Reply
     ensures { (job.new ≡ memory_after (keep_in job.old state) job.old) × (result ≡ reply_of (replied (keep_in job.old state))) }
 {
     let passed = are_open_states(&*job);
@@ -170,8 +166,7 @@ pub extern "C" fn barrier_keep(job: &mut OpenStates, state: u64) -> Reply
     keeping.reply
 }
 
-#[unsafe(no_mangle)]
-pub extern "C" fn barrier_return(job: &mut OpenStates, state: u64) -> Reply
+pub fn barrier_return(job: &mut OpenStates, state: u64) -> Reply
     ensures { (job.new ≡ memory_after (return_in job.old state) job.old) × (result ≡ reply_of (replied (return_in job.old state))) }
 {
     let passed = are_open_states(&*job);
@@ -188,16 +183,14 @@ pub extern "C" fn barrier_return(job: &mut OpenStates, state: u64) -> Reply
     done.reply
 }
 
-#[unsafe(no_mangle)]
-pub extern "C" fn barrier_open_schedule(job: &OpenStates, side: u64, out: &mut [u8]) -> PlanReply
+pub fn barrier_open_schedule(job: &OpenStates, side: u64, out: &mut [u8]) -> PlanReply
     ensures { (result ≡ plan_reply_of (bytes_written (schedule_in job.now side (length out.old)))) × (out.new ≡ output_after (schedule_in job.now side (length out.old)) out.old) }
 {
     let passed = are_open_states(job);
     scheduled(passed, (*job).present, side, out)
 }
 
-#[unsafe(no_mangle)]
-pub extern "C" fn barrier_open_reach(job: &OpenStates, name: u16) -> ReachReply
+pub fn barrier_open_reach(job: &OpenStates, name: u16) -> ReachReply
     ensures { result ≡ reach_reply_of (reach_in job.now name) }
 {
     let passed = are_open_states(job);

@@ -1,5 +1,6 @@
 -- Tests as facts: `&&`, `||`, `some_of` and `filter`.
 -- Assumes nothing.
+use Rattle.std.specs.Prelude.{if◌then◌else◌}
 use Prim.Native.Nat.{ℕ}
 use native.Mathlib.Omega.{arith}
 use mathlib.Core.Path.{◌≡◌, refl, sym, subst, ap, ◌∙◌}
@@ -8,7 +9,7 @@ use mathlib.Core.Bool.{Bool, true, false, ◌&&◌, ◌||◌, not, false≢true}
 use borrow.Author.Tests.{not-true}
 use mathlib.Core.List.Memᴰ
 use mathlib.Core.List.{List, [], ◌∷◌, ◌++◌, Memᴰ}
-use Rattle.base.specs.Choice.{if◌then◌else◌, some_of, filter, Passing}
+use Rattle.base.specs.Choice.{some_of, filter, Passing}
 
 -- Facts that contradict each other, of whatever data: `cc` finds 0 ≡ 1 in them.
 pub impossible : {C : Type 0} → ◌≡◌ {A = ℕ} 0 1 → C

@@ -1,13 +1,7 @@
--- Choice by a test, and tests over a list.
+-- Tests over a list.
 -- Assumes nothing.
-use Rattle.std.specs.Prelude.{◌≡◌, Bool, true, false, ◌&&◌, ◌||◌}
+use Rattle.std.specs.Prelude.{◌≡◌, Bool, true, false, ◌&&◌, ◌||◌, if◌then◌else◌}
 use mathlib.Core.List.{List, [], ◌∷◌, Memᴰ}
-
-module _ {ℓ} {A : Type ℓ} where
-  infix 20 if◌then◌else◌
-  abbrev pub if◌then◌else◌ : Bool → A → A → A
-  if true then a else b = a
-  if false then a else b = b
 
 module _ {ℓ} {A : Type ℓ} where
   -- some element passes the test
@@ -20,6 +14,7 @@ module _ {ℓ} {A : Type ℓ} where
   all_of p [] = true
   all_of p (x ∷ xs) = p x && all_of p xs
 
+module _ {A : Type 0} where
   -- the elements that pass the test
   unfoldable pub filter : (A → Bool) → List A → List A
   filter p [] = []

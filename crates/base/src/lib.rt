@@ -1,5 +1,7 @@
-// The words that every crate of the engine is written in, and their laws: choice by a test, tests over lists, answers that may be refusals, lists in
+// The words that every crate of the engine is written in, and their laws: tests over lists, answers that may be refusals, lists in
 // arrays, least numbers. And the code that every crate would write again: the lesser and the greater of two numbers, and their difference.
+#![tactic(auto)]
+
 ghost use Rattle.std.specs.Prelude.{◌≡◌, ◌-◌, min, max};
 
 pub fn min(x: u64, y: u64) -> u64

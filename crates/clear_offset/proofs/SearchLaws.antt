@@ -1,5 +1,6 @@
 -- Halving (binary search): the offsets that are left, and that the search from 0 upwards gives the same.
 -- Assumes nothing.
+use Rattle.std.specs.Prelude.{if◌then◌else◌}
 use Prim.Native.Nat.{ℕ, zero, suc, ◌+◌, ◌-◌, ◌/◌, ◌^◌, ◌≤◌, ◌<◌, min}
 use native.Mathlib.Omega.{arith}
 use native.Mathlib.Nat.{two-pow-succ}
@@ -9,7 +10,6 @@ use mathlib.Core.Logic.{◌↔◌}
 use mathlib.Core.Bool.{Bool, true, false}
 use lib.Dec.{leb}
 use borrow.Author.Tests.{leb-true, le-leb}
-use Rattle.base.specs.Choice.{if◌then◌else◌}
 use Rattle.base.specs.Least.{Least}
 use Rattle.base.proofs.TestLaws.{and_left, and_right, and_intro, not_both}
 use Rattle.job.specs.declared.Header.{Header}

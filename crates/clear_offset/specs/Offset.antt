@@ -1,7 +1,6 @@
 -- The call smallest offset: its complete reply. Document 02, request 10.
 -- Assumes nothing.
-use Rattle.std.specs.Prelude.{ℕ, zero, suc, ◌+◌, ◌≤◌, Bool, ◌&&◌, List, leb}
-use Rattle.base.specs.Choice.{if◌then◌else◌}
+use Rattle.std.specs.Prelude.{ℕ, zero, suc, ◌+◌, ◌≤◌, Bool, ◌&&◌, List, leb, if◌then◌else◌}
 use Rattle.base.specs.Answer.{Answer, accepted, ◌>>=◌}
 use Rattle.refusal.specs.Refusal.{refusal}
 use Rattle.job.specs.declared.Header.{Header}
@@ -10,7 +9,6 @@ use Rattle.job.specs.Job.{with_offset}
 use Rattle.planning.specs.Envelope.{adjacent_traffic, lengthening, accept_job}
 use Rattle.planning.specs.Approached.{approached_hazard}
 use Rattle.clear_offset.specs.declared.reply.Offset.{Offset}
-use Rattle.clear_offset.specs.declared.reply.Offset.TheVariants as Offset
 
 -- The paper's words
 

@@ -1,7 +1,7 @@
 // The call's reply.
 use refusal::Refusal;
 
-#[derive(Drop)]
+#[derive(Clone, Copy)]
 pub enum Offset {
     // The smallest barrier offset, in millimetres.
     Smallest(u64),

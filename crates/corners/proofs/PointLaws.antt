@@ -1,5 +1,6 @@
 -- The corners of an approach: its lengths, the sizes of its numbers, and the reply by whether the flare is entered.
 -- Assumes nothing.
+use Rattle.std.specs.Prelude.{if◌then◌else◌}
 use Prim.Native.Nat.{ℕ, ◌+◌, ◌-◌, ◌*◌, ◌/◌, ◌≤◌, ◌<◌, min}
 use native.Mathlib.Omega.{arith}
 use native.Mathlib.Nat.{mul-le-mul, div-le_self}
@@ -8,7 +9,6 @@ use mathlib.Core.Bool.{Bool, true, ◌&&◌}
 use lib.Dec.{ltb}
 use lib.IntN.{pos, nat_abs}
 use borrow.Author.Tests.{ltb-true}
-use Rattle.base.specs.Choice.{if◌then◌else◌}
 use Rattle.base.specs.Answer.{accepted}
 use Rattle.refusal.specs.Refusal.{outcome}
 use Rattle.refusal.specs.declared.Outcome.TheVariants.{Done}

@@ -16,14 +16,14 @@ use planning::envelope::{Traffic, adjacent_reach, runout_length};
 use refusal::Outcome;
 
 // The sheet corner.
-#[derive(Drop)]
+#[derive(Clone, Copy)]
 pub struct Sheet {
     pub station: u64,
     pub offset: u64,
 }
 
 // The lengths of an approach: before it is raised to panels, and raised.
-#[derive(Drop)]
+#[derive(Clone, Copy)]
 pub struct Lengths {
     pub before: u64,
     pub raised: u64,
@@ -34,8 +34,8 @@ pub fn approach_lengths(header: Header, hazard: Hazard, traffic: Traffic) -> Len
     requires header_fits { HeaderFits header }
     requires hazard_fits { HazardFits header hazard }
     requires deflection_bound { header.offset + header.deflection ≤ hazard.near }
-    requires traffic_value { adjacent header hazard.side (traffic_of traffic) ≡ true }
-    requires traffic_value_2 { reaches header hazard (traffic_of traffic) ≡ true }
+    requires traffic_adjacent { adjacent header hazard.side (traffic_of traffic) ≡ true }
+    requires hazard_reached { reaches header hazard (traffic_of traffic) ≡ true }
     ensures { LengthsOf header hazard (traffic_of traffic) result }
 {
     let runout = runout_length(header, traffic);

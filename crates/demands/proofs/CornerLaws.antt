@@ -1,5 +1,6 @@
 -- Request 9: when the call corners refuses, exactly; where its corners lie; that their floats lose nothing; and worked jobs.
 -- Assumes nothing.
+use Rattle.std.specs.Prelude.{if◌then◌else◌}
 use Prim.Native.Nat.{ℕ, ◌+◌, ◌-◌, ◌*◌, ◌/◌, ◌≤◌, ◌<◌}
 use native.Mathlib.Omega.{arith}
 use native.Mathlib.Nat.{lt-div-mul-add, div-mul-le_self}
@@ -11,7 +12,7 @@ use mathlib.Core.List.{List, map}
 use lib.IntN.{ℤ, pos, neg_ℤ, ◌+ℤ◌, ◌-ℤ◌, +ℤ_assoc, +ℤ_comm, +ℤ_idr, -ℤ-+ℤ_cancel, +ℤ-neg_ℤ_cancel}
 use lib.Ieee.{binary64}
 use borrow.Author.Tests.{ltb-true}
-use Rattle.base.specs.Choice.{if◌then◌else◌, some_of, filter}
+use Rattle.base.specs.Choice.{some_of, filter}
 use Rattle.base.specs.Answer.{Answer, accepted, refused}
 use Rattle.base.specs.Stored.{accepted_or}
 use Rattle.base.proofs.TestLaws.{impossible}

@@ -1,6 +1,7 @@
 -- Lookup in every schedule that is the writing of a run list: the part found is the record of the run that has the station, and nothing
 -- is found exactly where no run has it.
 -- Assumes nothing.
+use Rattle.std.specs.Prelude.{if◌then◌else◌}
 use Prim.Native.Nat.{ℕ, ◌+◌}
 use native.Mathlib.Omega.{arith}
 use mathlib.Core.Path.{◌≡◌, refl, sym, subst, ap, ◌∙◌}
@@ -12,7 +13,6 @@ use lib.ListN.{length, take, drop, length-append}
 use lib.Seq.{take-append_seam}
 use lib.Dec.{ltb, leb}
 use borrow.Author.Tests.{ltb-true, ltb-false, lt-ltb, leb-true, leb-false, le-leb}
-use Rattle.base.specs.Choice.{if◌then◌else◌}
 use Rattle.base.proofs.ListLaws.{drop_after}
 use Rattle.base.proofs.TestLaws.{and_intro, not_both, impossible}
 use Rattle.number.specs.Number.{write_number}

@@ -1,8 +1,6 @@
 -- A job of kind 1 has panel length 1, which raises nothing.
 -- Assumes nothing.
-use Prim.Native.Nat.{ℕ}
-use native.Mathlib.Omega.{arith}
-use mathlib.Core.Path.{◌≡◌, ◌∙◌}
+use mathlib.Core.Path.{◌≡◌}
 use borrow.Author.Tests.{eqb-true}
 use Rattle.approach.proofs.PanelLaws.{raised_length_one}
 use Rattle.job.specs.declared.Header.{Header}

@@ -30,7 +30,7 @@ use Rattle.withdrawal.specs.declared.reply.Reach.{Reach}
 use Rattle.withdrawal.specs.Reach.{lengthened_at_both_ends, withdrawal_reach, road_reach, no_reach, envelope_reach, hazard_reach, reach}
 use Rattle.demands.specs.Withdrawal.{without_hazard, Unaltered, without_envelope, Beyond, unaltered, SameLevels, ReachesNoFarther}
 use Rattle.demands.specs.Withdrawal as withdrawal
-use Rattle.demands.specs.Reach.{InEnvelope, InStretch, Around, Enveloped, Says, Untouched, outside, other_side, UntouchedSide, Covered, ReachGiven}
+use Rattle.demands.specs.Reach.{InEnvelope, InStretch, Enveloped, Says, Untouched, outside, other_side, UntouchedSide, ReachGiven}
 use Rattle.demands.specs.Reach.{ReachRefusals, NoHazard, ReachFourteen}
 use Rattle.demands.proofs.DemandLaws.{demand2}
 use Rattle.demands.proofs.RefusalLaws.{OneToSeven, accept_refusals, plan_refuses}

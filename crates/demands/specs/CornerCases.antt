@@ -1,6 +1,6 @@
 -- Worked jobs of document 02's request 9, with their corners (law corner_cases_hold).
 -- Assumes nothing.
-use Rattle.std.specs.Prelude.{ℕ, ◌+◌, List, [], ◌∷◌, ◌++◌, ℤ, pos, negsuc}
+use Rattle.std.specs.Prelude.{ℕ, List, [], ◌∷◌, ◌++◌, ℤ, pos, negsuc}
 use Rattle.base.specs.Answer.{Answer, accepted}
 use Rattle.job.specs.Writing.{write_numbers}
 use Rattle.corners.specs.Corners.{Point, Points, corners_of}

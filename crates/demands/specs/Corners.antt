@@ -1,7 +1,7 @@
 -- Document 02's request 9 as statements about the definitions: when the call corners refuses, where the corners lie, and that their floats lose
 -- nothing.
 -- Assumes nothing.
-use Rattle.std.specs.Prelude.{ℕ, ◌+◌, ◌-◌, ◌*◌, ◌≤◌, ◌<◌, ◌≡◌, ◌↔◌, ◌≢◌, ◌⊎◌, true, false, List, length, ℤ, pos, ◌+ℤ◌, ◌-ℤ◌}
+use Rattle.std.specs.Prelude.{ℕ, ◌+◌, ◌*◌, ◌≤◌, ◌<◌, ◌≡◌, ◌↔◌, ◌≢◌, ◌⊎◌, true, false, List, length, ℤ, pos, ◌+ℤ◌, ◌-ℤ◌}
 use Rattle.base.specs.Answer.{accepted, refused}
 use Rattle.base.specs.Stored.{accepted_or}
 use Rattle.corners.specs.Whole.{Whole}

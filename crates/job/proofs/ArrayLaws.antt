@@ -13,7 +13,6 @@ use Rattle.refusal.specs.Refusal.{refusal}
 use Rattle.refusal.specs.declared.Refusal.{Refusal}
 use Rattle.job.specs.declared.field.Reading.{Reading}
 use Rattle.job.specs.declared.field.Field.{Field}
-use Rattle.job.specs.declared.field.Field.TheVariants as Field
 use Rattle.job.specs.declared.Bounds.{Bounds}
 use Rattle.job.specs.Job.{read_fields}
 use Rattle.job.specs.Reply.{field_at, field_answer}

@@ -15,10 +15,8 @@ use Rattle.base.proofs.AnswerLaws.{bound, bind_assoc}
 use Rattle.refusal.proofs.RefuseLaws.{tested}
 use Rattle.number.specs.Number.{Reading, read_number, number_at}
 use Rattle.number.specs.declared.Read.{Read}
-use Rattle.number.specs.declared.Read.TheVariants as Read
 use Rattle.job.specs.declared.field.Reading.{Reading as Numbered}
 use Rattle.job.specs.declared.field.Field.{Field}
-use Rattle.job.specs.declared.field.Field.TheVariants as Field
 use Rattle.job.specs.declared.Bounds.{Bounds}
 use Rattle.job.specs.Job.{within, read_fields}
 use Rattle.job.specs.Reply.{field_at, field_answer}

@@ -16,7 +16,6 @@ use Rattle.number.specs.Number.{read_number}
 use Rattle.number.specs.declared.Read.TheVariants.{Number}
 use Rattle.job.specs.declared.field.Reading.{Reading}
 use Rattle.job.specs.declared.field.Field.{Field}
-use Rattle.job.specs.declared.field.Field.TheVariants as Field
 use Rattle.job.specs.declared.Bounds.{Bounds}
 use Rattle.job.specs.Job.{◌to◌, hazard_ranges, hazard_of, next_in_hazard, read_fields, outside_hazard}
 use Rattle.job.specs.Fits.{HazardFits}

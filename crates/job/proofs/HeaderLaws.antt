@@ -1,5 +1,6 @@
 -- The header's numbers read one by one into an array of fourteen.
 -- Assumes nothing.
+use Rattle.std.specs.Prelude.{if◌then◌else◌}
 use Prim.Native.Nat.{ℕ, zero, suc, ◌+◌, ◌≤◌, ◌<◌}
 use native.Mathlib.Omega.{arith}
 use mathlib.Core.Path.{◌≡◌, refl, sym, subst, ap, ◌∙◌}
@@ -9,14 +10,12 @@ use lib.ListN.{length, get_or, set, take, get_or-append}
 use lib.Seq.{length-take-le, get_or-take, get_or-set_other}
 use lib.Dec.{eqb}
 use borrow.Author.Tests.{eq-eqb, ne_eqb}
-use Rattle.base.specs.Choice.{if◌then◌else◌}
 use Rattle.base.specs.Answer.{accepted}
 use Rattle.refusal.specs.Refusal.{refusal}
 use Rattle.refusal.specs.declared.Refusal.{Refusal}
 use Rattle.refusal.specs.declared.Refusal.TheVariants.{HeaderRange}
 use Rattle.job.specs.declared.field.Reading.{Reading}
 use Rattle.job.specs.declared.field.Field.{Field}
-use Rattle.job.specs.declared.field.Field.TheVariants as Field
 use Rattle.job.specs.declared.Bounds.{Bounds}
 use Rattle.job.specs.Job.{◌to◌, shared_ranges, last_ranges, header_ranges, header_size, next_in_header, read_fields, read_header, header_with, header_of}
 use Rattle.job.specs.Job.{outside_header}

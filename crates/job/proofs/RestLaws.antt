@@ -3,12 +3,10 @@
 use Prim.Native.Nat.{ℕ, zero, suc, ◌+◌, ◌-◌, ◌*◌, ◌≤◌, ◌<◌}
 use native.Mathlib.Omega.{arith}
 use native.Mathlib.Nat.{sub-zero}
-use native.Mathlib.Numerals.{unary_clauses}
 use native.Mathlib.Decide.{dec_lt}
 use mathlib.Core.Path.{◌≡◌, refl, sym, ap, ◌∙◌}
-use mathlib.Core.Bool.{true, false}
 use mathlib.Core.List.{List, [], ◌∷◌, ◌++◌, append_assoc, append-nil, Memᴰ}
-use lib.ListN.{length, get_or, drop, take, length-append, drop_of_length-le}
+use lib.ListN.{length, get_or, drop, length-append, drop_of_length-le}
 use lib.Seq.{drop-cons}
 use borrow.Author.Tests.{lt-ltb, le-ltb, le-leb, lt-leb}
 use Rattle.base.specs.Answer.{Answer, accepted, refused, ◌>>=◌}
@@ -16,7 +14,7 @@ use Rattle.base.proofs.AnswerLaws.{bind_assoc, bind_same}
 use Rattle.base.proofs.ListLaws.{get_d_member}
 use Rattle.job.specs.declared.Header.{Header}
 use Rattle.job.specs.declared.Hazard.{Hazard}
-use Rattle.job.specs.Job.{Job, hazard_of, next_in_hazard, read_fields, read_header, read_hazards, read_rest, read_job, outside_hazard}
+use Rattle.job.specs.Job.{hazard_of, next_in_hazard, read_fields, read_header, read_hazards, read_rest, read_job, outside_hazard}
 use Rattle.job.specs.Fits.{HazardFits}
 use Rattle.job.specs.Given.{unpacked, given_hazards}
 use Rattle.job.specs.Reply.{header_reading, header_at, HazardReading, hazard_reading, read_hazard_at, next_hazard, hazards_from}

@@ -1,5 +1,6 @@
 -- Numbers that stand in the bytes, each in its range, are read, and the reading goes on behind them: where a row of the table holds, its refusal is returned.
 -- Assumes nothing.
+use Rattle.std.specs.Prelude.{if◌then◌else◌}
 use Prim.Native.Nat.{ℕ, zero, suc, ◌+◌, ◌-◌, ◌≤◌, ◌<◌}
 use native.Mathlib.Omega.{arith}
 use native.Mathlib.Nat.{zero-add}
@@ -11,12 +12,10 @@ use lib.ListN.{length, get_or, drop, length-append}
 use lib.Seq.{drop-append_seam}
 use lib.Dec.{eqb}
 use borrow.Author.Tests.{lt-leb, eqb-true}
-use Rattle.base.specs.Choice.{if◌then◌else◌}
 use Rattle.base.specs.Answer.{accepted, refused}
 use Rattle.base.proofs.ListLaws.{drop_after}
 use Rattle.refusal.specs.Refusal.{refusal, number_of, value_of}
 use Rattle.refusal.specs.declared.Refusal.{Refusal}
-use Rattle.refusal.specs.declared.Refusal.TheVariants as Row
 use Rattle.number.specs.declared.Read.{Read}
 use Rattle.number.specs.declared.Read.TheVariants.{Ended, Malformed}
 use Rattle.number.specs.Number.{write_number, greatest_number, read_number, reading_of, number_at}

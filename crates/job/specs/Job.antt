@@ -1,7 +1,6 @@
 -- The job in bytes: its header and hazards, and its reading with refusals 1 to 4 and 7 in their order.
 -- Assumes nothing.
-use Rattle.std.specs.Prelude.{ℕ, zero, suc, ◌+◌, ◌-◌, min, Bool, ◌&&◌, List, [], ◌∷◌, ◌++◌, map, length, get_or, take, set, leb, eqb}
-use Rattle.base.specs.Choice.{if◌then◌else◌}
+use Rattle.std.specs.Prelude.{ℕ, zero, suc, ◌+◌, ◌-◌, min, Bool, ◌&&◌, List, [], ◌∷◌, ◌++◌, map, length, get_or, take, set, leb, eqb, if◌then◌else◌}
 use Rattle.base.specs.Answer.{Answer, accepted, ◌>>=◌}
 use Rattle.refusal.specs.Refusal.{unless_refuse}
 use Rattle.refusal.specs.declared.Refusal.TheVariants as Row

@@ -1,7 +1,6 @@
 -- What each reading function answers, and the part of the job's reading that it answers for.
 -- Assumes nothing.
-use Rattle.std.specs.Prelude.{ℕ, zero, suc, List, [], ◌∷◌, ◌++◌, length, get_or, ltb, leb, eqb}
-use Rattle.base.specs.Choice.{if◌then◌else◌}
+use Rattle.std.specs.Prelude.{ℕ, zero, suc, List, [], ◌∷◌, ◌++◌, length, get_or, ltb, leb, eqb, if◌then◌else◌}
 use Rattle.base.specs.Answer.{Answer, accepted, ◌>>=◌}
 use Rattle.refusal.specs.Refusal.{unless_refuse, refusal}
 use Rattle.refusal.specs.declared.Refusal.TheVariants as Row
@@ -11,15 +10,11 @@ use Rattle.job.specs.declared.Header.{Header}
 use Rattle.job.specs.declared.Hazard.{Hazard}
 use Rattle.job.specs.declared.NamedHazard.{NamedHazard}
 use Rattle.job.specs.declared.field.Field.{Field}
-use Rattle.job.specs.declared.field.Field.TheVariants as Field
 use Rattle.job.specs.declared.header_fields.HeaderRead.{HeaderRead}
-use Rattle.job.specs.declared.header_fields.HeaderRead.TheVariants as HeaderRead
 use Rattle.job.specs.declared.hazard_fields.HazardRead.{HazardRead}
-use Rattle.job.specs.declared.hazard_fields.HazardRead.TheVariants as HazardRead
 use Rattle.job.specs.declared.read.Opening.{Opening}
-use Rattle.job.specs.declared.read.Opening.TheVariants as Opening
 use Rattle.job.specs.declared.Bounds.{Bounds}
-use Rattle.job.specs.Job.{Job, named, within, header_size, Fields, next_in_header, next_in_hazard, read_fields, read_header, header_with, header_of, hazard_of}
+use Rattle.job.specs.Job.{Job, named, within, header_size, Fields, next_in_header, next_in_hazard, read_fields, read_header, header_of, hazard_of}
 use Rattle.job.specs.Job.{read_job, outside_header, outside_hazard}
 
 -- One number, for 1, 2 and its range; out of range is the refusal `outside`.

@@ -8,13 +8,13 @@ use number::Read;
 use refusal::Refusal;
 
 // A number that was read, and the index behind it.
-#[derive(Drop)]
+#[derive(Clone, Copy)]
 pub struct Reading {
     pub value: u64,
     pub next: usize,
 }
 
-#[derive(Drop)]
+#[derive(Clone, Copy)]
 pub enum Field {
     Number(Reading),
     Refused(Refusal),

@@ -8,7 +8,7 @@ use super::field::{Field, read_field};
 use super::{Bounds, Hazard, Header};
 use refusal::Refusal;
 
-#[derive(Drop)]
+#[derive(Clone, Copy)]
 pub enum HazardRead {
     // A hazard, and the byte index behind it.
     Hazard { hazard: Hazard, next: usize },

@@ -7,7 +7,7 @@ use super::field::{Field, read_field};
 use super::{Bounds, Header, road_top};
 use refusal::Refusal;
 
-#[derive(Drop)]
+#[derive(Clone, Copy)]
 pub enum HeaderRead {
     // The header, and the index behind it.
     Header { header: Header, next: usize },
@@ -73,7 +73,7 @@ pub fn header_size(kind: u64) -> usize
 // The range of the header number behind k others, where the road begins at begin; the road's end lies behind that. `range` is the table's.
 fn header_range(k: usize, range: Bounds, kind: u64, begin: u64) -> Bounds
     requires k_bound { k < 14 }
-    requires range_value { range ≡ get_or (header_ranges 2 0) k (0 to 0) }
+    requires range_of_k { range ≡ get_or (header_ranges 2 0) k (0 to 0) }
     requires begin_bound { begin ≤ 999999999999 }
     ensures { result ≡ get_or (header_ranges kind begin) k (0 to 0) }
 {
@@ -118,7 +118,7 @@ pub fn header_with(numbers: [u64; 14], panel: u64, count: u64) -> Header
 // The fifteenth number of a kind 2 header, behind the fourteen before it.
 fn read_count(s: &[u8], numbers: [u64; 14], at: usize) -> HeaderRead
     requires numbers_len { length numbers ≡ 14 }
-    requires numbers_value { get_or numbers 0 0 ≡ 2 }
+    requires kind_2 { get_or numbers 0 0 ≡ 2 }
     ensures { header_answer result ≡ header_from numbers s.now at }
 {
     let range = RANGES[14];

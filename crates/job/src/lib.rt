@@ -1,4 +1,6 @@
 // A job: the header's numbers and up to 256 hazards, by value.
+#![tactic(auto)]
+
 mod field; // a number with its range
 pub mod header_fields; // the header
 pub mod hazard_fields; // a hazard
@@ -10,7 +12,7 @@ ghost use Rattle.job.specs.Job as specs;
 ghost use Rattle.job.specs.Given as given;
 
 // The bounds of a range, both included.
-#[derive(Drop)]
+#[derive(Clone, Copy)]
 pub struct Bounds {
     pub low: u64,
     pub high: u64,
@@ -18,7 +20,7 @@ pub struct Bounds {
 
 // The header, in the paper's order.
 #[repr(C)]
-#[derive(Drop)]
+#[derive(Clone, Copy)]
 pub struct Header {
     pub kind: u64,
     // A and B: the road is [begin, end).
@@ -49,7 +51,7 @@ pub struct Header {
 }
 
 // A hazard [start, end) between a near and a far offset, on a side (0 right, 1 left), with its containment level.
-#[derive(Drop)]
+#[derive(Clone, Copy)]
 pub struct Hazard {
     pub start: u64,
     pub end: u64,
@@ -61,7 +63,7 @@ pub struct Hazard {
 
 // A hazard as it is stored, with a name: 24 bytes without a gap. In a job that was read from bytes every name is 0.
 #[repr(C)]
-#[derive(Drop)]
+#[derive(Clone, Copy)]
 pub struct NamedHazard {
     pub start: u64,
     pub end: u64,
@@ -85,7 +87,7 @@ pub const UNUSED: NamedHazard = NamedHazard {
 
 // A job's numbers as stored: the first `count` hazards are the job's.
 #[repr(C)]
-#[derive(Drop)]
+#[derive(Clone, Copy)]
 pub struct StoredJob {
     pub header: Header,
     pub hazards: [NamedHazard; 256],

@@ -10,7 +10,7 @@ use super::{Hazard, Header};
 use refusal::Refusal;
 
 // What opening reads.
-#[derive(Drop)]
+#[derive(Clone, Copy)]
 pub enum Opening {
     // The header of job bytes that carry no hazard.
     Header(Header),

@@ -10,7 +10,7 @@ use number::word::{
 };
 
 // Two stations, and how many bytes each takes; 0 for none.
-#[derive(Drop)]
+#[derive(Clone, Copy)]
 struct Stations {
     width: usize,
     start: u64,
@@ -18,7 +18,7 @@ struct Stations {
 }
 
 // A hazard, and the byte index behind it; 0 for none.
-#[derive(Drop)]
+#[derive(Clone, Copy)]
 pub struct UsualHazard {
     pub hazard: Hazard,
     pub next: usize,

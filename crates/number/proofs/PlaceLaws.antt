@@ -1,5 +1,6 @@
 -- Bytes placed in lent memory.
 -- Assumes nothing.
+use Rattle.std.specs.Prelude.{if◌then◌else◌}
 use Prim.Native.Nat.{ℕ, suc, ◌+◌, ◌≤◌, ◌<◌}
 use native.Mathlib.Nat.{add-zero}
 use native.Mathlib.Omega.{arith}
@@ -11,7 +12,6 @@ use lib.ListN.{length, take, drop, set, length-append, take-append-drop}
 use lib.Seq.{sets, sets-eq, length-sets}
 use lib.Dec.{leb}
 use borrow.Author.Tests.{lt-leb, le-leb}
-use Rattle.base.specs.Choice.{if◌then◌else◌}
 use Rattle.number.specs.Number.{placed}
 
 pub placed_fits : (s : List ℕ) (at : ℕ) (w : List ℕ) → at + length w ≤ length s → placed s at w ≡ take at s ++ (w ++ drop (at + length w) s)

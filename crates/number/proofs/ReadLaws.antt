@@ -1,5 +1,6 @@
 -- Reading a number: what was written is read, and what was read stands there as a writing.
 -- Assumes nothing.
+use Rattle.std.specs.Prelude.{if◌then◌else◌}
 use Prim.Native.Nat.{ℕ, ◌+◌, ◌≤◌, ◌<◌}
 use native.Mathlib.Omega.{arith}
 use mathlib.Core.Path.{◌≡◌, refl, sym, subst, ap, ◌∙◌}
@@ -8,7 +9,6 @@ use mathlib.Core.List.{List, ◌++◌}
 use lib.ListN.{length, drop, length-drop}
 use lib.Dec.{leb, eqb}
 use borrow.Author.Tests.{leb-true, le-leb, eqb-true, eq-eqb}
-use Rattle.base.specs.Choice.{if◌then◌else◌}
 use Rattle.base.specs.Answer.{accepted}
 use Rattle.base.proofs.ListLaws.{drop_after}
 use Rattle.base.proofs.TestLaws.{and_left, and_right, impossible}

@@ -1,11 +1,13 @@
 // The number form of document 01 (LEB128): reading a number, counting its groups, writing it into lent memory.
+#![tactic(auto)]
+
 pub mod word; // numbers of a usual length
 
 ghost use Rattle.std.specs.Prelude.{◌≡◌, ◌+◌, ◌≤◌, length};
 ghost use Rattle.number.specs.Number.{greatest_number, group_count, write_number, read_number, reading_of, number_at, placed};
 
 // What reading at an index finds.
-#[derive(Drop)]
+#[derive(Clone, Copy)]
 pub enum Read {
     // A number, and the index behind it.
     Number { value: u64, next: usize },
@@ -26,7 +28,7 @@ pub fn group_count(x: u64) -> usize
 // The number that begins at an index, if one does. It is gathered in 64 bits: six groups make 42.
 pub fn read_number(s: &[u8], at: usize) -> Read
     ensures value { result ≡ read_number s.now at }
-    ensures result_value { reading_of at result ≡ number_at s.now at }
+    ensures reading { reading_of at result ≡ number_at s.now at }
 {
     if s.len() <= at {
         return Read::Ended;

@@ -55,7 +55,7 @@ use Rattle.open_memory.specs.Memory.{standing, laid_out, stands, hazard_under, i
 use Rattle.job.specs.Fits.{hazard_in_range, HazardFits}
 use Rattle.open_job.specs.Calls.{open_job, under_rules, add_to, withdraw_from, reach_under, test_state, kept_job, Changes}
 use Rattle.open_memory.specs.Steps.{rank, put_at, taken_at}
-use Rattle.open_memory.proofs.RuleLaws.{Admitted, admit_ranged, stand_each, open_count, open_standing, open_accepted}
+use Rattle.open_memory.proofs.RuleLaws.{Admitted, admit_ranged, stand_each, open_count, open_standing}
 use Rattle.open_memory.proofs.PlaceLaws.{inserted_at, without_at_lem, rank_within, under_at}
 use Rattle.open_memory.proofs.WalkLaws.{standing_length}
 

@@ -1,5 +1,6 @@
 -- The test of one state's places, behind other states, is the memory's test of it.
 -- Assumes nothing.
+use Rattle.std.specs.Prelude.{if◌then◌else◌}
 use Prim.Native.Nat.{ℕ, ◌≤◌}
 use native.Mathlib.Omega.{arith}
 use mathlib.Core.Path.{◌≡◌, refl, sym, ap, ◌∙◌}
@@ -7,7 +8,6 @@ use mathlib.Core.Bool.{Bool, true, false, ◌&&◌, and-true, and-false, and_ass
 use lib.ListN.{take, drop}
 use lib.Dec.{leb, eqb}
 use borrow.Author.Tests.{leb-true}
-use Rattle.base.specs.Choice.{if◌then◌else◌}
 use Rattle.base.proofs.TestLaws.{and_left, and_right}
 use Rattle.job.specs.declared.Header.{Header}
 use Rattle.job.specs.Job.{counted}

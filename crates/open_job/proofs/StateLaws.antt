@@ -1,5 +1,6 @@
 -- The memory as a present state and eight kept ones: put together and taken apart, and what its test says of each.
 -- Assumes nothing.
+use Rattle.std.specs.Prelude.{if◌then◌else◌}
 use Prim.Native.Nat.{ℕ, zero, suc, ◌≤◌, ◌<◌}
 use native.Mathlib.Omega.{arith}
 use native.Mathlib.Decide.{ℕ_discrete}
@@ -11,7 +12,7 @@ use lib.ListN.{length, replicate, get_or, set, length-set, get_or-eq_default}
 use lib.Seq.{get_or-set_same, get_or-set_other}
 use lib.Dec.{leb, eqb}
 use borrow.Author.Tests.{eqb-true, eq-eqb, ne_eqb}
-use Rattle.base.specs.Choice.{if◌then◌else◌, all_of}
+use Rattle.base.specs.Choice.{all_of}
 use Rattle.base.specs.Answer.{accepted}
 use Rattle.refusal.specs.declared.Refusal.TheVariants as Row
 use Rattle.refusal.proofs.RefuseLaws.{tested, passed}

@@ -1,5 +1,6 @@
 -- What is made of the parts of the memory, one state at a time, is what the calls on the whole memory say.
 -- Assumes nothing.
+use Rattle.std.specs.Prelude.{if◌then◌else◌}
 use Prim.Native.Nat.{ℕ, zero, suc, ◌≤◌, ◌<◌}
 use native.Mathlib.Omega.{arith}
 use mathlib.Core.Path.{◌≡◌, refl, sym, ap, subst}
@@ -8,7 +9,7 @@ use mathlib.Core.List.{List}
 use lib.ListN.{get_or, set}
 use lib.Dec.{leb, eqb}
 use borrow.Author.Tests.{leb-true}
-use Rattle.base.specs.Choice.{if◌then◌else◌, all_of}
+use Rattle.base.specs.Choice.{all_of}
 use Rattle.base.specs.Answer.{Answer, accepted, refused, ◌>>=◌, replied}
 use Rattle.refusal.specs.Refusal.{unless_refuse}
 use Rattle.refusal.specs.declared.Refusal.TheVariants as Row

@@ -1,7 +1,6 @@
 -- The steps of the calls on the parts of the memory, one state at a time.
 -- Assumes nothing.
-use Rattle.std.specs.Prelude.{ℕ, ◌≡◌, Bool, true, false, ◌&&◌, List, leb, eqb, take, drop, replicate}
-use Rattle.base.specs.Choice.{if◌then◌else◌}
+use Rattle.std.specs.Prelude.{ℕ, ◌≡◌, Bool, true, false, ◌&&◌, List, leb, eqb, take, drop, replicate, if◌then◌else◌}
 use Rattle.base.specs.Answer.{Answer, is_accepted, replied}
 use Rattle.job.specs.declared.NamedHazard.{NamedHazard}
 use Rattle.job.specs.declared.StoredJob.{StoredJob}

@@ -21,8 +21,8 @@ use withdrawal::reply::Reached;
 
 // What opening reads of job bytes that carry no hazard: the header of the present state, in which none stands; whatever the memory held.
 pub fn open(bytes: &[u8]) -> Opening
-    ensures result_value { opening_answer result ≡ read_opening bytes.now }
-    ensures result_value_2 { opens_with result ≡ open_job bytes.now }
+    ensures opening { opening_answer result ≡ read_opening bytes.now }
+    ensures opened_job { opens_with result ≡ open_job bytes.now }
 {
     read_opening(bytes)
 }
@@ -50,7 +50,7 @@ pub fn withdraw(sound: bool, job: StoredJob, name: u16) -> Change
 
 // The schedule of a side, written into the output; or the first refusal, and nothing written.
 pub fn schedule(sound: bool, job: StoredJob, side: u64, out: &mut [u8]) -> Plan
-    ensures result_value { plan_reply result ≡ bytes_written (under_rules (is_open_job job && sound) (plan (write_job (job_of job)) side (length out.old))) }
+    ensures reply { plan_reply result ≡ bytes_written (under_rules (is_open_job job && sound) (plan (write_job (job_of job)) side (length out.old))) }
     ensures out_after { out.new ≡ output_after (under_rules (is_open_job job && sound) (plan (write_job (job_of job)) side (length out.old))) out.old }
 {
     tested::schedule(keeps_rules(sound, job), job, side, out)

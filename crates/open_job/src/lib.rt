@@ -1,4 +1,6 @@
 // An open job, whose hazards come and go while it is open: a present state, and up to eight states that are kept under the numbers 0 to 7.
+#![tactic(auto)]
+
 use job::{NamedHazard, StoredJob};
 use refusal::Outcome;
 
@@ -9,7 +11,7 @@ pub mod tested; // their steps, once the memory is tested
 // What is kept under a number. Nothing: all is 0. A state: used is 1, and its names and hazards stand as in an open job, whose header is
 // that of the present state.
 #[repr(C)]
-#[derive(Drop)]
+#[derive(Clone, Copy)]
 pub struct KeptState {
     pub used: u64,
     pub count: u64,
@@ -18,7 +20,7 @@ pub struct KeptState {
 
 // The memory of an open job. Eight fields lie as an array of eight does; each is read and stored by itself.
 #[repr(C)]
-#[derive(Drop)]
+#[derive(Clone, Copy)]
 pub struct OpenStates {
     pub present: StoredJob,
     pub kept0: KeptState,
@@ -32,14 +34,14 @@ pub struct OpenStates {
 }
 
 // How many hazards stand in a state, and whether all that is known beside its places is sound.
-#[derive(Drop)]
+#[derive(Clone, Copy)]
 pub struct Extent {
     pub sound: bool,
     pub end: usize,
 }
 
 // How a call ended, and the present state after it.
-#[derive(Drop)]
+#[derive(Clone, Copy)]
 pub struct Change {
     pub outcome: Outcome,
     pub next: StoredJob,

@@ -124,8 +124,8 @@ pub fn withdraw(passed: bool, job: StoredJob, name: u16) -> Change
 fn numbers_of(job: StoredJob, given: &mut [u64])
     requires job_fits { JobFits (job_of job) }
     requires given_len { length given.old ≡ 768 }
-    ensures given_after { given_hazards (take (job.header.count * 3) given.new) ≡ (job_of job).hazards }
-    ensures given_len_2 { length given.new ≡ 768 }
+    ensures hazards_given { given_hazards (take (job.header.count * 3) given.new) ≡ (job_of job).hazards }
+    ensures given_len_after { length given.new ≡ 768 }
 {
     let header = job.header;
     let count = header.count as usize;
@@ -144,7 +144,7 @@ fn numbers_of(job: StoredJob, given: &mut [u64])
 // of its hazards again.
 pub fn schedule(passed: bool, job: StoredJob, side: u64, out: &mut [u8]) -> Plan
     requires { passed ≡ true → is_open_job job ≡ true }
-    ensures result_value { plan_reply result ≡ bytes_written (under_rules passed (plan (write_job (job_of job)) side (length out.old))) }
+    ensures reply { plan_reply result ≡ bytes_written (under_rules passed (plan (write_job (job_of job)) side (length out.old))) }
     ensures out_after { out.new ≡ output_after (under_rules passed (plan (write_job (job_of job)) side (length out.old))) out.old }
 {
     if passed {

@@ -1,5 +1,6 @@
 -- The test of the places without a branch is the memory's.
 -- Assumes nothing.
+use Rattle.std.specs.Prelude.{if◌then◌else◌}
 use Prim.Native.Nat.{ℕ, zero, suc, ◌+◌, ◌≤◌, ◌<◌, min}
 use native.Mathlib.Omega.{arith}
 use native.Mathlib.Decide.{dec_lt}
@@ -10,7 +11,7 @@ use lib.ListN.{length, take, drop, get_or}
 use lib.Dec.{leb, ltb, eqb}
 use lib.Bits.{bit_or, or_add_and, and_le_l, and_le_r}
 use borrow.Author.Tests.{lt-ltb, le-leb, le-ltb, leb-true, ltb-true, ltb-false, eqb-true, eq-eqb}
-use Rattle.base.specs.Choice.{if◌then◌else◌, all_of}
+use Rattle.base.specs.Choice.{all_of}
 use Rattle.base.specs.Answer.{is_accepted}
 use Rattle.base.proofs.TestLaws.{and_left, and_right, and_intro, same_test, not_both, not_and, not_and_intro}
 use Rattle.refusal.specs.Refusal.{unless_refuse}

@@ -1,7 +1,7 @@
 -- One state of an open job in the caller's memory: what stands in it, and which memory keeps the rules.
 -- Assumes nothing.
-use Rattle.std.specs.Prelude.{ℕ, ◌+◌, Bool, true, ◌&&◌, not, List, [], ◌∷◌, length, take, drop, get_or, leb, ltb, eqb}
-use Rattle.base.specs.Choice.{if◌then◌else◌, some_of, all_of, filter}
+use Rattle.std.specs.Prelude.{ℕ, ◌+◌, Bool, true, ◌&&◌, not, List, [], ◌∷◌, length, take, drop, get_or, leb, ltb, eqb, if◌then◌else◌}
+use Rattle.base.specs.Choice.{some_of, all_of, filter}
 use Rattle.base.specs.Answer.{Answer, ◌>>=◌, is_accepted}
 use Rattle.refusal.specs.Refusal.{unless_refuse}
 use Rattle.refusal.specs.declared.Refusal.TheVariants as Row

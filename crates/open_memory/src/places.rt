@@ -29,8 +29,8 @@ pub fn empty_state(header: Header) -> StoredJob
 
 // A given hazard, in its ranges, under a name.
 pub fn under_name(header: Header, name: u16, z: GivenHazard) -> NamedHazard
-    requires header_value { header_in_range header ≡ true }
-    requires z_value { hazard_in_range header (hazard_given z) ≡ true }
+    requires header_ranged { header_in_range header ≡ true }
+    requires hazard_ranged { hazard_in_range header (hazard_given z) ≡ true }
     ensures { result ≡ named name (hazard_given z) }
 {
     NamedHazard {
@@ -64,8 +64,8 @@ pub fn place_of(job: StoredJob, name: u16) -> usize
 
 // Does the name stand, at the one place where it could.
 pub fn stands_at(job: StoredJob, at: usize, name: u16) -> bool
-    requires job_value { is_open_job job ≡ true }
-    requires at_value { at ≡ rank name (standing job) }
+    requires job_open { is_open_job job ≡ true }
+    requires at_rank { at ≡ rank name (standing job) }
     ensures { result ≡ stands name (standing job) }
 {
     let header = job.header;

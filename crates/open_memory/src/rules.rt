@@ -13,7 +13,7 @@ use job::{Hazard, Header, NamedHazard, StoredJob, road_top};
 
 // What a header asks of every hazard that stands: the road, and the near offset that is least. It fits: its own numbers lie in their ranges,
 // whatever its hazard count.
-#[derive(Drop)]
+#[derive(Clone, Copy)]
 pub struct Limits {
     pub fits: bool,
     pub begin: u64,

@@ -1,5 +1,6 @@
 -- Lists of named hazards, one put in or taken out: which are then in them, how many, and that no two have the same name.
 -- Assumes nothing.
+use Rattle.std.specs.Prelude.{if◌then◌else◌}
 use Prim.Native.Nat.{ℕ, suc, ◌+◌, ◌≤◌}
 use native.Mathlib.Omega.{arith}
 use mathlib.Core.Path.{◌≡◌, refl, sym, ap, subst, ◌∙◌}
@@ -10,7 +11,7 @@ use mathlib.Core.List.{List, [], ◌∷◌, ◌++◌, map, Memᴰ}
 use lib.ListN.{length, take, drop, get_or, take-append-drop}
 use lib.Dec.{eqb}
 use borrow.Author.Tests.{eq-eqb, ne_eqb, eqb-true}
-use Rattle.base.specs.Choice.{if◌then◌else◌, some_of, filter}
+use Rattle.base.specs.Choice.{some_of, filter}
 use Rattle.base.proofs.TestLaws.{decided, any_elim, filter_elim, filter_intro}
 use Rattle.job.specs.declared.Header.{Header}
 use Rattle.job.specs.declared.Hazard.{Hazard}

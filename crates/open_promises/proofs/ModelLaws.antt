@@ -1,12 +1,12 @@
 -- States of any kind, kept and returned to: what is kept stays, and states of two kinds that agree go on agreeing.
 -- Assumes nothing.
+use Rattle.std.specs.Prelude.{if◌then◌else◌}
 use Prim.Native.Nat.{ℕ, ◌≤◌}
 use mathlib.Core.Path.{◌≡◌, refl, sym, ap, ◌∙◌}
 use mathlib.Core.Bool.{Bool, true, false}
 use mathlib.Core.List.{List, [], ◌∷◌, ◌++◌, foldl, foldl-append, Memᴰ}
 use lib.Dec.{leb, eqb}
 use borrow.Author.Tests.{le-leb, eq-eqb, ne_eqb}
-use Rattle.base.specs.Choice.{if◌then◌else◌}
 use Rattle.open_job.specs.States.{greatest_state_number}
 use Rattle.open_promises.specs.Lists.{Edit, Call, edit, schedule, keep_as, return_to, Kept, nothing, state, States, opened, returned_to, states_after}
 

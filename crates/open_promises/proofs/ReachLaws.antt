@@ -5,8 +5,8 @@ use native.Mathlib.Omega.{arith}
 use mathlib.Core.Path.{◌≡◌, sym, ap, ap₂, ◌∙◌}
 use mathlib.Core.Bool.{true, false}
 use mathlib.Core.List.Memᴰ
-use mathlib.Core.List.{List, map, Memᴰ}
-use lib.ListN.{length, length-map}
+use mathlib.Core.List.{List, Memᴰ}
+use lib.ListN.{length-map}
 use Rattle.base.specs.Answer.{accepted, refused}
 use Rattle.job.specs.declared.Header.{Header}
 use Rattle.job.specs.declared.Hazard.{Hazard}

@@ -1,5 +1,6 @@
 -- Hazards that stand, in their places and apart from them: the same ones, edit after edit.
 -- Assumes nothing.
+use Rattle.std.specs.Prelude.{if◌then◌else◌}
 use Prim.Native.Nat.{ℕ, ◌≤◌}
 use native.Mathlib.Omega.{arith}
 use mathlib.Core.Path.{◌≡◌, refl, sym, ap, ◌∙◌}
@@ -9,7 +10,6 @@ use mathlib.Core.List.Memᴰ
 use mathlib.Core.List.{List, [], ◌∷◌, ◌++◌, Memᴰ}
 use lib.ListN.{length, length-append}
 use borrow.Author.Tests.{leb-false}
-use Rattle.base.specs.Choice.{if◌then◌else◌}
 use Rattle.base.specs.Answer.{Answer, accepted, refused, ◌>>=◌, is_accepted}
 use Rattle.refusal.specs.Refusal.{unless_refuse}
 use Rattle.refusal.specs.declared.Refusal.TheVariants as Row

@@ -1,5 +1,6 @@
 -- The greatest common divisor is one and is the greatest; and the floor under every covering layout's overrun.
 -- Assumes nothing.
+use Rattle.std.specs.Prelude.{if◌then◌else◌}
 use Prim.Native.Nat.{ℕ, zero, suc, ◌+◌, ◌-◌, ◌*◌, ◌/◌, ◌%◌, ◌≤◌, ◌<◌, ◌∣◌}
 use native.Mathlib.Omega.{arith}
 use native.Mathlib.Nat.{dvd-zero, dvd-add, dvd-mul_left, dvd-mul_left_of_dvd, le_of_dvd, mod-eq-zero_of_dvd, dvd_of_mod-eq-zero, div-mul_cancel}
@@ -13,7 +14,7 @@ use mathlib.Core.List.{List, [], ◌∷◌, Memᴰ}
 use lib.ListN.{length, get_or}
 use lib.Dec.{eqb}
 use borrow.Author.Tests.{eqb-true, eq-eqb, leb-true}
-use Rattle.base.specs.Choice.{if◌then◌else◌, all_of}
+use Rattle.base.specs.Choice.{all_of}
 use Rattle.base.specs.Least.{LeastMultiple, next_multiple}
 use Rattle.base.proofs.ListLaws.{get_d_member}
 use Rattle.base.proofs.LeastLaws.{multiple_divided, multiple_from, multiple_least, next_multiple_lem}

@@ -1,5 +1,6 @@
 -- What the call promises of every call that is not refused, in the paper's words.
 -- Assumes nothing.
+use Rattle.std.specs.Prelude.{if◌then◌else◌}
 use Prim.Native.Nat.{ℕ, zero, suc, ◌-◌, ◌≤◌, ◌<◌, min}
 use native.Mathlib.Omega.{arith}
 use native.Mathlib.Nat.{dvd-zero}
@@ -14,7 +15,6 @@ use borrow.Author.Tests.{le-leb, leb-false, not-true}
 use Rattle.base.specs.Answer.{accepted}
 use Rattle.refusal.specs.Refusal.{unless_refuse}
 use Rattle.refusal.specs.declared.Refusal.TheVariants as Row
-use Rattle.base.specs.Choice.{if◌then◌else◌}
 use Rattle.base.specs.Least.{next_multiple}
 use Rattle.base.proofs.AnswerLaws.{bound}
 use Rattle.refusal.proofs.RefuseLaws.{tested}

@@ -53,6 +53,7 @@ from_take k i n m h =
 
 pub from_at : (k i n j : ℕ) → j < n → get_or (layouts_from k i n) j [] ≡ layout_at k (i + j)
 unfolding layouts_from
+from_at k i zero j h = elim h [ ]
 from_at k i (suc n) zero h = rw add-zero
 from_at k i (suc n) (suc j) h = let e : suc i + j ≡ i + suc j = omega arith in from_at k (suc i) n j (omega arith) ∙ ap (layout_at k) e
 

@@ -1,6 +1,6 @@
 -- When the call is refused: the tests of 16 and 17 as facts.
 -- Assumes nothing.
-use Prim.Native.Nat.{ℕ, ◌-◌, ◌≤◌, ◌<◌}
+use Prim.Native.Nat.{ℕ, ◌≤◌, ◌<◌}
 use native.Mathlib.Omega.{arith}
 use mathlib.Core.Path.{◌≡◌, refl, sym}
 use mathlib.Core.Logic.{◌↔◌, ◌⊎◌, inl, inr}
@@ -14,7 +14,6 @@ use Rattle.refusal.specs.Refusal.{unless_refuse}
 use Rattle.refusal.specs.declared.Refusal.TheVariants as Row
 use Rattle.base.specs.Choice.{some_of}
 use Rattle.base.proofs.TestLaws.{or_cases, or_left, or_right, not_both, any_intro, any_elim, decided, impossible, or_false}
-use Rattle.panels.specs.Layout.{none}
 use Rattle.panels.specs.Panels.{Panels, out_of_range, panels_for}
 use Rattle.panels.specs.Promised.{StockLengths, Limit, Unfit, PanelsSixteen, PanelsSeventeen, PanelsAnswered}
 

@@ -1,7 +1,7 @@
 -- Layouts of panels: the order of the tries, what covers a run, the overrun, and the smallest of those tried. Document 02, request 13.
 -- Assumes nothing.
-use Rattle.std.specs.Prelude.{ℕ, zero, suc, ◌+◌, ◌-◌, ◌*◌, ◌<◌, ◌≡◌, ◌⊎◌, Bool, true, List, [], ◌∷◌, ◌++◌, map, length, take, leb}
-use Rattle.base.specs.Choice.{if◌then◌else◌, all_of}
+use Rattle.std.specs.Prelude.{ℕ, zero, suc, ◌+◌, ◌-◌, ◌*◌, ◌<◌, ◌≡◌, ◌⊎◌, Bool, true, List, [], ◌∷◌, ◌++◌, map, length, take, leb, if◌then◌else◌}
+use Rattle.base.specs.Choice.{all_of}
 
 -- The layouts, in order
 

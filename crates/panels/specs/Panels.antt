@@ -1,7 +1,7 @@
 -- Panels for one run: the floor, the reply, and refusals 16 and 17. Document 02, request 13.
 -- Assumes nothing.
-use Rattle.std.specs.Prelude.{ℕ, zero, suc, ◌-◌, ◌%◌, Bool, ◌||◌, not, List, [], ◌∷◌, length, ltb, eqb}
-use Rattle.base.specs.Choice.{if◌then◌else◌, some_of, all_of}
+use Rattle.std.specs.Prelude.{ℕ, zero, suc, ◌-◌, ◌%◌, Bool, ◌||◌, not, List, [], ◌∷◌, length, ltb, eqb, if◌then◌else◌}
+use Rattle.base.specs.Choice.{some_of, all_of}
 use Rattle.base.specs.Least.{next_multiple}
 use Rattle.base.specs.Answer.{Answer, accepted, ◌>>=◌}
 use Rattle.refusal.specs.Refusal.{unless_refuse}

@@ -3,7 +3,7 @@ ghost use Rattle.std.specs.Prelude.{◌≡◌};
 ghost use Rattle.panels.specs.Steps.{length_back, four_lengths, LengthsFit, ShowsLayout, Advances};
 
 // The panel lengths in their order, the last one last; 0 in front where there are fewer than four.
-#[derive(Drop)]
+#[derive(Clone, Copy)]
 pub struct Lengths {
     pub first: u64,
     pub second: u64,
@@ -12,7 +12,7 @@ pub struct Lengths {
 }
 
 // A layout: its counts of these lengths, and their total.
-#[derive(Drop)]
+#[derive(Clone, Copy)]
 pub struct Odometer {
     pub first: u64,
     pub second: u64,

@@ -6,7 +6,7 @@ ghost use Rattle.panels.specs.Steps.{JudgedNext, Searched};
 use super::odometer::{Odometer, advance, four_lengths};
 
 // What is kept of the layouts tried so far: whether one covers, and then the smallest overrun and its first layout's place in the order.
-#[derive(Drop)]
+#[derive(Clone, Copy)]
 pub struct Kept {
     pub found: bool,
     pub overrun: u64,
@@ -14,7 +14,7 @@ pub struct Kept {
 }
 
 // What is kept, and how many layouts were tried.
-#[derive(Drop)]
+#[derive(Clone, Copy)]
 pub struct Tried {
     pub kept: Kept,
     pub tries: u64,

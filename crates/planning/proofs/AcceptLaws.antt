@@ -5,11 +5,11 @@ use native.Mathlib.Omega.{arith}
 use mathlib.Core.Path.{◌≡◌, refl, sym, ap, ◌∙◌, subst}
 use mathlib.Core.List.Memᴰ
 use mathlib.Core.List.{List, [], ◌∷◌, ◌++◌}
-use lib.ListN.{length, get_or}
+use lib.ListN.{length}
 use lib.Dec.{ltb, leb}
 use borrow.Author.Tests.{lt-ltb, le-ltb, ltb-true}
 use Rattle.base.specs.Answer.{Answer, accepted, refused, ◌>>=◌}
-use Rattle.base.proofs.AnswerLaws.{Bound, bound}
+use Rattle.base.proofs.AnswerLaws.{bound}
 use Rattle.base.proofs.ListLaws.{get_d_member}
 use Rattle.base.proofs.TestLaws.{impossible}
 use Rattle.refusal.specs.Refusal.{unless_refuse, outcome, refusal}
@@ -22,7 +22,7 @@ use Rattle.job.specs.declared.Header.{Header}
 use Rattle.job.specs.declared.Hazard.{Hazard}
 use Rattle.job.specs.Job.{Job, hazard_of}
 use Rattle.job.specs.Given.{given_hazards}
-use Rattle.job.specs.Reply.{HeaderReading, header_at, HazardReading, next_hazard, hazards_from}
+use Rattle.job.specs.Reply.{HeaderReading, header_at, next_hazard, hazards_from}
 use Rattle.job.specs.Fits.{HeaderFits, HazardFits}
 use Rattle.job.proofs.RestLaws.{job_from}
 use Rattle.planning.specs.Envelope.{test_hazards, accept_job}
@@ -30,7 +30,7 @@ use Rattle.planning.specs.Approached.{hazard_at}
 use Rattle.planning.specs.declared.window.Window.{Window}
 use Rattle.planning.specs.Window.{standing_in}
 use Rattle.planning.specs.Reply.{Cuts, cuts_of, tested_envelopes}
-use Rattle.planning.specs.Rows.{Passed, AcceptedFits}
+use Rattle.planning.specs.Rows.{Passed}
 use Rattle.planning.specs.Walk.{GivenFits}
 use Rattle.planning.specs.Accept.{AcceptedSide, side_within, AcceptedHazard, indexed_hazard}
 use Rattle.planning.proofs.EnvelopeLaws.{accepted_fits}

@@ -14,7 +14,6 @@ use Rattle.runs.specs.Required.{required_runs}
 use Rattle.runs.specs.Sweep.{AllSound}
 use Rattle.planning.specs.declared.accept.Side.{Side}
 use Rattle.planning.specs.declared.window.Window.{Window}
-use Rattle.planning.specs.declared.window.Window.TheVariants.{All}
 use Rattle.planning.specs.Envelope.{side_envelopes, accept_job}
 use Rattle.planning.specs.Required.{job_runs}
 use Rattle.planning.specs.Window.{standing_in, job_within}

@@ -1,6 +1,7 @@
 -- Formula, rule and raising and the envelope: an envelope has exactly the hazard's own millimetres and those upstream of it by less than the
 -- length in whole panels, through approach's promise.
 -- Assumes nothing.
+use Rattle.std.specs.Prelude.{if◌then◌else◌}
 use Prim.Native.Nat.{ℕ, ◌-◌, ◌≤◌, ◌<◌}
 use native.Mathlib.Omega.{arith}
 use native.Mathlib.Decide.{dec_lt}
@@ -8,7 +9,6 @@ use mathlib.Core.Path.{◌≡◌, refl}
 use mathlib.Core.Logic.{◌↔◌}
 use mathlib.Core.Bool.{Bool, true, false}
 use mathlib.Core.List.{Memᴰ}
-use Rattle.base.specs.Choice.{if◌then◌else◌}
 use Rattle.base.proofs.TestLaws.{or_left, or_right}
 use Rattle.approach.specs.Panel.{raised_length}
 use Rattle.approach.proofs.ApproachLaws.{divisor_some}

@@ -1,5 +1,6 @@
 -- Which traffic reaches a hazard: the paper's sentences, and where the approach length is asked.
 -- Assumes nothing.
+use Rattle.std.specs.Prelude.{if◌then◌else◌}
 use Prim.Native.Nat.{ℕ, ◌+◌, ◌≤◌, ◌<◌, min}
 use native.Mathlib.Omega.{arith}
 use native.Mathlib.Nat.{add-zero}
@@ -9,7 +10,6 @@ use mathlib.Core.Logic.{◌⊎◌, inl, inr}
 use mathlib.Core.Bool.{Bool, true, false, ◌&&◌, ◌||◌, and-false}
 use lib.Dec.{ltb, eqb}
 use borrow.Author.Tests.{ltb-true, lt-ltb, le-ltb, eq-eqb}
-use Rattle.base.specs.Choice.{if◌then◌else◌}
 use Rattle.base.proofs.TestLaws.{and_left, and_right, and_intro, or_cases, or_left, or_right, same_test}
 use Rattle.approach.specs.Approach.{approach_length, Domain}
 use Rattle.base.specs.Least.{LeastMultiple}

@@ -1,5 +1,6 @@
 -- The walk over hazards: one more, how the envelopes of a side and their overhangs grow, and how the walk ends.
 -- Assumes nothing.
+use Rattle.std.specs.Prelude.{if◌then◌else◌}
 use Prim.Native.Nat.{ℕ, zero, suc, ◌+◌, ◌≤◌, ◌<◌}
 use native.Mathlib.Omega.{arith}
 use native.Mathlib.Nat.{zero-add}
@@ -12,7 +13,6 @@ use lib.ListN.{length, get_or, set}
 use lib.Seq.{get_or_at}
 use lib.Dec.{leb, eqb}
 use borrow.Author.Tests.{le-leb, lt-leb, eq-eqb, ne_eqb, eqb-true}
-use Rattle.base.specs.Choice.{if◌then◌else◌}
 use Rattle.base.specs.Answer.{Answer, accepted, refused, ◌>>=◌}
 use Rattle.base.specs.Stored.{accepted_or}
 use Rattle.base.proofs.AnswerLaws.{bind_assoc, bind_same}
@@ -24,7 +24,7 @@ use Rattle.refusal.specs.declared.Outcome.TheVariants.{Done, Refused}
 use Rattle.job.specs.declared.Header.{Header}
 use Rattle.job.specs.declared.Hazard.{Hazard}
 use Rattle.job.specs.Job.{Job, hazard_of}
-use Rattle.job.specs.Reply.{HazardReading, next_hazard, hazards_from}
+use Rattle.job.specs.Reply.{HazardReading, next_hazard}
 use Rattle.job.proofs.RestLaws.{HazardsLeft, none_had, one_more, next_refused, left_over, all_had}
 use Rattle.runs.specs.declared.Stretch.{Stretch}
 use Rattle.runs.specs.RunList.{last_station}
@@ -39,7 +39,7 @@ use Rattle.planning.specs.Envelope.{reached, envelope, envelopes, cut_to_road, o
 use Rattle.planning.specs.Envelope.{test_hazards}
 use Rattle.planning.specs.Window.{stands_in, standing_in}
 use Rattle.planning.specs.Reply.{Cuts, no_cuts, cuts_of, ◌followed_by◌, tested_hazard, tested_envelopes}
-use Rattle.planning.specs.Walk.{PlacesFor, nothing_taken, cuts_taken, taken_answer, Takes, walked_answer, Walks}
+use Rattle.planning.specs.Walk.{PlacesFor, nothing_taken, cuts_taken, taken_answer, Takes, Walks}
 use Rattle.planning.proofs.OverhangLaws.{greater_assoc, greater_none, none_greater}
 use Rattle.planning.proofs.WindowLaws.{standing_append, standing_none, standing_one}
 

@@ -1,12 +1,13 @@
 -- The hazards that stand in a window: how they grow, their envelopes, and that those about a station require the level of all there.
 -- Assumes nothing.
+use Rattle.std.specs.Prelude.{if◌then◌else◌}
 use Prim.Native.Nat.{ℕ, ◌+◌, ◌-◌, ◌≤◌, min}
 use native.Mathlib.Omega.{arith}
 use mathlib.Core.Path.{◌≡◌, refl}
 use mathlib.Core.Bool.{true}
 use mathlib.Core.List.{List, [], ◌∷◌, ◌++◌, Memᴰ}
 use borrow.Author.Tests.{le-leb}
-use Rattle.base.specs.Choice.{if◌then◌else◌, filter}
+use Rattle.base.specs.Choice.{filter}
 use Rattle.base.proofs.TestLaws.{and_intro, filter_elim, filter_intro, filter_append}
 use Rattle.job.specs.declared.Header.{Header}
 use Rattle.job.specs.declared.Hazard.{Hazard}

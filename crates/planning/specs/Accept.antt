@@ -1,16 +1,14 @@
 -- The entrances: a side of an accepted job, and a hazard of it.
 -- Assumes nothing.
-use Rattle.std.specs.Prelude.{ℕ, List, [], length, get_or, ltb}
+use Rattle.std.specs.Prelude.{ℕ, List, length, ltb}
 use Rattle.base.specs.Answer.{Answer, accepted, ◌>>=◌}
 use Rattle.refusal.specs.Refusal.{unless_refuse, refusal, outcome}
 use Rattle.refusal.specs.declared.Refusal.TheVariants as Row
 use Rattle.job.specs.declared.Header.{Header}
 use Rattle.job.specs.declared.Hazard.{Hazard}
-use Rattle.job.specs.Job.{Job, hazard_of}
 use Rattle.runs.specs.Keys.{keyed_envelopes}
 use Rattle.planning.specs.declared.accept.Side.{Side}
 use Rattle.planning.specs.declared.accept.Indexed.{Indexed}
-use Rattle.planning.specs.declared.accept.Indexed.TheVariants as Indexed
 use Rattle.planning.specs.declared.window.Window.{Window}
 use Rattle.planning.specs.declared.window.Window.TheVariants.{All}
 use Rattle.planning.specs.Envelope.{accept_job}

@@ -1,7 +1,6 @@
 -- The envelope of one hazard.
 -- Assumes nothing.
-use Rattle.std.specs.Prelude.{true, false}
-use Rattle.base.specs.Choice.{if◌then◌else◌}
+use Rattle.std.specs.Prelude.{true, false, if◌then◌else◌}
 use Rattle.job.specs.declared.Header.{Header}
 use Rattle.job.specs.declared.Hazard.{Hazard}
 use Rattle.planning.specs.declared.own.Own.{Own}

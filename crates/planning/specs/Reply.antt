@@ -12,7 +12,6 @@ use Rattle.planning.specs.declared.Overhangs.{Overhangs}
 use Rattle.planning.specs.declared.envelope.Traffic.{Traffic}
 use Rattle.planning.specs.declared.envelope.Traffic.TheVariants.{Forward, Opposite}
 use Rattle.planning.specs.declared.envelope.Tested.{Tested}
-use Rattle.planning.specs.declared.envelope.Tested.TheVariants as Tested
 use Rattle.planning.specs.declared.side.SideRuns.{SideRuns}
 use Rattle.planning.specs.declared.window.Window.{Window}
 use Rattle.planning.specs.Envelope as spec

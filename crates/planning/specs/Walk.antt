@@ -1,8 +1,7 @@
 -- The walk over a job's hazards: what it asks, what it takes, and what it has taken so far.
 -- Assumes nothing.
-use Rattle.std.specs.Prelude.{ℕ, ◌+◌, ◌*◌, ◌≤◌, ◌<◌, ◌≡◌, length, get_or, leb, eqb}
+use Rattle.std.specs.Prelude.{ℕ, ◌+◌, ◌*◌, ◌≤◌, ◌<◌, ◌≡◌, length, get_or, leb, eqb, if◌then◌else◌}
 use mathlib.Core.List.{List, [], Memᴰ}
-use Rattle.base.specs.Choice.{if◌then◌else◌}
 use Rattle.base.specs.Answer.{Answer, accepted, ◌>>=◌}
 use Rattle.refusal.specs.Refusal.{unless_refuse, outcome}
 use Rattle.refusal.specs.declared.Refusal.TheVariants as Row

@@ -11,7 +11,7 @@ use job::{Hazard, Header};
 use refusal::{Outcome, Refusal};
 
 // The outcome, and beside it, where it is Done, how many envelopes were taken, their greatest overhangs, and G.
-#[derive(Drop)]
+#[derive(Clone, Copy)]
 pub struct Side {
     pub outcome: Outcome,
     pub count: usize,
@@ -20,7 +20,7 @@ pub struct Side {
 }
 
 // A hazard, with the header of its job.
-#[derive(Drop)]
+#[derive(Clone, Copy)]
 pub enum Indexed {
     Hazard { header: Header, hazard: Hazard },
     Refused(Refusal),
@@ -31,7 +31,7 @@ pub enum Indexed {
 pub fn side_of(s: &[u8], side: u64, window: Window, keys: &mut [u64], ends: &mut [u64]) -> Side
     requires keys_len { length keys.old ≡ 256 }
     requires ends_len { length ends.old ≡ 256 }
-    ensures result_after { side_answer keys.new ends.new result ≡ side_within s.now side window }
+    ensures answer { side_answer keys.new ends.new result ≡ side_within s.now side window }
     ensures keyed { Keyed keys.new ends.new result.count }
 {
     match read_header(s) {

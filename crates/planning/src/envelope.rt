@@ -13,21 +13,21 @@ use refusal::Refusal;
 use runs::Stretch;
 
 // Forward traffic drives by rising stations, opposite traffic by falling ones.
-#[derive(Drop)]
+#[derive(Clone, Copy)]
 pub enum Traffic {
     Forward,
     Opposite,
 }
 
 // An envelope cut at the road's ends, and by how much it hung over them.
-#[derive(Drop)]
+#[derive(Clone, Copy)]
 pub struct CutEnvelope {
     pub stretch: Stretch,
     pub overhangs: Overhangs,
 }
 
 // What the test of a hazard says, to a side.
-#[derive(Drop)]
+#[derive(Clone, Copy)]
 pub enum Tested {
     // Not 5: the hazard has this envelope on the side.
     Envelope(CutEnvelope),

@@ -10,7 +10,7 @@ use super::window::Window;
 use job::{Hazard, Header, named, packed};
 
 // Where it is found, the envelope cut at the road's ends and by how much it hung over them; else zeros.
-#[derive(Drop)]
+#[derive(Clone, Copy)]
 pub struct Own {
     pub found: bool,
     pub start: u64,

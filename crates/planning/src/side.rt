@@ -11,7 +11,7 @@ use runs::RunList;
 use runs::required::required_runs;
 
 // The outcome, and beside it the runs where it is Done, else none.
-#[derive(Drop)]
+#[derive(Clone, Copy)]
 pub struct SideRuns {
     pub outcome: Outcome,
     pub runs: RunList,
@@ -27,8 +27,8 @@ const NO_RUNS: RunList = RunList {
 
 // The runs of a side of the job that the bytes are, or the first refusal of 1 to 5 and 7. No hazard stands on a side above 1, so no run does.
 pub fn side_runs(s: &[u8], side: u32) -> SideRuns
-    ensures result_value { runs_answer result ≡ accepted_runs s.now side }
-    ensures runs_value { result.runs ≡ stored_runs (accepted_or [] (accepted_runs s.now side)) }
+    ensures answer { runs_answer result ≡ accepted_runs s.now side }
+    ensures runs_stored { result.runs ≡ stored_runs (accepted_or [] (accepted_runs s.now side)) }
 {
     let mut keys: [u64; 256] = [0; 256];
     let mut ends: [u64; 256] = [0; 256];

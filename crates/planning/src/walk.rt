@@ -21,7 +21,7 @@ use runs::required::key_of;
 
 // What a walk has taken: the envelopes of a side in a window, whose keys and ends stand in the first `count` places of two arrays, and their greatest
 // overhangs. The first hazard that stands too near is held, as 7 is tested before 5; 256 for none.
-#[derive(Drop)]
+#[derive(Clone, Copy)]
 pub struct Taken {
     pub count: usize,
     pub near: usize,
@@ -29,7 +29,7 @@ pub struct Taken {
 }
 
 // The outcome, and beside it what was taken where it is Done, else nothing.
-#[derive(Drop)]
+#[derive(Clone, Copy)]
 pub struct Walked {
     pub outcome: Outcome,
     pub taken: Taken,

@@ -5,7 +5,7 @@ ghost use Rattle.planning.specs.Window.{stands_in, window_about};
 use base::{min, saturating_sub};
 use job::Hazard;
 
-#[derive(Drop)]
+#[derive(Clone, Copy)]
 pub enum Window {
     All,
     // Those that start by the station `to` and end at `from` or behind it.

@@ -1,1 +1,2 @@
 // The index of promises: every theorem that docs/PROMISES.md names. There is no code here.
+#![tactic(auto)]

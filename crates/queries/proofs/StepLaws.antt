@@ -67,7 +67,7 @@ module _ (s : List ℕ) where
     pub head_length : (rs : List Stretch) → Bytes s → read_schedule s ≡ accepted rs → length (write_number (length rs)) ≡ n.next
     head_length rs b e =
         let w = schedule_parts s rs e in
-        let same : w.head ≡ n = (let z = sym w.head_at ∙ or_ten_lem (read_head s) n h in cc) in
+        let same : w.head ≡ n = (let z = sym w.head_found ∙ or_ten_lem (read_head s) n h in cc) in
         let stands = number_read s 0 n b (w.head_read ∙ ap accepted same) in
         rw (records_rise s n.value 0 0 n.next rs (rw same at w.records)).0 (omega (arith, stands.next))
 

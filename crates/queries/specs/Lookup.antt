@@ -1,8 +1,7 @@
 -- The call lookup: its complete reply.
 -- Assumes nothing.
-use Rattle.std.specs.Prelude.{ℕ, ◌+◌, ◌-◌, ◌≡◌, length, drop, take, leb, eqb}
+use Rattle.std.specs.Prelude.{ℕ, ◌+◌, ◌≡◌, length, drop, take, leb, eqb, if◌then◌else◌}
 use mathlib.Core.List.{List, [], ◌∷◌, ◌++◌, Memᴰ}
-use Rattle.base.specs.Choice.{if◌then◌else◌}
 use Rattle.base.specs.Answer.{Answer, accepted, refused, ◌>>=◌}
 use Rattle.refusal.specs.Refusal.{unless_refuse, refusal}
 use Rattle.refusal.specs.declared.Refusal.TheVariants as Row
@@ -11,7 +10,6 @@ use Rattle.runs.specs.declared.Stretch.{Stretch}
 use Rattle.runs.specs.Level.{Has, has}
 use Rattle.runs.specs.RunList.{shown_level, last_end}
 use Rattle.queries.specs.declared.reply.Lookup.{Lookup}
-use Rattle.queries.specs.declared.reply.Lookup.TheVariants as Lookup
 use Rattle.schedule.specs.Schedule.{write_record, write_records, read_schedule}
 
 -- A part of the bytes: its first index and its length.

@@ -6,7 +6,6 @@ use Rattle.base.specs.Answer.{Answer, accepted}
 use Rattle.refusal.specs.Refusal.{refusal}
 use Rattle.queries.specs.Lookup.{Part, Found, found, nowhere, part_bytes}
 use Rattle.queries.specs.declared.reply.Located.{Located}
-use Rattle.queries.specs.declared.reply.Located.TheVariants as Located
 
 -- r is the part p of s: its bytes, in the same memory, from the part's first index on.
 pub record IsPart (r s : Bor (List ℕ)) (p : Part) : Type 0 where

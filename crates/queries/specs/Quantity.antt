@@ -7,7 +7,6 @@ use Rattle.refusal.specs.declared.Refusal.TheVariants as Row
 use Rattle.runs.specs.RunList.{shown_level}
 use Rattle.runs.specs.Count.{count_from}
 use Rattle.queries.specs.declared.reply.Quantity.{Quantity}
-use Rattle.queries.specs.declared.reply.Quantity.TheVariants as Quantity
 use Rattle.schedule.specs.Schedule.{read_schedule}
 
 -- "How many millimetres of [p, q) have exactly that level."

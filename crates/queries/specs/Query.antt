@@ -1,14 +1,12 @@
 -- What a walk of a schedule's records answers to each of the two queries.
 -- Assumes nothing.
-use Rattle.std.specs.Prelude.{ℕ, ltb}
-use Rattle.base.specs.Choice.{if◌then◌else◌}
+use Rattle.std.specs.Prelude.{ℕ, ltb, if◌then◌else◌}
 use Rattle.base.specs.Answer.{Answer, accepted}
 use Rattle.refusal.specs.Refusal.{refusal}
 use Rattle.refusal.specs.declared.Refusal.TheVariants as Row
 use Rattle.queries.specs.Lookup.{Found, found, nowhere}
 use Rattle.queries.specs.Place.{part_between}
 use Rattle.queries.specs.declared.query.Walked.{Walked}
-use Rattle.queries.specs.declared.query.Walked.TheVariants as Walked
 
 abbrev pub sum_reply : Walked → Answer ℕ
 sum_reply (Walked.Over sum from to reached) = accepted sum

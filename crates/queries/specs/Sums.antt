@@ -9,7 +9,6 @@ use Rattle.schedule.specs.Schedule.{read_schedule}
 use Rattle.queries.specs.Walk.{overlap_at, overlap_sum}
 use Rattle.queries.specs.Ranges.{most_ranges}
 use Rattle.queries.specs.declared.quantities.Tally.{Tally}
-use Rattle.queries.specs.declared.quantities.Tally.TheVariants as Tally
 use Rattle.refusal.specs.Refusal.{refusal}
 use Rattle.refusal.specs.declared.Refusal.TheVariants as Row
 

@@ -1,7 +1,6 @@
 -- The steps of the code that walks a schedule's records: what each part of it answers, and the sums that a walk makes.
 -- Assumes nothing.
-use Rattle.std.specs.Prelude.{ℕ, ◌+◌, ◌-◌, min, max, List, [], ◌∷◌, eqb}
-use Rattle.base.specs.Choice.{if◌then◌else◌}
+use Rattle.std.specs.Prelude.{ℕ, ◌+◌, ◌-◌, min, max, List, [], ◌∷◌, eqb, if◌then◌else◌}
 use Rattle.base.specs.Answer.{Answer, accepted, ◌>>=◌}
 use Rattle.refusal.specs.Refusal.{unless_refuse, refusal}
 use Rattle.refusal.specs.declared.Refusal.TheVariants as Row
@@ -10,9 +9,7 @@ use Rattle.runs.specs.declared.Stretch.{Stretch}
 use Rattle.runs.specs.RunList.{may_follow}
 use Rattle.schedule.specs.Schedule.{or_ten, read_head, ReadRun, read_record, read_schedule}
 use Rattle.queries.specs.declared.walk.Head.{Head}
-use Rattle.queries.specs.declared.walk.Head.TheVariants as Head
 use Rattle.queries.specs.declared.walk.Record.{Record}
-use Rattle.queries.specs.declared.walk.Record.TheVariants as Record
 
 -- The parts of reading that a function reads for itself: each refused with 10 at once.
 

@@ -1,4 +1,6 @@
 // The calls that read a schedule: quantity, quantities, lookup and its companion.
+#![tactic(auto)]
+
 pub mod lookup;
 pub mod quantities;
 pub mod quantity;

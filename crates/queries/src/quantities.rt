@@ -16,7 +16,7 @@ use refusal::{Outcome, Refusal};
 use runs::Stretch;
 
 // How a walk ends, beside the runs noted.
-#[derive(Drop)]
+#[derive(Clone, Copy)]
 pub enum Tally {
     // This many records were read, and nothing stands behind them; so many runs of the level were noted.
     Over { records: u64, noted: usize },

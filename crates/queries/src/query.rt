@@ -8,7 +8,7 @@ use super::walk::{Head, Record, read_head, read_record};
 use base::{max, min, saturating_sub};
 
 // What a walk of the records to their end finds.
-#[derive(Drop)]
+#[derive(Clone, Copy)]
 pub enum Walked {
     // The overlaps' sum; and of the last run that starts at the station or before it, from where to where its record stands and where
     // the run ends. Where there is none, it ends at 0.
@@ -34,8 +34,8 @@ fn overlap(start: u64, end: u64, p: u64, q: u64) -> u64
 // The millimetres of [p, q) that the runs of the level have, and the place of the record that has the station. Runs rise, so that
 // is the record of the last run that starts at the station or before it, or none.
 pub fn walk(s: &[u8], level: u32, p: u64, q: u64, station: u64) -> Walked
-    ensures result_value { sum_reply result ≡ overlap_sum s.now level p q }
-    ensures result_value_2 { place_reply station result ≡ place_in s.now station }
+    ensures overlap { sum_reply result ≡ overlap_sum s.now level p q }
+    ensures place { place_reply station result ≡ place_in s.now station }
 {
     let Head::Count { count, next: first } = read_head(s) else {
         return Walked::Bad;

@@ -1,14 +1,14 @@
 // The queries' replies.
 use refusal::{Outcome, Refusal};
 
-#[derive(Drop)]
+#[derive(Clone, Copy)]
 pub enum Quantity {
     Millimetres(u64),
     Refused(Refusal),
 }
 
 // The quantities of up to 64 ranges.
-#[derive(Drop)]
+#[derive(Clone, Copy)]
 pub struct Quantities {
     pub outcome: Outcome,
     // The records read; 0 after a refusal.
@@ -18,7 +18,7 @@ pub struct Quantities {
 }
 
 // What lookup's companion says.
-#[derive(Drop)]
+#[derive(Clone, Copy)]
 pub enum Lookup {
     // A run has the station, and lookup returns its record.
     Found,
@@ -28,7 +28,7 @@ pub enum Lookup {
 }
 
 // Where lookup's record is, in the schedule of the side asked for.
-#[derive(Drop)]
+#[derive(Clone, Copy)]
 pub enum Located {
     // From the first index to before the second.
     Found { start: usize, end: usize },

@@ -8,7 +8,7 @@ use number::Read;
 use runs::Stretch;
 
 // What stands at the head of a schedule.
-#[derive(Drop)]
+#[derive(Clone, Copy)]
 pub enum Head {
     // The run count, and the index behind it.
     Count { count: u64, next: usize },
@@ -17,7 +17,7 @@ pub enum Head {
 }
 
 // What stands at a record's place.
-#[derive(Drop)]
+#[derive(Clone, Copy)]
 pub enum Record {
     // A run that may follow the one before it, and the index behind its record.
     Next { run: Stretch, next: usize },

@@ -1,8 +1,10 @@
 // Document 01's table of refusals, and document 02's: one case for each row, with the value that the row returns.
+#![tactic(auto)]
+
 ghost use Rattle.std.specs.Prelude.{◌≡◌};
 ghost use Rattle.refusal.specs.Refusal.{number_of, value_of};
 
-#[derive(Drop)]
+#[derive(Clone, Copy)]
 pub enum Refusal {
     // The job's bytes end before or inside the number that begins at this index.
     Ended(usize),
@@ -87,7 +89,7 @@ pub fn refusal_value(refusal: Refusal) -> u64
 }
 
 // How a step ended whose value stands beside it: an enum holds no array.
-#[derive(Drop)]
+#[derive(Clone, Copy)]
 pub enum Outcome {
     Done,
     Refused(Refusal),

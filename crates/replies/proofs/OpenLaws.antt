@@ -1,10 +1,10 @@
 -- What a call by value answers, as C sees it.
 -- Assumes nothing.
+use Rattle.std.specs.Prelude.{if◌then◌else◌}
 use Prim.Native.Nat.{ℕ}
 use mathlib.Core.Path.{◌≡◌, refl, sym, ap, ap₂}
 use mathlib.Core.Bool.{true, false}
 use mathlib.Core.List.{List, []}
-use Rattle.base.specs.Choice.{if◌then◌else◌}
 use Rattle.base.specs.Answer.{Answer, accepted, refused, is_accepted, replied, ◌>>=◌}
 use Rattle.base.specs.Stored.{accepted_or}
 use Rattle.refusal.specs.Refusal.{refusal, number_of, value_of, outcome}

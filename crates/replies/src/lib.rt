@@ -1,4 +1,6 @@
 // What C is told: each answer as a plain struct.
+#![tactic(auto)]
+
 ghost use Rattle.std.specs.Prelude.{◌≡◌};
 ghost use Rattle.refusal.specs.Refusal.{number_of, value_of, outcome};
 ghost use Rattle.schedule.specs.Plan.{plan_reply};
@@ -17,7 +19,7 @@ pub mod open; // the calls on the parts of an open job
 
 // Number 0: done, with the bytes written and the greatest overhangs before A and behind B; else the refusal, and 0 for both.
 #[repr(C)]
-#[derive(Drop)]
+#[derive(Clone, Copy)]
 pub struct PlanReply {
     pub number: u64,
     pub value: u64,
@@ -27,7 +29,7 @@ pub struct PlanReply {
 
 // Number 0: done, with the millimetres, say; else the refusal's number and what it returns.
 #[repr(C)]
-#[derive(Drop)]
+#[derive(Clone, Copy)]
 pub struct Reply {
     pub number: u64,
     pub value: u64,
@@ -35,7 +37,7 @@ pub struct Reply {
 
 // Number 0, 8 or 10; where found is 1, the record's bytes are [start, end) of the schedule asked for, else both are 0.
 #[repr(C)]
-#[derive(Drop)]
+#[derive(Clone, Copy)]
 pub struct Record {
     pub number: u64,
     pub found: u64,
@@ -45,7 +47,7 @@ pub struct Record {
 
 // Number 0: done, with the records read and a quantity for each range; else the refusal, and 0 in all the others.
 #[repr(C)]
-#[derive(Drop)]
+#[derive(Clone, Copy)]
 pub struct Quantities {
     pub number: u64,
     pub value: u64,
@@ -55,7 +57,7 @@ pub struct Quantities {
 
 // Number 0: done, with the corners of the adjacent approach; else the refusal, and all corners 0.0.
 #[repr(C)]
-#[derive(Drop)]
+#[derive(Clone, Copy)]
 pub struct Corners {
     pub number: u64,
     pub value: u64,
@@ -66,7 +68,7 @@ pub struct Corners {
 
 // Number 0: where found is 1, value is the smallest barrier offset, and where it is 0 there is none; else the refusal, and found 0.
 #[repr(C)]
-#[derive(Drop)]
+#[derive(Clone, Copy)]
 pub struct SmallestOffset {
     pub number: u64,
     pub value: u64,
@@ -76,7 +78,7 @@ pub struct SmallestOffset {
 // Number 0: done, with the hazard's side, its envelope [start, end) cut at A and B, its own overhangs, and the stretch [from, to) outside which its
 // withdrawal alters no level of that side; but for the side, 0 where nobody reaches it. Else the refusal, and 0 in all the others.
 #[repr(C)]
-#[derive(Drop)]
+#[derive(Clone, Copy)]
 pub struct ReachReply {
     pub number: u64,
     pub value: u64,
@@ -92,7 +94,7 @@ pub struct ReachReply {
 // Number 0: where found is 1, the smallest overrun and its first layout's counts, in the order of the lengths, 0 behind them; where it is 0 no
 // tried layout covers, and overrun and counts are 0. Else the refusal, and 0 in all the others.
 #[repr(C)]
-#[derive(Drop)]
+#[derive(Clone, Copy)]
 pub struct LayoutReply {
     pub number: u64,
     pub value: u64,

@@ -36,14 +36,14 @@ const NO_HEADER: Header = Header {
 };
 
 // The present state after a call, and the reply.
-#[derive(Drop)]
+#[derive(Clone, Copy)]
 pub struct Changed {
     pub next: StoredJob,
     pub reply: Reply,
 }
 
 // The header of the present state after an opening, the reply, and whether it was done: then no hazard stands, and nothing is kept any more.
-#[derive(Drop)]
+#[derive(Clone, Copy)]
 pub struct Opening {
     pub header: Header,
     pub reply: Reply,
@@ -51,7 +51,7 @@ pub struct Opening {
 }
 
 // The reply of keeping, and whether it was done: then the present state is kept under the number.
-#[derive(Drop)]
+#[derive(Clone, Copy)]
 pub struct Keeping {
     pub reply: Reply,
     pub done: bool,

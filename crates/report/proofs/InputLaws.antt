@@ -1,21 +1,20 @@
 -- What stands behind the first 8,192 bytes changes no report, of refused inputs neither. Reading looks at no byte behind the first 8,031: 90 for 15 header
 -- numbers of at most six bytes; 31 for each of 255 hazards, whose side was read as 0 or 1 and took one; and 36 for the last, six numbers of six bytes.
 -- Assumes nothing.
+use Rattle.std.specs.Prelude.{if◌then◌else◌}
 use Prim.Native.Nat.{ℕ, zero, suc, ◌+◌, ◌-◌, ◌*◌, ◌≤◌, ◌<◌}
 use native.Mathlib.Omega.{arith}
 use native.Mathlib.Decide.{dec_le}
-use mathlib.Core.Path.{◌≡◌, refl, sym, ap, ◌∙◌}
+use mathlib.Core.Path.{◌≡◌, refl, ap}
 use mathlib.Core.Bool.{Bool, true, false}
 use mathlib.Core.List.{List, [], ◌∷◌, ◌++◌}
 use lib.ListN.{length, get_or, take, drop}
 use lib.Seq.{take_all, length-take-le}
 use lib.Dec.{ltb, leb, eqb}
 use borrow.Author.Tests.{leb-true, lt-leb}
-use Rattle.base.specs.Choice.{if◌then◌else◌}
-use Rattle.base.specs.Answer.{Answer, accepted, ◌>>=◌}
+use Rattle.base.specs.Answer.{accepted}
 use Rattle.refusal.specs.Refusal.{unless_refuse}
 use Rattle.refusal.specs.declared.Refusal.{Refusal}
-use Rattle.refusal.specs.declared.Refusal.TheVariants as Row
 use Rattle.base.proofs.TestLaws.{and_right}
 use Rattle.base.proofs.AnswerLaws.{bound, bind_same}
 use Rattle.refusal.proofs.RefuseLaws.{passed}
@@ -25,12 +24,12 @@ use Rattle.number.proofs.WriteLaws.{small_length}
 use Rattle.job.specs.declared.Bounds.{Bounds}
 use Rattle.job.specs.declared.Header.{Header}
 use Rattle.job.specs.declared.Hazard.{Hazard}
-use Rattle.job.specs.Job.{Job, within, hazard_ranges, next_in_header, next_in_hazard, Fields, read_fields, more_numbers, outside_header, outside_hazard, read_header}
+use Rattle.job.specs.Job.{within, hazard_ranges, next_in_header, next_in_hazard, Fields, read_fields, more_numbers, outside_header, outside_hazard, read_header}
 use Rattle.job.specs.Job.{header_of, hazard_of, Hazards, read_hazards, read_rest, read_job}
 use Rattle.job.proofs.JobLaws.{header_in, header_fits}
 use Rattle.job.proofs.RangeLaws.{header_bounds}
 use Rattle.planning.specs.Envelope.{accept_job}
-use Rattle.report.specs.Text.{report_of, reported}
+use Rattle.report.specs.Text.{reported}
 use Rattle.report.specs.Input.{passed_on}
 
 -- A scan of at most k bytes sees k bytes alone.

@@ -7,7 +7,7 @@ use mathlib.Core.List.{List, [], ◌∷◌, ◌++◌, append_assoc, append-nil}
 use lib.ListN.{length, get_or, length-append}
 use Rattle.runs.specs.declared.Stretch.{Stretch}
 use Rattle.runs.specs.RunList.{last_station, Rising}
-use Rattle.report.specs.Text.{line, run_line, run_lines, covered}
+use Rattle.report.specs.Text.{run_line, run_lines, covered}
 use Rattle.runs.proofs.StoredLaws.{run, first_runs, runs_more, behind}
 
 -- Run lines

@@ -1,7 +1,6 @@
 -- The call's complete reply, and the text memory.
 -- Assumes nothing.
-use Rattle.std.specs.Prelude.{ℕ, List, length, leb}
-use Rattle.base.specs.Choice.{if◌then◌else◌}
+use Rattle.std.specs.Prelude.{ℕ, List, length, leb, if◌then◌else◌}
 use Rattle.number.specs.Number.{placed}
 use Rattle.report.specs.declared.Reply.{Reply}
 use Rattle.report.specs.declared.Reply.TheVariants.{Printed, Short}

@@ -1,4 +1,6 @@
 // The report of a job: its run lines and totals, or its refusal, as text in lent memory.
+#![tactic(auto)]
+
 mod lines;
 mod text;
 
@@ -8,7 +10,7 @@ ghost use Rattle.report.specs.Printing.{printing, text_after};
 use lines::{put_refused, put_runs};
 use refusal::Outcome;
 
-#[derive(Drop)]
+#[derive(Clone, Copy)]
 pub enum Reply {
     // The report stands in the memory from its first byte on; it has this many bytes.
     Printed(usize),

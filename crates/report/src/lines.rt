@@ -18,7 +18,7 @@ fn put_run_line(text: &mut [u8], at: usize, word: &[u8], start: u64, end: u64, l
 
 // A line for each run.
 fn put_run_lines(text: &mut [u8], at: usize, word: &[u8], list: RunList) -> usize
-    requires list_value { is_run_list (runs_of list) ≡ true }
+    requires run_list { is_run_list (runs_of list) ≡ true }
     requires list_in_bounds { at + length (run_lines word.now (runs_of list)) ≤ length text.old }
     ensures { Written text.old at (run_lines word.now (runs_of list)) result text.new }
 {
@@ -64,9 +64,9 @@ fn put_total(text: &mut [u8], at: usize, right: u64, left: u64) -> usize
 
 // The whole report of the runs of both sides.
 pub fn put_runs(text: &mut [u8], right: RunList, left: RunList) -> usize
-    requires right_value { is_run_list (runs_of right) ≡ true }
-    requires left_value { is_run_list (runs_of left) ≡ true }
-    requires left_in_bounds { length (runs_report (runs_of right) (runs_of left)) ≤ length text.old }
+    requires right_run_list { is_run_list (runs_of right) ≡ true }
+    requires left_run_list { is_run_list (runs_of left) ≡ true }
+    requires report_fits { length (runs_report (runs_of right) (runs_of left)) ≤ length text.old }
     ensures { Written text.old 0 (runs_report (runs_of right) (runs_of left)) result text.new }
 {
     let second = put_run_lines(text, 0, b"R", right);

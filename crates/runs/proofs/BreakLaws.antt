@@ -1,9 +1,8 @@
 -- Laws of break points: cutting, setting a level from a station on, the runs between them.
 -- Assumes nothing.
-use Rattle.std.proofs.Common.{◌≡◌, ℕ, suc, ◌+◌, ◌-◌, ◌<◌, ◌≤◌, Bool, true, false, eqb, ltb, leb, ◌≢◌, List, [], ◌∷◌, ◌++◌, length, sym, refl, ap, ◌∙◌, subst, append_assoc, append-nil, arith, ltb-false, ltb-true, le-ltb, eqb-true, le-leb, leb-false, leb-true}
+use Rattle.std.proofs.Common.{◌≡◌, ℕ, suc, ◌+◌, ◌-◌, ◌<◌, ◌≤◌, Bool, true, false, eqb, ltb, leb, ◌≢◌, List, [], ◌∷◌, ◌++◌, length, sym, refl, ap, ◌∙◌, subst, append_assoc, append-nil, arith, ltb-false, ltb-true, le-ltb, eqb-true, le-leb, leb-false, leb-true, if◌then◌else◌}
 use native.Mathlib.Decide.{dec_le}
 use borrow.Author.Tests.{lt-leb, eqb-false}
-use Rattle.base.specs.Choice.{if◌then◌else◌}
 use Rattle.runs.specs.declared.Stretch.{Stretch}
 use Rattle.runs.specs.RunList.{last_station, MayFollow, RunsOf}
 use Rattle.runs.specs.Breaks.{Break, break_level, level_of, Shape, breaks_before, set_from, runs_below}

@@ -1,10 +1,9 @@
 -- Laws of counting millimetres: those of a stretch, and those whose level in a rising list of runs passes a test.
 -- Assumes nothing.
-use Rattle.std.proofs.Common.{◌≡◌, ℕ, zero, suc, ◌+◌, ◌-◌, ◌<◌, ◌≤◌, min, max, Bool, true, false, ◌||◌, leb, List, ◌∷◌, sym, refl, ap, ◌∙◌, arith, ltb-true, le-ltb, lt-ltb, le-leb}
+use Rattle.std.proofs.Common.{◌≡◌, ℕ, zero, suc, ◌+◌, ◌-◌, ◌<◌, ◌≤◌, min, max, Bool, true, false, ◌||◌, leb, List, ◌∷◌, sym, refl, ap, ◌∙◌, arith, ltb-true, le-ltb, lt-ltb, le-leb, if◌then◌else◌}
 use native.Mathlib.Decide.{dec_lt}
 use mathlib.Core.Path.{fun_ext}
 use borrow.Author.Tests.{lt-leb}
-use Rattle.base.specs.Choice.{if◌then◌else◌}
 use Rattle.base.proofs.TestLaws.{and_right, not_both}
 use Rattle.runs.specs.declared.Stretch.{Stretch}
 use Rattle.runs.specs.Level.{has}

@@ -1,8 +1,8 @@
 -- The required level: it is v or higher exactly where t is in the filled set of v, and so it is known from these sets.
 -- Assumes nothing.
-use Rattle.std.proofs.Common.{◌≡◌, ℕ, zero, suc, ◌+◌, ◌<◌, ◌≤◌, Bool, true, false, ◌&&◌, ltb, leb, ◌⊎◌, List, refl, inl, inr, arith, ltb-true, lt-ltb, le-leb, leb-true}
+use Rattle.std.proofs.Common.{◌≡◌, ℕ, zero, suc, ◌+◌, ◌<◌, ◌≤◌, Bool, true, false, ◌&&◌, ltb, leb, ◌⊎◌, List, refl, inl, inr, arith, ltb-true, lt-ltb, le-leb, leb-true, if◌then◌else◌}
 use mathlib.Core.List.{Memᴰ}
-use Rattle.base.specs.Choice.{if◌then◌else◌, some_of, Passing}
+use Rattle.base.specs.Choice.{some_of, Passing}
 use Rattle.runs.specs.declared.Stretch.{Stretch}
 use Rattle.runs.specs.Level.{Has, InSet, Proper, has, between, at_least, filled, highest, required_level}
 use Rattle.base.proofs.TestLaws.{and_left, and_right, and_intro, or_cases, or_left, or_right, not_both, any_elim, any_intro, filter_elim, filter_intro}

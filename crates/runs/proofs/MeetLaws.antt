@@ -1,9 +1,8 @@
 -- A sweep meets an envelope that starts where it stands: the level is as high already, or it rises.
 -- Assumes nothing.
-use Rattle.std.proofs.Common.{◌≡◌, ℕ, suc, ◌-◌, ◌<◌, ◌≤◌, min, max, Bool, true, false, ltb, List, ◌∷◌, length, get_or, sym, refl, ap, ◌∙◌, arith, ltb-false, ltb-true}
+use Rattle.std.proofs.Common.{◌≡◌, ℕ, suc, ◌-◌, ◌<◌, ◌≤◌, min, max, Bool, true, false, ltb, List, ◌∷◌, length, get_or, sym, refl, ap, ◌∙◌, arith, ltb-false, ltb-true, if◌then◌else◌}
 use native.Mathlib.Decide.{dec_le, dec_lt}
 use mathlib.Core.List.{Memᴰ}
-use Rattle.base.specs.Choice.{if◌then◌else◌}
 use Rattle.base.proofs.ListLaws.{cons_each}
 use Rattle.runs.specs.declared.Stretch.{Stretch}
 use Rattle.runs.specs.Level.{required_level}

@@ -1,10 +1,9 @@
 -- Break points and runs in arrays: one more, one less, what a store leaves alone.
 -- Assumes nothing.
-use Rattle.std.proofs.Common.{◌≡◌, ℕ, zero, suc, ◌+◌, ◌-◌, ◌<◌, ◌≤◌, Bool, true, false, ltb, ◌≢◌, List, [], ◌∷◌, ◌++◌, length, get_or, take, set, sym, refl, ap, ◌∙◌, add-zero, add-one, arith, length-take-le, get_or-set_other, get_or-set_same, take-suc-set, set-set, le-ltb, eq-eqb, ne_eqb, le-leb}
+use Rattle.std.proofs.Common.{◌≡◌, ℕ, zero, suc, ◌+◌, ◌-◌, ◌<◌, ◌≤◌, Bool, true, false, ltb, ◌≢◌, List, [], ◌∷◌, ◌++◌, length, get_or, take, set, sym, refl, ap, ◌∙◌, add-zero, add-one, arith, length-take-le, get_or-set_other, get_or-set_same, take-suc-set, set-set, le-ltb, eq-eqb, ne_eqb, le-leb, if◌then◌else◌}
 use lib.ListN.{get_or-append}
 use lib.Seq.{take-set-le}
 use borrow.Author.Tests.{lt-leb}
-use Rattle.base.specs.Choice.{if◌then◌else◌}
 use Rattle.base.specs.Stored.{padded}
 use Rattle.base.proofs.StoredLaws.{padded_more, padded_clear}
 use Rattle.runs.specs.declared.Stretch.{Stretch}

@@ -1,7 +1,6 @@
 -- Break points: the stations from which a level holds, last one first, and the runs between them.
 -- Assumes nothing.
-use Rattle.std.specs.Prelude.{ℕ, zero, suc, ◌<◌, ◌≢◌, List, [], ◌∷◌, ◌++◌, ◌==◌, nat_le, nat_lt, slice_index}
-use Rattle.base.specs.Choice.{if◌then◌else◌}
+use Rattle.std.specs.Prelude.{ℕ, zero, suc, ◌<◌, ◌≢◌, List, [], ◌∷◌, ◌++◌, ◌==◌, nat_le, nat_lt, slice_index, if◌then◌else◌}
 use Rattle.runs.specs.declared.Stretch.{Stretch}
 
 -- From this station on the level holds, up to the next break point.

@@ -1,7 +1,6 @@
 -- Counting millimetres.
 -- Assumes nothing.
-use Rattle.std.specs.Prelude.{ℕ, zero, suc, Bool}
-use Rattle.base.specs.Choice.{if◌then◌else◌}
+use Rattle.std.specs.Prelude.{ℕ, zero, suc, Bool, if◌then◌else◌}
 
 -- How many of the n millimetres from p pass the test.
 unfoldable pub count_from : (ℕ → Bool) → (p n : ℕ) → ℕ

@@ -1,8 +1,8 @@
 -- The required level of a list of envelopes under a continuity limit.
 -- Assumes nothing.
-use Rattle.std.specs.Prelude.{ℕ, zero, suc, ◌+◌, ◌-◌, ◌<◌, ◌≤◌, Bool, ◌&&◌, ◌||◌, leb, ◌⊎◌, List, nat_le, nat_lt}
+use Rattle.std.specs.Prelude.{ℕ, zero, suc, ◌+◌, ◌-◌, ◌<◌, ◌≤◌, Bool, ◌&&◌, ◌||◌, leb, ◌⊎◌, List, nat_le, nat_lt, if◌then◌else◌}
 use mathlib.Core.List.{Memᴰ}
-use Rattle.base.specs.Choice.{if◌then◌else◌, some_of, filter}
+use Rattle.base.specs.Choice.{some_of, filter}
 use Rattle.runs.specs.declared.Stretch.{Stretch}
 
 -- 1. As the paper says it.

@@ -1,8 +1,7 @@
 -- The sweep over envelopes in order of their starts: what it knows after some of them.
 -- Assumes nothing.
-use Rattle.std.specs.Prelude.{◌≡◌, ℕ, zero, suc, ◌+◌, ◌-◌, ◌*◌, ◌<◌, ◌≤◌, min, max, Bool, true, false, List, length, nat_le, nat_lt, slice_index}
+use Rattle.std.specs.Prelude.{◌≡◌, ℕ, zero, suc, ◌+◌, ◌-◌, ◌*◌, ◌<◌, ◌≤◌, min, max, Bool, true, false, List, length, nat_le, nat_lt, slice_index, if◌then◌else◌}
 use mathlib.Core.List.{Memᴰ}
-use Rattle.base.specs.Choice.{if◌then◌else◌}
 use Rattle.runs.specs.declared.Stretch.{Stretch}
 use Rattle.runs.specs.Level.{required_level}
 use Rattle.runs.specs.RunList.{last_station}

@@ -1,11 +1,13 @@
 // Levels: envelopes, the level that they require at each millimetre, and its runs, by value.
+#![tactic(auto)]
+
 pub mod required;
 mod sort;
 mod spread; // keys brought near to order
 mod sweep;
 
 // The millimetres [start, end) at a containment level.
-#[derive(Drop)]
+#[derive(Clone, Copy)]
 pub struct Stretch {
     pub start: u64,
     pub end: u64,
@@ -13,7 +15,7 @@ pub struct Stretch {
 }
 
 // The first `count` entries are the runs, rising.
-#[derive(Drop)]
+#[derive(Clone, Copy)]
 pub struct RunList {
     pub count: usize,
     pub starts: [u64; 512],

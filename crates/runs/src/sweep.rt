@@ -1,6 +1,5 @@
 // The sweep over envelopes in order of their starts: the break points of the required level, and its runs.
-ghost use Rattle.std.specs.Prelude.{◌≡◌, ℕ, ◌+◌, ◌-◌, ◌*◌, ◌<◌, ◌≤◌, min, max, true, List, ◌++◌, length, take, drop, replicate};
-ghost use Rattle.base.specs.Choice.{if◌then◌else◌};
+ghost use Rattle.std.specs.Prelude.{◌≡◌, ℕ, ◌+◌, ◌-◌, ◌*◌, ◌<◌, ◌≤◌, min, max, true, List, ◌++◌, length, take, drop, replicate, if◌then◌else◌};
 ghost use Rattle.runs.specs.Required.{required_runs};
 ghost use Rattle.runs.specs.Stored.{stored_runs};
 ghost use Rattle.runs.specs.Breaks.{level_of, breaks_to, breaks_before, set_from};
@@ -11,7 +10,7 @@ use super::RunList;
 use base::{max, saturating_sub};
 
 // Where a sweep stands: break points in use, and the required level there.
-#[derive(Drop)]
+#[derive(Clone, Copy)]
 pub struct Place {
     pub count: usize,
     pub level: usize,

@@ -1,6 +1,6 @@
 -- Plan: its complete reply, and the output memory.
 -- Assumes nothing.
-use Rattle.std.specs.Prelude.{ℕ, ◌+◌, ◌-◌, List, ◌++◌, length, drop, leb}
+use Rattle.std.specs.Prelude.{ℕ, List, ◌++◌, length, drop, leb}
 use Rattle.base.specs.Answer.{Answer, accepted, refused, ◌>>=◌}
 use Rattle.refusal.specs.Refusal.{unless_refuse, refusal}
 use Rattle.refusal.specs.declared.Refusal.TheVariants as Row
@@ -9,7 +9,6 @@ use Rattle.planning.specs.Envelope.{side_overhangs, accept_job}
 use Rattle.planning.specs.Required.{job_runs}
 use Rattle.schedule.specs.declared.reply.Written.{Written}
 use Rattle.schedule.specs.declared.reply.Plan.{Plan}
-use Rattle.schedule.specs.declared.reply.Plan.TheVariants as Plan
 use Rattle.schedule.specs.Schedule.{write_schedule}
 
 -- What plan gives for a side: the schedule, and "among the asked side's hazards, the greatest overhang in millimetres at each end".

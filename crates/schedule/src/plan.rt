@@ -19,8 +19,8 @@ use runs::required::required_runs;
 
 // The bytes that the schedule needs, counted where the room is less than a proved bound on the schedule of every road; with more, none lacks room.
 fn bytes_needed(list: RunList, room: usize) -> usize
-    requires list_value { is_run_list (runs_of list) ≡ true }
-    requires list_len_bound { length (write_schedule (runs_of list)) ≤ 5624 }
+    requires run_list { is_run_list (runs_of list) ≡ true }
+    requires written_bound { length (write_schedule (runs_of list)) ≤ 5624 }
     ensures { (result ≤ room → length (write_schedule (runs_of list)) ≤ room) × (room < result → result ≡ length (write_schedule (runs_of list))) }
 {
     if 5624 <= room {
@@ -31,9 +31,9 @@ fn bytes_needed(list: RunList, room: usize) -> usize
 
 // The schedule of a run list from the output's first byte on; where it does not fit, nothing.
 fn place(out: &mut [u8], list: RunList, overhangs: Overhangs) -> Plan
-    requires list_value { is_run_list (runs_of list) ≡ true }
-    requires list_len_bound { length (write_schedule (runs_of list)) ≤ 5624 }
-    ensures result_value { plan_reply result ≡ bytes_written (fitted (write_schedule (runs_of list)) overhangs (length out.old)) }
+    requires run_list { is_run_list (runs_of list) ≡ true }
+    requires written_bound { length (write_schedule (runs_of list)) ≤ 5624 }
+    ensures reply { plan_reply result ≡ bytes_written (fitted (write_schedule (runs_of list)) overhangs (length out.old)) }
     ensures out_after { out.new ≡ output_after (fitted (write_schedule (runs_of list)) overhangs (length out.old)) out.old }
 {
     let needed = bytes_needed(list, out.len());
@@ -57,8 +57,8 @@ pub fn plan_side(
     requires ends_len { length ends.now ≡ 256 }
     requires count_bound { count ≤ 256 }
     requires all_sound { AllSound (keyed_envelopes keys.old ends.now count) }
-    requires continuity_len_bound { length (write_schedule (required_runs (keyed_envelopes keys.old ends.now count) continuity)) ≤ 5624 }
-    ensures result_value { plan_reply result ≡ bytes_written (fitted (write_schedule (required_runs (keyed_envelopes keys.old ends.now count) continuity)) overhangs (length out.old)) }
+    requires written_bound { length (write_schedule (required_runs (keyed_envelopes keys.old ends.now count) continuity)) ≤ 5624 }
+    ensures reply { plan_reply result ≡ bytes_written (fitted (write_schedule (required_runs (keyed_envelopes keys.old ends.now count) continuity)) overhangs (length out.old)) }
     ensures out_after { out.new ≡ output_after (fitted (write_schedule (required_runs (keyed_envelopes keys.old ends.now count) continuity)) overhangs (length out.old)) out.old }
 {
     place(out, required_runs(keys, ends, count, continuity), overhangs)
@@ -66,7 +66,7 @@ pub fn plan_side(
 
 // The schedule of a side of the job, written into the output; or the first refusal, and nothing written.
 pub fn plan(job: &[u8], side: u64, out: &mut [u8]) -> Plan
-    ensures result_value { plan_reply result ≡ bytes_written (spec.plan job.now side (length out.old)) }
+    ensures reply { plan_reply result ≡ bytes_written (spec.plan job.now side (length out.old)) }
     ensures out_after { out.new ≡ output_after (spec.plan job.now side (length out.old)) out.old }
 {
     if 1 < side {

@@ -2,14 +2,14 @@
 use planning::Overhangs;
 use refusal::Refusal;
 
-#[derive(Drop)]
+#[derive(Clone, Copy)]
 pub struct Written {
     // How many bytes were written.
     pub bytes: usize,
     pub overhangs: Overhangs,
 }
 
-#[derive(Drop)]
+#[derive(Clone, Copy)]
 pub enum Plan {
     // The schedule stands in the output.
     Done(Written),

@@ -62,7 +62,7 @@ pub fn put_schedule<'a>(
     ends: &'a [u64; 512],
     levels: &'a [u8; 512],
 ) -> usize
-    requires count_value { is_run_list (runs_to starts.now ends.now levels.now count) ≡ true }
+    requires run_list { is_run_list (runs_to starts.now ends.now levels.now count) ≡ true }
     requires count_in_bounds { length (write_schedule (runs_to starts.now ends.now levels.now count)) ≤ length out.old }
     ensures value { result ≡ length (write_schedule (runs_to starts.now ends.now levels.now count)) }
     ensures out_after { out.new ≡ placed out.old 0 (write_schedule (runs_to starts.now ends.now levels.now count)) }

@@ -7,7 +7,6 @@ use Rattle.refusal.specs.declared.Refusal.TheVariants as Row
 use Rattle.planning.specs.Envelope.{accept_job}
 use Rattle.planning.specs.Required.{job_level}
 use Rattle.station_level.specs.declared.reply.Level.{Level}
-use Rattle.station_level.specs.declared.reply.Level.TheVariants as Level
 
 -- "Give the required level there". "Refusals are those of plan without 9": 8, then the job's, in plan's order. ("Directly from the hazards,
 -- without making runs" is said of the code.)

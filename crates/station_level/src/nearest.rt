@@ -11,7 +11,7 @@ ghost use Rattle.station_level.specs.Nearest.{NearestOf, has_station};
 use base::{max, min};
 
 // What a pass over envelopes keeps for a station, by level; a key could say level 7, but no envelope has it.
-#[derive(Drop)]
+#[derive(Clone, Copy)]
 pub struct Nearest {
     // The last end of the envelopes that start at or before the station: one that has it, or the nearest before it; 0 for none.
     pub ends: [u64; 8],

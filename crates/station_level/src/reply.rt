@@ -1,7 +1,7 @@
 // The call's reply.
 use refusal::Refusal;
 
-#[derive(Drop)]
+#[derive(Clone, Copy)]
 pub enum Level {
     // The required level, 0 to 6.
     Required(u32),

@@ -1,7 +1,6 @@
 -- The call reach: how far the withdrawal of one hazard reaches, its complete reply. Document 02, request 14, as an answer.
 -- Assumes nothing.
-use Rattle.std.specs.Prelude.{ℕ, ◌+◌, ◌-◌, List, length, ltb}
-use Rattle.base.specs.Choice.{if◌then◌else◌}
+use Rattle.std.specs.Prelude.{ℕ, ◌+◌, ◌-◌, List, length, ltb, if◌then◌else◌}
 use Rattle.base.specs.Answer.{Answer, accepted, ◌>>=◌}
 use Rattle.refusal.specs.Refusal.{unless_refuse, refusal}
 use Rattle.refusal.specs.declared.Refusal.TheVariants as Row
@@ -12,7 +11,6 @@ use Rattle.planning.specs.Envelope.{reached, cut_to_road, cut_envelope, overhang
 use Rattle.planning.specs.Approached.{hazard_at}
 use Rattle.withdrawal.specs.declared.reply.Reach.{Reach}
 use Rattle.withdrawal.specs.declared.reply.Reached.{Reached}
-use Rattle.withdrawal.specs.declared.reply.Reached.TheVariants as Reached
 
 -- The stretch
 

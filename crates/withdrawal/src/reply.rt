@@ -3,7 +3,7 @@ use planning::Overhangs;
 use refusal::Refusal;
 
 // How far the withdrawal of a hazard reaches; but for the side, zeros where nobody reaches the hazard.
-#[derive(Drop)]
+#[derive(Clone, Copy)]
 pub struct Reach {
     // The hazard's side.
     pub side: u64,
@@ -16,7 +16,7 @@ pub struct Reach {
     pub to: u64,
 }
 
-#[derive(Drop)]
+#[derive(Clone, Copy)]
 pub enum Reached {
     Hazard(Reach),
     Refused(Refusal),

@@ -10,16 +10,16 @@ use Rattle.approach.proofs.flare_across.Tie as tie
 known : (c : tie.Start) → Sizes c.args.along c.args.across c.args.straight c.args.runout c.args.reach c.args.offset
 known c = sizes _ _ _ _ _ _ c.requires
 
-returns : tie.Need-returns
+returns : tie.Need-returns-then-runout-reach
 unfolding flare_across
-returns c = rw (le-leb _ _ c.if1.true)
+returns c = rw (le-leb _ _ c.if-runout-reach.true)
 
-returns-2 : tie.Need-returns-2
+returns-2 : tie.Need-returns-else-runout-reach
 unfolding flare_across
-returns-2 c = rw (lt-leb _ _ c.if1.false)
+returns-2 c = rw (lt-leb _ _ c.if-runout-reach.false)
 
-pub flare-across-spec : {M : Type 1} → statement M
-flare-across-spec =
+pub flare_across_spec : {M : Type 1} → statement M
+flare_across_spec =
     tie.close
     (tie.spec
     (λ c. omega (arith, c.requires))

@@ -14,8 +14,8 @@ returns : tie.Need-returns
 unfolding formula_length ceil_div
 returns c = refl
 
-pub formula-length-spec : {M : Type 1} → statement M
-formula-length-spec =
+pub formula_length_spec : {M : Type 1} → statement M
+formula_length_spec =
     tie.close
     (tie.spec
     (λ c. omega (arith, known c))

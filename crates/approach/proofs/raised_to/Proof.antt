@@ -19,12 +19,12 @@ product-fits x p l = omega (arith, div-mul-le_self x p)
 one-raised : (panel length : ℕ) → 1 ≤ panel → panel ≤ 1 → length ≡ next_multiple panel length
 one-raised panel length low top = let one : panel ≡ 1 = omega arith in rw one (sym (raised_one length))
 
-returns : tie.Need-returns
-returns c = one-raised c.before.args.panel c.before.args.length c.before.requires.0 c.if1.true
+returns : tie.Need-returns-then-panel-le1
+returns c = one-raised c.before.args.panel c.before.args.length c.before.requires.0 c.if-panel-le1.true
 
-returns-2 : tie.Need-returns-2
+returns-2 : tie.Need-returns
 unfolding next_multiple
 returns-2 c = refl
 
-pub raised-to-spec : {M : Type 1} → statement M
-raised-to-spec = tie.close (tie.spec returns (λ c. search rules) (λ c. search rules) (λ c. search rules) (λ c. product-fits _ _ (omega arith)) returns-2)
+pub raised_to_spec : {M : Type 1} → statement M
+raised_to_spec = tie.close (tie.spec returns (λ c. search rules) (λ c. search rules) (λ c. search rules) (λ c. product-fits _ _ (omega arith)) returns-2)

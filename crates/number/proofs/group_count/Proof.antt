@@ -11,5 +11,5 @@ returns : tie.Need-returns
 unfolding group_count
 returns c = omega (arith, leading_le 64 c.args.x)
 
-pub group-count-spec : {M : Type 1} → statement M
-group-count-spec = tie.close (tie.spec (λ c. leading_le 64 c.args.x) (λ c. search rules) (λ c. search rules) (λ c. search rules) returns)
+pub group_count_spec : {M : Type 1} → statement M
+group_count_spec = tie.close (tie.spec (λ c. leading_le 64 c.args.x) (λ c. search rules) (λ c. search rules) (λ c. search rules) returns)

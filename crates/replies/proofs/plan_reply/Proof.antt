@@ -8,16 +8,16 @@ use Rattle.replies.specs.Interface.{plan_reply_with, plan_reply_of}
 use Rattle.replies.proofs.plan_reply.Statement.{statement}
 use Rattle.replies.proofs.plan_reply.Tie as tie
 
-returns : tie.Need-returns
+returns : tie.Need-returns-in-Done
 unfolding plan_reply_of
-returns c = ap (λ (p : Plan). plan_reply_of (plan_reply p)) (sym c.before.before.reply.given.1)
+returns c = ap (λ (p : Plan). plan_reply_of (plan_reply p)) (sym c.in-Done.is)
 
-returns-2 : tie.Need-returns-2
+returns-2 : tie.Need-returns-in-Refused
 unfolding plan_reply_of
 returns-2 c =
-    ap₂ (λ (n v : ℕ). plan_reply_with n v 0 0) c.before.refusal-number.ensures c.refusal-value.ensures
-    ∙ ap (λ (p : Plan). plan_reply_of (plan_reply p)) (sym c.before.before.before.reply2.given.1)
+    ap₂ (λ (n v : ℕ). plan_reply_with n v 0 0) c.before.refusal_number.ensures c.refusal_value.ensures
+    ∙ ap (λ (p : Plan). plan_reply_of (plan_reply p)) (sym c.in-Refused.is)
 
-pub plan-reply-spec : {M : Type 1} → statement M
-plan-reply-spec =
+pub plan_reply_spec : {M : Type 1} → statement M
+plan_reply_spec =
     tie.close (tie.spec (λ c. search rules) (λ c. search rules) (λ c κs. search rules) (λ c κs. search rules) returns returns-2)

@@ -9,16 +9,16 @@ use Rattle.replies.specs.Interface.{reach_reply_of}
 use Rattle.replies.proofs.reach_reply.Statement.{statement}
 use Rattle.replies.proofs.reach_reply.Tie as tie
 
-returns : tie.Need-returns
+returns : tie.Need-returns-in-Hazard
 unfolding reach_reply_of
-returns c = ap (λ (p : Reached). reach_reply_of (reach_reply p)) (sym c.before.before.reply.given.1)
+returns c = ap (λ (p : Reached). reach_reply_of (reach_reply p)) (sym c.in-Hazard.is)
 
-returns-2 : tie.Need-returns-2
+returns-2 : tie.Need-returns-in-Refused
 unfolding reach_reply_of
 returns-2 c =
-    ap₂ (λ (n v : ℕ). reach_reply_of (refused n v)) c.before.refusal-number.ensures c.refusal-value.ensures
-    ∙ ap (λ (p : Reached). reach_reply_of (reach_reply p)) (sym c.before.before.before.reply2.given.1)
+    ap₂ (λ (n v : ℕ). reach_reply_of (refused n v)) c.before.refusal_number.ensures c.refusal_value.ensures
+    ∙ ap (λ (p : Reached). reach_reply_of (reach_reply p)) (sym c.in-Refused.is)
 
-pub reach-reply-spec : {M : Type 1} → statement M
-reach-reply-spec =
+pub reach_reply_spec : {M : Type 1} → statement M
+reach_reply_spec =
     tie.close (tie.spec (λ c. search rules) (λ c. search rules) (λ c κs. search rules) (λ c κs. search rules) returns returns-2)

@@ -5,6 +5,6 @@ use Rattle.replies.specs.Interface.{reply}
 use Rattle.replies.proofs.refused.Statement.{statement}
 use Rattle.replies.proofs.refused.Tie as tie
 
-pub refused-spec : {M : Type 1} → statement M
-refused-spec =
-    tie.close (tie.spec (λ c κs. search rules) (λ c κs. search rules) (λ c. ap₂ reply c.before.refusal-number.ensures c.refusal-value.ensures))
+pub refused_spec : {M : Type 1} → statement M
+refused_spec =
+    tie.close (tie.spec (λ c κs. search rules) (λ c κs. search rules) (λ c. ap₂ reply c.before.refusal_number.ensures c.refusal_value.ensures))

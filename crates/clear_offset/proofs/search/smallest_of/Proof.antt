@@ -10,60 +10,60 @@ use Rattle.clear_offset.proofs.SearchLaws.{searched_nothing}
 use Rattle.clear_offset.proofs.search.smallest_of.Statement.{statement}
 use Rattle.clear_offset.proofs.search.smallest_of.Tie as tie
 
-abbrev invariant-loop : tie.invariant-loop
+abbrev invariant-loop : tie.invariant-loop-low
 invariant-loop header hazard longest end low₀ high₀ lengths₀ low high lengths = Searched header hazard longest end low high lengths
 
-abbrev decreases-loop : tie.decreases-loop
+abbrev decreases-loop : tie.decreases-loop-low
 decreases-loop header hazard longest end low₀ high₀ lengths₀ low high lengths = lengths
 
-loop-holds : tie.Need-loop-init invariant-loop decreases-loop
+loop-holds : tie.Need-loop-low-init invariant-loop decreases-loop
 loop-holds c =
     let start = c.before.before.before in
-    searched_none _ _ start.requires _ _ (omega (arith, c.min.ensures))
+    searched_none _ _ start.requires _ _ (omega (arith, c.min-end.ensures))
 
-length-at-requires : tie.Need-length-at-requires invariant-loop decreases-loop
+length-at-requires : tie.Need-length_at-length-requires invariant-loop decreases-loop
 length-at-requires c κs =
     let loop = c.before in
     let start = loop.before.before.before.before in
-    (start.requires, middle_free _ _ start.requires _ _ (omega (arith, loop.before.min.ensures)) _ _ _ loop.loop.invariant c.loop-test.true)
+    (start.requires, middle_free _ _ start.requires _ _ (omega (arith, loop.before.min-end.ensures)) _ _ _ loop.loop-low.invariant c.loop-low-test.true)
 
 -- A length may still be worked out in each turn.
-left : (c : tie.In-loop invariant-loop decreases-loop) → 1 ≤ c.before.loop.lengths
+left : (c : tie.In-loop-low invariant-loop decreases-loop) → 1 ≤ c.before.loop-low.lengths
 left c =
     let loop = c.before in
     let start = loop.before.before.before.before in
-    length_left _ _ start.requires _ _ (omega (arith, loop.before.min.ensures)) _ _ _ loop.loop.invariant c.loop-test.true
+    length_left _ _ start.requires _ _ (omega (arith, loop.before.min-end.ensures)) _ _ _ loop.loop-low.invariant c.loop-low-test.true
 
-loop-again : tie.Need-loop-preserved invariant-loop decreases-loop
+loop-again : tie.Need-loop-low-preserved-then-length-longest invariant-loop decreases-loop
 loop-again c =
     let loop = c.before.before.before in
     let start = loop.before.before.before.before in
-    searched_lower _ _ start.requires _ _ (omega (arith, loop.before.min.ensures)) _ _ _ loop.loop.invariant c.before.before.loop-test.true
-    (omega (arith, c.before.length_at.ensures))
+    searched_lower _ _ start.requires _ _ (omega (arith, loop.before.min-end.ensures)) _ _ _ loop.loop-low.invariant c.before.before.loop-low-test.true
+    (omega (arith, c.before.length_at-length.ensures))
 
-loop-again-2 : tie.Need-loop-preserved-2 invariant-loop decreases-loop
+loop-again-2 : tie.Need-loop-low-preserved invariant-loop decreases-loop
 loop-again-2 c =
     let loop = c.before.before.before in
     let start = loop.before.before.before.before in
-    searched_upper _ _ start.requires _ _ (omega (arith, loop.before.min.ensures)) _ _ _ loop.loop.invariant c.before.before.loop-test.true
-    (omega (arith, c.before.length_at.ensures))
+    searched_upper _ _ start.requires _ _ (omega (arith, loop.before.min-end.ensures)) _ _ _ loop.loop-low.invariant c.before.before.loop-low-test.true
+    (omega (arith, c.before.length_at-length.ensures))
 
-returns : tie.Need-returns invariant-loop decreases-loop
+returns : tie.Need-returns-then-low-end invariant-loop decreases-loop
 returns c =
     let loop = c.before.before in
     let start = loop.before.before.before.before in
-    ap accepted (sym (searched_smallest _ _ start.requires _ _ (omega (arith, loop.before.min.ensures)) _ _ _ loop.loop.invariant c.before.loop-test.false
-    c.if2.true))
+    ap accepted (sym (searched_smallest _ _ start.requires _ _ (omega (arith, loop.before.min-end.ensures)) _ _ _ loop.loop-low.invariant c.before.loop-low-test.false
+    c.if-low-end.true))
 
-returns-2 : tie.Need-returns-2 invariant-loop decreases-loop
+returns-2 : tie.Need-returns invariant-loop decreases-loop
 returns-2 c =
     let loop = c.before.before in
     let start = loop.before.before.before.before in
-    ap accepted (sym (searched_nothing _ _ start.requires _ _ (omega (arith, loop.before.min.ensures)) _ _ _ loop.loop.invariant c.before.loop-test.false
-    c.if2.false))
+    ap accepted (sym (searched_nothing _ _ start.requires _ _ (omega (arith, loop.before.min-end.ensures)) _ _ _ loop.loop-low.invariant c.before.loop-low-test.false
+    c.if-low-end.false))
 
-pub smallest-of-spec : {M : Type 1} → statement M
-smallest-of-spec =
+pub smallest_of_spec : {M : Type 1} → statement M
+smallest_of_spec =
     tie.close
     (tie.spec
     invariant-loop

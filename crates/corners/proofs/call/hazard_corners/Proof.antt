@@ -11,21 +11,21 @@ use Rattle.corners.specs.Reply.{corners_replied}
 use Rattle.corners.proofs.call.hazard_corners.Statement.{statement}
 use Rattle.corners.proofs.call.hazard_corners.Tie as tie
 
-approach-lengths-requires : tie.Need-approach-lengths-requires
+approach-lengths-requires : tie.Need-approach_lengths-lengths-requires
 approach-lengths-requires c κs =
     let s = c.before in
     let a = s.args in
     let w = s.requires.0 in
     let side = (hazard_bounds a.header a.hazard w.hazard).side in
     let reach = adjacent_reaches_lem a.header a.hazard side ∙ lt-ltb a.hazard.near a.header.zone w.reach in
-    (w.header, (w.hazard, (w.clear, rw c.adjacent-traffic.ensures ((is_adjacent a.header a.hazard.side side).beside, reach))))
+    (w.header, (w.hazard, (w.clear, rw c.adjacent_traffic-traffic.ensures ((is_adjacent a.header a.hazard.side side).beside, reach))))
 
 returns : tie.Need-returns
 returns c =
     let a = c.before.before.before.args in
-    c.approach-corners.ensures
+    c.approach_corners.ensures
     ∙ ap (λ (t : Traffic). corners_replied (accepted (approach_points a.sheet.station a.sheet.offset a.header a.hazard t)))
-    c.before.before.adjacent-traffic.ensures
+    c.before.before.adjacent_traffic-traffic.ensures
 
-pub hazard-corners-spec : {M : Type 1} → statement M
-hazard-corners-spec = tie.close (tie.spec (λ c κs. search rules) approach-lengths-requires (λ c κs. search rules) returns)
+pub hazard_corners_spec : {M : Type 1} → statement M
+hazard_corners_spec = tie.close (tie.spec (λ c κs. search rules) approach-lengths-requires (λ c κs. search rules) returns)

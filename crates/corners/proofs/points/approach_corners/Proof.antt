@@ -22,53 +22,53 @@ corner-fits s distance offset near top =
       (top, s.requires.1.1.1),
     )
 
-sub-away : tie.Need-overflow-sub-away
+sub-away : tie.Need-overflow_sub-away
 sub-away c =
     let s = c.before.before.before.before.before in
-    omega (arith, lengths_past_straight s.requires.1.1.0 c.before.if1.true)
+    omega (arith, lengths_past_straight s.requires.1.1.0 c.before.if-header-straight.true)
 
-mul-away : tie.Need-overflow-mul-away
+mul-away : tie.Need-overflow_mul-away
 mul-away c =
     let s = c.before.before.before.before.before.before in
     omega (arith, across_top s.args.header s.requires.0 s.args.lengths s.requires.1.1.0.few)
 
-add-corner-at : tie.Need-overflow-add-corner-at
+add-corner-at : tie.Need-overflow_add-offset
 add-corner-at c =
     let s = c.before.before.before.before.before.before.before in
     omega (arith, (header s).offset_top, away_top s.args.header s.requires.0 s.args.lengths s.requires.1.1.0.few)
 
-corner-at-requires-2 : tie.Need-corner-at-requires-2
+corner-at-requires-2 : tie.Need-corner_at-requires
 corner-at-requires-2 c κs =
     let s = c.before.before.before.before.before.before.before in
     corner-fits s _ _ (omega (arith, s.requires.1.1.0.few))
     (omega (arith, (header s).offset_top, away_top s.args.header s.requires.0 s.args.lengths s.requires.1.1.0.few))
 
-corner-at-requires-3 : tie.Need-corner-at-requires-3
+corner-at-requires-3 : tie.Need-corner_at-requires-then-header-straight
 corner-at-requires-3 c κs =
     let s = c.before.before.before.before.before.before.before.before in
     corner-fits s _ _ (omega (arith, (header s).straight_top)) (omega (arith, (header s).offset_top))
 
-corner-at-requires-4 : tie.Need-corner-at-requires-4
+corner-at-requires-4 : tie.Need-corner_at-upstream-requires
 corner-at-requires-4 c κs =
     let s = c.before.before.before.before in
     corner-fits s _ _ (omega (arith, s.requires.1.1.0.few)) (omega (arith, (header s).offset_top))
 
-returns : tie.Need-returns
+returns : tie.Need-returns-then-header-straight
 returns c =
     let b = c.before.before.before.before.before in
     let s = b.before.before.before.before in
-    approach_reply _ _ _ _ (traffic_of s.args.traffic) _ s.requires.1.1.0 true b.if1.true _ refl c.before.corner-at2.ensures
-    c.corner-at3.ensures b.before.before.before.corner-at.ensures
+    approach_reply _ _ _ _ (traffic_of s.args.traffic) _ s.requires.1.1.0 true b.if-header-straight.true _ refl c.before.corner_at.ensures
+    c.corner_at-then-header-straight.ensures b.before.before.before.corner_at-end.ensures
 
-returns-2 : tie.Need-returns-2
+returns-2 : tie.Need-returns
 returns-2 c =
     let b = c.before in
     let s = b.before.before.before.before in
-    approach_reply _ _ _ _ (traffic_of s.args.traffic) _ s.requires.1.1.0 false b.if1.false _ refl c.corner-at4.ensures c.corner-at4.ensures
-    b.before.before.before.corner-at.ensures
+    approach_reply _ _ _ _ (traffic_of s.args.traffic) _ s.requires.1.1.0 false b.if-header-straight.false _ refl c.corner_at-upstream.ensures c.corner_at-upstream.ensures
+    b.before.before.before.corner_at-end.ensures
 
-pub approach-corners-spec : {M : Type 1} → statement M
-approach-corners-spec =
+pub approach_corners_spec : {M : Type 1} → statement M
+approach_corners_spec =
     tie.close
     (tie.spec (λ c κs. corner-fits c _ _ (omega arith) (omega (arith, (header c).offset_top))) sub-away mul-away
     (λ c. omega (arith, (header c.before.before.before.before.before.before.before).along_low)) add-corner-at corner-at-requires-2 corner-at-requires-3

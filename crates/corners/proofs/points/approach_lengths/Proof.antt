@@ -6,18 +6,18 @@ use Rattle.corners.proofs.PointLaws.{asked_domain, asked_lengths}
 use Rattle.corners.proofs.points.approach_lengths.Statement.{statement}
 use Rattle.corners.proofs.points.approach_lengths.Tie as tie
 
-approach-length-requires : tie.Need-approach-length-requires
+approach-length-requires : tie.Need-approach_length-before-requires
 approach-length-requires c κs =
     let s = c.before.before in
     asked_domain s.args.header s.args.hazard (traffic_of s.args.traffic) s.requires.0 s.requires.1.0 s.requires.1.1.0 s.requires.1.1.1.0
-    s.requires.1.1.1.1 c.before.runout-length.ensures c.adjacent-reach.ensures
+    s.requires.1.1.1.1 c.before.runout_length-runout.ensures c.adjacent_reach-reach.ensures
 
-raised-length-requires : tie.Need-raised-length-requires
+raised-length-requires : tie.Need-raised_length-raised-requires
 raised-length-requires c κs =
     let s = c.before.before.before in
     let fits = s.requires.0 in
     let domain = asked_domain s.args.header s.args.hazard (traffic_of s.args.traffic) fits s.requires.1.0 s.requires.1.1.0 s.requires.1.1.1.0
-    s.requires.1.1.1.1 c.before.before.runout-length.ensures c.before.adjacent-reach.ensures in
+    s.requires.1.1.1.1 c.before.before.runout_length-runout.ensures c.before.adjacent_reach-reach.ensures in
     let bounds = header_bounds s.args.header fits in
     (bounds.panel_low, (bounds.panel_top, domain))
 
@@ -26,8 +26,8 @@ returns c =
     let s = c.before.before.before.before in
     asked_lengths s.args.header s.args.hazard (traffic_of s.args.traffic) s.requires.0 s.requires.1.0 s.requires.1.1.0 s.requires.1.1.1.0
     s.requires.1.1.1.1
-    c.before.before.before.runout-length.ensures c.before.before.adjacent-reach.ensures c.before.approach-length.ensures
-    c.raised-length.ensures
+    c.before.before.before.runout_length-runout.ensures c.before.before.adjacent_reach-reach.ensures c.before.approach_length-before.ensures
+    c.raised_length-raised.ensures
 
-pub approach-lengths-spec : {M : Type 1} → statement M
-approach-lengths-spec = tie.close (tie.spec (λ c κs. search rules) (λ c κs. search rules) approach-length-requires raised-length-requires returns)
+pub approach_lengths_spec : {M : Type 1} → statement M
+approach_lengths_spec = tie.close (tie.spec (λ c κs. search rules) (λ c κs. search rules) approach-length-requires raised-length-requires returns)

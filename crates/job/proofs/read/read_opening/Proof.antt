@@ -10,27 +10,20 @@ use Rattle.job.proofs.read.read_opening.Statement.{statement}
 use Rattle.job.proofs.read.read_opening.Tie as tie
 
 -- The header was read.
-read : (c : tie.After-header) → header_at c.before.before.before.before.args.s.now
-    ≡ accepted (record { header = c.header.given.0.0; next = c.header.given.0.1.0 })
-read c = sym c.before.before.read-header.ensures ∙ ap header_answer c.header.given.1
+read : (c : tie.In-Header) → header_at c.args.s.now
+    ≡ accepted (record { header = c.in-Header.header; next = c.in-Header.next })
+read c = sym c.read_header.ensures ∙ ap header_answer c.in-Header.is
 
-returns : tie.Need-returns
-returns c =
-    let counted = opening_counted _ (read c.before.before.before.before) c.before.if1.true in
-    ap (λ (n : ℕ). refused 3 n) c.header_size_lem.ensures ∙ sym counted
+returns : tie.Need-returns-in-Refused
+returns c = sym (opening_unread _ c.in-Refused.refusal (sym c.read_header.ensures ∙ ap header_answer c.in-Refused.is))
 
-returns-2 : tie.Need-returns-2
-returns-2 c = sym (opening_over _ (read c.before.before.before.before) (omega (arith, c.before.if1.false)) c.if2.true)
-
-returns-3 : tie.Need-returns-3
-returns-3 c = sym (opening_done _ (read c.before.before.before.before) (omega (arith, c.before.if1.false)) c.if2.false)
-
-returns-4 : tie.Need-returns-4
-returns-4 c =
-    let r = c.before.before.before in
-    sym (opening_unread _ c.before.refusal.given.0.0 (sym r.read-header.ensures ∙ ap header_answer c.before.refusal.given.1))
-
-pub read-opening-spec : {M : Type 1} → statement M
-read-opening-spec =
+-- The test of the count has no name here, so that one of another count is refused for what it says.
+pub read_opening_spec : {M : Type 1} → statement M
+read_opening_spec =
     tie.close
-    (tie.spec (λ c κs. search rules) (λ c. search rules) (λ c κs. search rules) returns returns-2 (λ c. search rules) returns-3 returns-4)
+    (tie.spec (λ c κs. search rules) (λ c. search rules) (λ c κs. search rules)
+    (λ c. ap (λ (n : ℕ). refused 3 n) c.header_size.ensures ∙ sym (opening_counted _ (read c.before.before.before) (omega arith)))
+    (λ c. sym (opening_over _ (read c.before.before.before) (omega arith) c.if-next-s.true))
+    (λ c. search rules)
+    (λ c. sym (opening_done _ (read c.before.before.before) (omega arith) c.if-next-s.false))
+    returns)

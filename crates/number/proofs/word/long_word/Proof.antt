@@ -18,11 +18,11 @@ returns c =
     let there = c.before.before.before.before.requires in
     let n = length s - a.at in
     let low : c.before.word.result ≡ word_at s (a.at + 0) = c.before.word.ensures.0 ∙ word_behind s a.at n 0 (omega (arith, there)) in
-    let high : c.word2.result ≡ word_at s (a.at + 4) = c.word2.ensures.0 ∙ word_behind s a.at n 4 (omega (arith, there)) in
+    let high : c.word-2.result ≡ word_at s (a.at + 4) = c.word-2.ensures.0 ∙ word_behind s a.at n 4 (omega (arith, there)) in
     ap₂ (λ (l h : ℕ). l + h * 4294967296) (low ∙ ap (word_at s) (add-zero a.at)) high
 
-pub long-word-spec : {M : Type 1} → statement M
-long-word-spec =
+pub long_word_spec : {M : Type 1} → statement M
+long_word_spec =
     tie.close
     (tie.spec (λ c. search rules) (λ c. search rules) (λ c. search rules) (λ c κs. search rules) (λ c κs. search rules) (λ c. search rules)
     (λ c. search rules) returns)

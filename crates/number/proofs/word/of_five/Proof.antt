@@ -13,5 +13,5 @@ returns c =
     let last = number_last 3 w {v = w / 4294967296} c.of_four.ensures.0 (omega arith) in
     (last, rw last (number_under 4 w))
 
-pub of-five-spec : {M : Type 1} → statement M
-of-five-spec = tie.close (tie.spec (λ c κs. search rules) (λ c. search rules) (λ c. search rules) returns)
+pub of_five_spec : {M : Type 1} → statement M
+of_five_spec = tie.close (tie.spec (λ c κs. search rules) (λ c. search rules) (λ c. search rules) returns)

@@ -5,5 +5,5 @@ use Rattle.number.proofs.WordLaws.{four_made}
 use Rattle.number.proofs.word.of_four.Statement.{statement}
 use Rattle.number.proofs.word.of_four.Tie as tie
 
-pub of-four-spec : {M : Type 1} → statement M
-of-four-spec = tie.close (tie.spec (λ c κs. search rules) (λ c. search rules) (λ c. search rules) (λ c. four_made _ _ c.twos.ensures.0))
+pub of_four_spec : {M : Type 1} → statement M
+of_four_spec = tie.close (tie.spec (λ c κs. search rules) (λ c. search rules) (λ c. search rules) (λ c. four_made _ _ c.twos-pairs.ensures.0))

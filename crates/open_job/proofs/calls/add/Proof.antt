@@ -6,10 +6,10 @@ use Rattle.open_job.proofs.calls.add.Statement.{statement}
 use Rattle.open_job.proofs.calls.add.Tie as tie
 
 add-requires : tie.Need-add-requires
-add-requires c κs e = and_left _ _ (sym c.keeps-rules.ensures ∙ e)
+add-requires c κs e = and_left _ _ (sym c.keeps_rules.ensures ∙ e)
 
 returns : tie.Need-returns
-returns c = rw c.before.keeps-rules.ensures at c.add.ensures
+returns c = rw c.before.keeps_rules.ensures at c.add.ensures
 
 pub add_spec : {M : Type 1} → statement M
 add_spec = tie.close (tie.spec (λ c κs. search rules) add-requires returns)

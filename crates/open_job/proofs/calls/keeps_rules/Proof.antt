@@ -6,7 +6,7 @@ use Rattle.open_job.proofs.calls.keeps_rules.Statement.{statement}
 use Rattle.open_job.proofs.calls.keeps_rules.Tie as tie
 
 returns : tie.Need-returns
-returns c = ap (λ (b : Bool). b && c.before.args.sound) c.is-open-job.ensures
+returns c = ap (λ (b : Bool). b && c.before.args.sound) c.is_open_job.ensures
 
-pub keeps-rules-spec : {M : Type 1} → statement M
-keeps-rules-spec = tie.close (tie.spec (λ c κs. search rules) returns)
+pub keeps_rules_spec : {M : Type 1} → statement M
+keeps_rules_spec = tie.close (tie.spec (λ c κs. search rules) returns)

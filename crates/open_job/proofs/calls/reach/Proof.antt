@@ -6,10 +6,10 @@ use Rattle.open_job.proofs.calls.reach.Statement.{statement}
 use Rattle.open_job.proofs.calls.reach.Tie as tie
 
 reach-requires : tie.Need-reach-requires
-reach-requires c κs e = and_left _ _ (sym c.keeps-rules.ensures ∙ e)
+reach-requires c κs e = and_left _ _ (sym c.keeps_rules.ensures ∙ e)
 
 returns : tie.Need-returns
-returns c = rw c.before.keeps-rules.ensures at c.reach.ensures
+returns c = rw c.before.keeps_rules.ensures at c.reach.ensures
 
-pub reach-spec : {M : Type 1} → statement M
-reach-spec = tie.close (tie.spec (λ c κs. search rules) reach-requires returns)
+pub reach_spec : {M : Type 1} → statement M
+reach_spec = tie.close (tie.spec (λ c κs. search rules) reach-requires returns)

@@ -4,7 +4,7 @@ use Rattle.open_job.proofs.calls.return_to.Statement.{statement}
 use Rattle.open_job.proofs.calls.return_to.Tie as tie
 
 returns : tie.Need-returns
-returns c = rw c.before.keeps-rules.ensures at c.return-to.ensures
+returns c = rw c.before.keeps_rules.ensures at c.return_to.ensures
 
-pub return-to-spec : {M : Type 1} → statement M
-return-to-spec = tie.close (tie.spec (λ c κs. search rules) (λ c κs. search rules) returns)
+pub return_to_spec : {M : Type 1} → statement M
+return_to_spec = tie.close (tie.spec (λ c κs. search rules) (λ c κs. search rules) returns)

@@ -6,10 +6,10 @@ use Rattle.open_job.proofs.calls.schedule.Statement.{statement}
 use Rattle.open_job.proofs.calls.schedule.Tie as tie
 
 schedule-requires : tie.Need-schedule-requires
-schedule-requires c κs e = and_left _ _ (sym c.before.keeps-rules.ensures ∙ e)
+schedule-requires c κs e = and_left _ _ (sym c.before.keeps_rules.ensures ∙ e)
 
 returns : tie.Need-returns
-returns c = rw c.before.before.before.before.keeps-rules.ensures at c.before.before.schedule.ensures
+returns c = rw c.before.before.before.before.keeps_rules.ensures at c.before.before.schedule.ensures
 
-pub schedule-spec : {M : Type 1} → statement M
-schedule-spec = tie.close (tie.spec (λ c κs. search rules) schedule-requires (λ c. search rules) returns)
+pub schedule_spec : {M : Type 1} → statement M
+schedule_spec = tie.close (tie.spec (λ c κs. search rules) schedule-requires (λ c. search rules) returns)

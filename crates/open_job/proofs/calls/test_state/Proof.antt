@@ -4,7 +4,7 @@ use Rattle.open_job.proofs.calls.test_state.Statement.{statement}
 use Rattle.open_job.proofs.calls.test_state.Tie as tie
 
 returns : tie.Need-returns
-returns c = rw c.before.keeps-rules.ensures at c.test-state.ensures
+returns c = rw c.before.keeps_rules.ensures at c.test_state.ensures
 
-pub test-state-spec : {M : Type 1} → statement M
-test-state-spec = tie.close (tie.spec (λ c κs. search rules) (λ c κs. search rules) returns)
+pub test_state_spec : {M : Type 1} → statement M
+test_state_spec = tie.close (tie.spec (λ c κs. search rules) (λ c κs. search rules) returns)

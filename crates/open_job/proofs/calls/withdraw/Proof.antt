@@ -6,10 +6,10 @@ use Rattle.open_job.proofs.calls.withdraw.Statement.{statement}
 use Rattle.open_job.proofs.calls.withdraw.Tie as tie
 
 withdraw-requires : tie.Need-withdraw-requires
-withdraw-requires c κs e = and_left _ _ (sym c.keeps-rules.ensures ∙ e)
+withdraw-requires c κs e = and_left _ _ (sym c.keeps_rules.ensures ∙ e)
 
 returns : tie.Need-returns
-returns c = rw c.before.keeps-rules.ensures at c.withdraw.ensures
+returns c = rw c.before.keeps_rules.ensures at c.withdraw.ensures
 
-pub withdraw-spec : {M : Type 1} → statement M
-withdraw-spec = tie.close (tie.spec (λ c κs. search rules) withdraw-requires returns)
+pub withdraw_spec : {M : Type 1} → statement M
+withdraw_spec = tie.close (tie.spec (λ c κs. search rules) withdraw-requires returns)

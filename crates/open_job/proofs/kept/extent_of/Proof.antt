@@ -4,17 +4,17 @@ use Rattle.open_job.specs.Parts.{extent_of}
 use Rattle.open_job.proofs.kept.extent_of.Statement.{statement}
 use Rattle.open_job.proofs.kept.extent_of.Tie as tie
 
-returns : tie.Need-returns
+returns : tie.Need-returns-then-limits-count
 unfolding extent_of
-returns c = rw (eq-eqb _ 1 c.before.before.if1.true, c.if2.true)
+returns c = rw (eq-eqb _ 1 c.before.before.if-used-eq1.true, c.if-limits-count.true)
 
-returns-2 : tie.Need-returns-2
+returns-2 : tie.Need-returns-else-limits-count
 unfolding extent_of
-returns-2 c = rw (eq-eqb _ 1 c.before.before.if1.true, c.if2.false)
+returns-2 c = rw (eq-eqb _ 1 c.before.before.if-used-eq1.true, c.if-limits-count.false)
 
-returns-3 : tie.Need-returns-3
+returns-3 : tie.Need-returns-else-used-eq1
 unfolding extent_of
-returns-3 c = rw (ne_eqb _ 1 c.if1.false)
+returns-3 c = rw (ne_eqb _ 1 c.if-used-eq1.false)
 
-pub extent-of-spec : {M : Type 1} → statement M
-extent-of-spec = tie.close (tie.spec returns returns-2 returns-3)
+pub extent_of_spec : {M : Type 1} → statement M
+extent_of_spec = tie.close (tie.spec returns returns-2 returns-3)

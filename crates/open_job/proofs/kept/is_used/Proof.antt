@@ -8,5 +8,5 @@ returns : tie.Need-returns
 unfolding is_used
 returns c = refl
 
-pub is-used-spec : {M : Type 1} → statement M
-is-used-spec = tie.close (tie.spec returns)
+pub is_used_spec : {M : Type 1} → statement M
+is_used_spec = tie.close (tie.spec returns)

@@ -1,8 +1,9 @@
 -- `open_job::tested::add_named` meets its contract: the name, the room, then the tests of the hazard, and then it is put in. Assumes nothing.
+use Prim.Native.Nat.{◌<◌}
 use native.Mathlib.Omega.{arith}
 use mathlib.Core.Path.{◌≡◌, refl, sym, ap, ◌∙◌}
 use mathlib.Core.Bool.{false}
-use lib.ListN.{length, length-map}
+use lib.ListN.{length}
 use borrow.Author.Rules.{rules}
 use borrow.Author.Tests.{le-leb, lt-leb}
 use Rattle.base.specs.Answer.{accepted}
@@ -20,89 +21,84 @@ use Rattle.open_job.proofs.tested.add_named.Tie as tie
 
 -- How long the array is.
 size : (c : tie.Start) → length c.args.job.hazards ≡ 256
-size c = simp length-map at c.well-formed.0.1.1.1.0.1.0.1
+size c = c.well_formed.0.1.1.1.0.1.0.1
 
-place-of-requires : tie.Need-place-of-requires
+place-of-requires : tie.Need-place_of-at-requires
 place-of-requires c κs = open_count c.args.job c.requires
 
-stands-at-requires : tie.Need-stands-at-requires
-stands-at-requires c κs = (c.before.requires, c.place_of.ensures)
+stands-at-requires : tie.Need-stands_at-requires
+stands-at-requires c κs = (c.before.requires, c.place_of-at.ensures)
 
-returns : tie.Need-returns
+returns : tie.Need-returns-then-stands_at
 unfolding add_to
 returns c =
     let t = c.before in
     let s = t.before.before.before in
-    rw (sym t.before.stands_at.ensures ∙ t.if1.true) (changes_refused s.args.job (Name s.args.name) refl c.unchanged.ensures)
+    rw (sym t.before.stands_at.ensures ∙ t.if-stands_at.true) (changes_refused s.args.job (Name s.args.name) refl c.unchanged.ensures)
 
 -- The name does not stand.
-fresh : (c : tie.Else1) → let a = c.before.before.before.args in stands a.name (standing a.job) ≡ false
-fresh c = sym c.before.stands_at.ensures ∙ c.if1.false
+fresh : (c : tie.Else-stands_at) → let a = c.before.before.before.args in stands a.name (standing a.job) ≡ false
+fresh c = sym c.before.stands_at.ensures ∙ c.if-stands_at.false
 
 -- Fewer than 256 stand.
-room : (c : tie.Else2) → let a = c.before.before.before.before.before.before.args in is_full (standing a.job) ≡ false
-room c =
-    let s = c.before.before.before.before.before.before in
-    full_count s.args.job s.requires (size s) ∙ lt-leb 256 s.args.job.header.count (omega arith)
+room : (s : tie.Start) → s.args.job.header.count < 256 → is_full (standing s.args.job) ≡ false
+room s few = full_count s.args.job s.requires (size s) ∙ lt-leb 256 s.args.job.header.count few
 
-returns-2 : tie.Need-returns-2
-unfolding add_to
-returns-2 c =
-    let t = c.before in
-    let e = t.before.before.before in
-    let s = e.before.before.before in
-    rw (fresh e, full_count s.args.job s.requires (size s) ∙ le-leb 256 s.args.job.header.count t.if2.true)
-    (changes_refused s.args.job Full refl c.unchanged2.ensures)
-
-test-given-requires : tie.Need-test-given-requires
+test-given-requires : tie.Need-test_given-outcome-requires
 test-given-requires c κs = let s = c.before.before.before.before.before.before in open_header s.args.job s.requires
 
-may : (c : tie.After-enum-told) → let a = c.before.before.before.before.before.before.before.before.before.args in
+may : (c : tie.In-Done) → let a = c.args in
     accepted tt ≡ admit a.job.header a.name (hazard_given a.hazard)
-may c = ap (λ (o : Outcome). outcome o tt) (sym c.enum_told.given.1) ∙ c.before.before.test-given.ensures
+may c = ap (λ (o : Outcome). outcome o tt) (sym c.in-Done.is) ∙ c.test_given-outcome.ensures
 
-under-name-requires : tie.Need-under-name-requires
+under-name-requires : tie.Need-under_name-new-requires
 under-name-requires c κs =
-    let s = c.before.before.before.before.before.before.before.before.before in
+    let s = c in
     let z = hazard_given s.args.hazard in
     (open_header s.args.job s.requires, (admitted s.args.job.header s.args.name z (rw (sym (may c)))).fits)
 
-put-in-requires : tie.Need-put-in-requires
+put-in-requires : tie.Need-put_in-requires
 put-in-requires c κs =
-    let t = c.before in
+    let t = c in
     let e = t.before.before.before.before.before.before in
     let s = e.before.before.before in
     let few = open_count s.args.job s.requires in
-    let at = e.before.before.place_of.ensures in (
+    let at = e.before.before.place_of-at.ensures in (
       open_clear s.args.job s.requires (size s),
       (
-        omega (arith, t.before.before.before.if2.false),
+        omega arith,
         omega (arith, rank_most s.args.name (standing s.args.job), standing_length s.args.job (size s) few),
       ),
     )
 
-returns-3 : tie.Need-returns-3
+returns-3 : tie.Need-returns-in-Done
 returns-3 c =
     let t = c.before.before in
-    let e = t.before.before.before.before.before.before in
+    let e = t.before.before.before.before.before in
     let s = e.before.before.before in
-    let done = add_done s.args.job s.requires s.args.name (hazard_given s.args.hazard) (fresh e) (room t.before.before.before) (may t)
-    _ e.before.before.place_of.ensures in
-    rw (c.put_in.ensures, c.before.under_name.ensures) (changes_done s.args.job done)
+    let done = add_done s.args.job s.requires s.args.name (hazard_given s.args.hazard) (fresh e) (room s (omega arith)) (may t)
+    _ e.before.before.place_of-at.ensures in
+    rw (c.put_in.ensures, c.before.under_name-new.ensures) (changes_done s.args.job done)
 
-returns-4 : tie.Need-returns-4
+returns-4 : tie.Need-returns-in-Refused
 unfolding add_to
 returns-4 c =
-    let x = c.before.before.outcome.given in
-    let r = c.before.before.before.before in
-    let e = r.before.before.before.before in
+    let r = c in
+    let e = r.before.before.before.before.before.before in
     let s = e.before.before.before in
-    rw (fresh e, room r.before, sym r.test-given.ensures ∙ ap (λ (o : Outcome). outcome o tt) x.1)
-    (changes_refused s.args.job x.0.0 refl c.unchanged3.ensures)
+    rw (fresh e, room s (omega arith), sym r.test_given-outcome.ensures ∙ ap (λ (o : Outcome). outcome o tt) c.in-Refused.is)
+    (changes_refused s.args.job c.in-Refused.refusal refl c.unchanged-in-Refused.ensures)
 
-pub add-named-spec : {M : Type 1} → statement M
-add-named-spec =
+-- The test of the count has no name here, so that one of another count is refused for what it says.
+pub add_named_spec : {M : Type 1} → statement M
+unfolding add_to
+add_named_spec =
     tie.close
-    (tie.spec place-of-requires stands-at-requires (λ c κs. search rules) returns (λ c κs. search rules) returns-2 test-given-requires (λ c. search rules)
-    under-name-requires put-in-requires (λ c. search rules)
+    (tie.spec place-of-requires stands-at-requires (λ c κs. search rules) returns (λ c κs. search rules)
+    (λ c.
+    let e = c.before.before.before.before in
+    let s = e.before.before.before in
+    rw (fresh e, full_count s.args.job s.requires (size s) ∙ le-leb 256 s.args.job.header.count (omega arith))
+    (changes_refused s.args.job Full refl (search rules)))
+    test-given-requires (λ c. search rules) under-name-requires put-in-requires (λ c. search rules)
     (λ c κs. search rules) returns-3 returns-4)

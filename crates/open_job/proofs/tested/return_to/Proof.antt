@@ -14,42 +14,41 @@ abbrev answered : Outcome → Answer (Unit {0})
 answered o = outcome o tt
 
 -- The tests pass.
-may : (c : tie.After-enum-told) → let a = c.before.before.before.args in under_rules a.passed (test_state a.number) ≡ accepted tt
-may c = sym c.before.before.test-state.ensures ∙ ap answered c.enum_told.given.1
+may : (c : tie.In-Done) → let a = c.args in under_rules a.passed (test_state a.number) ≡ accepted tt
+may c = sym c.test_state-outcome.ensures ∙ ap answered c.in-Done.is
 
-returns : tie.Need-returns
+returns : tie.Need-returns-then-is_used
 returns c =
     let t = c.before.before.before.before in
-    let a = t.before.before.before.args in
+    let a = t.args in
     rw (
       return_tested a.passed a.job.header a.number a.kept,
       may t,
-      sym c.before.before.before.is-used.ensures ∙ c.before.before.if1.true,
-      c.state-of.ensures,
+      sym c.before.before.before.is_used.ensures ∙ c.before.before.if-is_used.true,
+      c.state_of.ensures,
     )
     (changes_done _ refl)
 
-returns-2 : tie.Need-returns-2
+returns-2 : tie.Need-returns-else-is_used
 returns-2 c =
     let t = c.before.before.before in
-    let a = t.before.before.before.args in
+    let a = t.args in
     rw (
       return_tested a.passed a.job.header a.number a.kept,
       may t,
-      sym c.before.before.is-used.ensures ∙ c.before.if1.false,
+      sym c.before.before.is_used.ensures ∙ c.before.if-is_used.false,
     )
     (changes_refused _ State refl c.unchanged.ensures)
 
-returns-3 : tie.Need-returns-3
+returns-3 : tie.Need-returns-in-Refused
 returns-3 c =
-    let x = c.before.before.outcome.given in
-    let t = c.before.before.before.before in
-    let a = t.before.args in
-    rw (return_tested a.passed a.job.header a.number a.kept, sym t.test-state.ensures ∙ ap answered x.1)
-    (changes_refused _ x.0.0 refl c.unchanged2.ensures)
+    let t = c in
+    let a = t.args in
+    rw (return_tested a.passed a.job.header a.number a.kept, sym t.test_state-outcome.ensures ∙ ap answered c.in-Refused.is)
+    (changes_refused _ c.in-Refused.refusal refl c.unchanged-in-Refused.ensures)
 
-pub return-to-spec : {M : Type 1} → statement M
-return-to-spec =
+pub return_to_spec : {M : Type 1} → statement M
+return_to_spec =
     tie.close
     (tie.spec (λ c κs. search rules) (λ c. search rules) (λ c κs. search rules) (λ c κs. search rules) (λ c κs. search rules) (λ c. search rules)
     (λ c κs. search rules) returns returns-2 returns-3)

@@ -4,14 +4,10 @@ use borrow.Author.Tests.{le-leb, lt-leb}
 use Rattle.open_job.proofs.tested.test_state.Statement.{statement}
 use Rattle.open_job.proofs.tested.test_state.Tie as tie
 
-returns : tie.Need-returns
-returns c = rw (c.before.if1.true, le-leb c.before.before.args.number 7 c.if2.true)
-
-returns-2 : tie.Need-returns-2
-returns-2 c = rw (c.before.if1.true, lt-leb c.before.before.args.number 7 (omega (arith, c.if2.false)))
-
-returns-3 : tie.Need-returns-3
-returns-3 c = rw c.if1.false
-
-pub test-state-spec : {M : Type 1} → statement M
-test-state-spec = tie.close (tie.spec returns returns-2 returns-3)
+-- The test of the number has no name here, so that one of another number is refused for what it says.
+pub test_state_spec : {M : Type 1} → statement M
+test_state_spec =
+    tie.close
+    (tie.spec (λ c. rw (c.before.if-passed.true, le-leb c.before.before.args.number 7 (omega arith)))
+    (λ c. rw (c.before.if-passed.true, lt-leb c.before.before.args.number 7 (omega arith)))
+    (λ c. rw c.if-passed.false))

@@ -6,5 +6,5 @@ use Rattle.open_job.proofs.tested.unchanged.Tie as tie
 returns : tie.Need-returns
 returns c = refl
 
-pub unchanged-spec : {M : Type 1} → statement M
-unchanged-spec = tie.close (tie.spec returns)
+pub unchanged_spec : {M : Type 1} → statement M
+unchanged_spec = tie.close (tie.spec returns)

@@ -2,7 +2,7 @@
 use native.Mathlib.Omega.{arith}
 use mathlib.Core.Path.{◌≡◌, refl, sym, ◌∙◌}
 use mathlib.Core.Bool.{true}
-use lib.ListN.{length, length-map}
+use lib.ListN.{length}
 use borrow.Author.Rules.{rules}
 use Rattle.refusal.specs.declared.Refusal.TheVariants.{Name}
 use Rattle.open_memory.specs.Memory.{standing, stands}
@@ -16,22 +16,22 @@ use Rattle.open_job.proofs.tested.withdraw_named.Tie as tie
 
 -- How long the array is.
 size : (c : tie.Start) → length c.args.job.hazards ≡ 256
-size c = simp length-map at c.well-formed.0.1.1.1.0.1.0.1
+size c = c.well_formed.0.1.1.1.0.1.0.1
 
-place-of-requires : tie.Need-place-of-requires
+place-of-requires : tie.Need-place_of-at-requires
 place-of-requires c κs = open_count c.args.job c.requires
 
-stands-at-requires : tie.Need-stands-at-requires
-stands-at-requires c κs = (c.before.requires, c.place_of.ensures)
+stands-at-requires : tie.Need-stands_at-requires
+stands-at-requires c κs = (c.before.requires, c.place_of-at.ensures)
 
-there : (c : tie.Then1) → let a = c.before.before.before.args in stands a.name (standing a.job) ≡ true
-there c = sym c.before.stands_at.ensures ∙ c.if1.true
+there : (c : tie.Then-stands_at) → let a = c.before.before.before.args in stands a.name (standing a.job) ≡ true
+there c = sym c.before.stands_at.ensures ∙ c.if-stands_at.true
 
-taken-out-requires : tie.Need-taken-out-requires
+taken-out-requires : tie.Need-taken_out-requires
 taken-out-requires c κs =
     let s = c.before.before.before in
     let few = open_count s.args.job s.requires in
-    let at = c.before.before.place_of.ensures in (
+    let at = c.before.before.place_of-at.ensures in (
       open_clear s.args.job s.requires (size s),
       (
         few,
@@ -43,19 +43,19 @@ taken-out-requires c κs =
       ),
     )
 
-returns : tie.Need-returns
+returns : tie.Need-returns-then-stands_at
 returns c =
     let t = c.before in
     let s = t.before.before.before in
     rw c.taken_out.ensures (changes_done s.args.job
-    (withdraw_done s.args.job s.requires s.args.name (there t) _ t.before.before.place_of.ensures))
+    (withdraw_done s.args.job s.requires s.args.name (there t) _ t.before.before.place_of-at.ensures))
 
-returns-2 : tie.Need-returns-2
+returns-2 : tie.Need-returns-else-stands_at
 unfolding withdraw_from
 returns-2 c =
     let t = c.before in
     let s = t.before.before.before in
-    rw (sym t.before.stands_at.ensures ∙ t.if1.false) (changes_refused s.args.job (Name s.args.name) refl c.unchanged.ensures)
+    rw (sym t.before.stands_at.ensures ∙ t.if-stands_at.false) (changes_refused s.args.job (Name s.args.name) refl c.unchanged.ensures)
 
-pub withdraw-named-spec : {M : Type 1} → statement M
-withdraw-named-spec = tie.close (tie.spec place-of-requires stands-at-requires taken-out-requires (λ c κs. search rules) returns returns-2)
+pub withdraw_named_spec : {M : Type 1} → statement M
+withdraw_named_spec = tie.close (tie.spec place-of-requires stands-at-requires taken-out-requires (λ c κs. search rules) returns returns-2)

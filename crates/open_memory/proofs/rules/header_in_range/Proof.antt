@@ -6,7 +6,7 @@ use Rattle.open_memory.proofs.rules.header_in_range.Statement.{statement}
 use Rattle.open_memory.proofs.rules.header_in_range.Tie as tie
 
 returns : tie.Need-returns
-returns c = rw (c.last-in-range.ensures, c.before.shared-in-range.ensures) (sym (header_parts _))
+returns c = rw (c.last_in_range.ensures, c.before.shared_in_range.ensures) (sym (header_parts _))
 
-pub header-in-range-spec : {M : Type 1} → statement M
-header-in-range-spec = tie.close (tie.spec (λ c κs. search rules) (λ c κs. search rules) returns)
+pub header_in_range_spec : {M : Type 1} → statement M
+header_in_range_spec = tie.close (tie.spec (λ c κs. search rules) (λ c κs. search rules) returns)

@@ -9,5 +9,5 @@ returns : tie.Need-returns
 unfolding in_limits
 returns c = refl
 
-pub in-limits-spec : {M : Type 1} → statement M
-in-limits-spec = tie.close (tie.spec (λ c. search rules) returns)
+pub in_limits_spec : {M : Type 1} → statement M
+in_limits_spec = tie.close (tie.spec (λ c. search rules) returns)

@@ -10,15 +10,15 @@ use Rattle.open_memory.proofs.rules.next_low.Statement.{statement}
 use Rattle.open_memory.proofs.rules.next_low.Tie as tie
 
 -- What the test said.
-tested : (c : tie.After-in-limits) (b : Bool) → (let a = c.before.before.args in leb a.low a.p.name && c.in_limits_lem.result ≡ b)
+tested : (c : tie.After-in_limits) (b : Bool) → (let a = c.before.before.args in leb a.low a.p.name && c.in_limits.result ≡ b)
     → let a = c.before.before.args in leb a.low a.p.name && in_limits a.limits a.p ≡ b
-tested c b e = let a = c.before.before.args in ap (λ (i : Bool). leb a.low a.p.name && i) (sym c.in_limits_lem.ensures) ∙ e
+tested c b e = let a = c.before.before.args in ap (λ (i : Bool). leb a.low a.p.name && i) (sym c.in_limits.ensures) ∙ e
 
-returns : tie.Need-returns
-returns c = let a = c.before.before.before.args in low_next a.limits a.low a.p (omega arith) (tested c.before _ c.if1.true)
+returns : tie.Need-returns-then-low-name
+returns c = let a = c.before.before.before.args in low_next a.limits a.low a.p (omega arith) (tested c.before _ c.if-low-name.true)
 
-returns-2 : tie.Need-returns-2
-returns-2 c = let a = c.before.before.before.args in low_broken a.limits a.low a.p (omega arith) (tested c.before _ c.if1.false)
+returns-2 : tie.Need-returns-else-low-name
+returns-2 c = let a = c.before.before.before.args in low_broken a.limits a.low a.p (omega arith) (tested c.before _ c.if-low-name.false)
 
-pub next-low-spec : {M : Type 1} → statement M
-next-low-spec = tie.close (tie.spec (λ c. search rules) (λ c κs. search rules) (λ c. search rules) returns returns-2)
+pub next_low_spec : {M : Type 1} → statement M
+next_low_spec = tie.close (tie.spec (λ c. search rules) (λ c κs. search rules) (λ c. search rules) returns returns-2)

@@ -7,14 +7,14 @@ use Rattle.open_memory.proofs.RangeLaws.{in_ranges_lem, begin_out}
 use Rattle.open_memory.proofs.rules.shared_in_range.Statement.{statement}
 use Rattle.open_memory.proofs.rules.shared_in_range.Tie as tie
 
-returns : tie.Need-returns
-returns c = sym (begin_out c.before.before.args.h c.if1.true)
+returns : tie.Need-returns-then-h-gt999999999999
+returns c = sym (begin_out c.before.before.args.h c.if-h-gt999999999999.true)
 
-returns-2 : tie.Need-returns-2
+returns-2 : tie.Need-returns
 unfolding header_ranges shared_ranges
 returns-2 c =
-    let top = c.before.before.before.before.before.before.before.before.before.before.before.before.before.before.before.before.before.before.before.before.before.before.before.before.before.before.before.road-top in
+    let top = c.before.before.before.before.before.before.before.before.before.before.before.before.before.before.before.before.before.before.before.before.before.before.before.before.before.before.before.road_top-top in
     rw top.ensures (in_ranges_lem next_in_header [] _)
 
-pub shared-in-range-spec : {M : Type 1} → statement M
-shared-in-range-spec = tie.close (tie.spec returns (λ c κs. search rules) (λ c. search rules) returns-2)
+pub shared_in_range_spec : {M : Type 1} → statement M
+shared_in_range_spec = tie.close (tie.spec returns (λ c κs. search rules) (λ c. search rules) returns-2)

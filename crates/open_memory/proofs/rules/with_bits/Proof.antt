@@ -8,5 +8,5 @@ returns : tie.Need-returns
 unfolding with_bits
 returns c = rw c.rest_of.ensures
 
-pub with-bits-spec : {M : Type 1} → statement M
-with-bits-spec = tie.close (tie.spec (λ c κs. search rules) returns)
+pub with_bits_spec : {M : Type 1} → statement M
+with_bits_spec = tie.close (tie.spec (λ c κs. search rules) returns)

@@ -1,5 +1,5 @@
 -- `planning::accept::indexed_hazard` meets its contract: the header, the walk behind it, and the hazard that it noted. Assumes nothing.
-use Prim.Native.Nat.{◌≤◌, ◌<◌}
+use Prim.Native.Nat.{◌<◌}
 use native.Mathlib.Omega.{arith}
 use mathlib.Core.Path.{◌≡◌, refl, sym, ap, ◌∙◌}
 use mathlib.Core.List.{[]}
@@ -24,13 +24,13 @@ use Rattle.planning.proofs.accept.indexed_hazard.Statement.{statement}
 use Rattle.planning.proofs.accept.indexed_hazard.Tie as tie
 
 -- The header was read.
-read : (c : tie.After-header) → header_at c.before.before.before.before.args.s.now
-    ≡ accepted (record { header = c.header.given.0.0; next = c.header.given.0.1.0 })
-read c = sym c.before.before.read-header.ensures ∙ ap header_answer c.header.given.1
+read : (c : tie.In-Header) → header_at c.args.s.now
+    ≡ accepted (record { header = c.in-Header.header; next = c.in-Header.next })
+read c = sym c.read_header.ensures ∙ ap header_answer c.in-Header.is
 
-walk-requires : tie.Need-walk-requires
+walk-requires : tie.Need-walk-walked-requires
 walk-requires c κs =
-    let h = c.before.before.before.before.before in
+    let h = c.before.before.before.before in
     let fits = header_at_fits _ _ (read h) in (
       fits,
       (
@@ -44,74 +44,70 @@ walk-requires c κs =
     )
 
 -- The walk ended well: the job is accepted.
-abbrev header : (c : tie.After-enum-told) → tie.After-header
-header c = c.before.before.before.before.before.before.before.before.before.before.before
+abbrev header : (c : tie.In-Done) → tie.In-Header
+header c = c.before.before.before.before.before.before.before.before.before
 
-record Found (c : tie.After-enum-told) : Type 0 where
+record Found (c : tie.In-Done) : Type 0 where
   job : Job
-  job_is_accepted : accept_job (header c).before.before.before.before.args.s.now ≡ accepted job
-  its_header : job.header ≡ (header c).header.given.0.0
-  number : length job.hazards ≡ (header c).header.given.0.0.count
-  noted : hazard_of c.before.before.before.before.before.walk.new.1.1.1.1.1.1.1.1.1.0
-      ≡ hazard_at job (header c).before.before.before.before.args.index
+  job_is_accepted : accept_job (header c).args.s.now ≡ accepted job
+  its_header : job.header ≡ (header c).in-Header.header
+  number : length job.hazards ≡ (header c).in-Header.header.count
+  noted : hazard_of c.walk-walked.new.noted
+      ≡ hazard_at job (header c).args.index
 
-found : (c : tie.After-enum-told) → Found c
+found : (c : tie.In-Done) → Found c
 unfolding given_hazards
 found c =
-    let w = c.before.before.before.before.before.walk in
-    let d = walk_accepts _ (read (header c)) 2 All w.result.outcome _ w.ensures.answer c.enum_told.given.1 in
+    let w = c.walk-walked in
+    let d = walk_accepts _ (read (header c)) 2 All w.result.outcome _ w.ensures.answer c.in-Done.is in
     record {
       job = d.job;
       job_is_accepted = d.job_is_accepted;
       its_header = d.its_header;
       number = (accepted_fits _ _ d.job_is_accepted).fits.hazards.count ∙ ap (λ (h : Header). h.count) d.its_header;
-      noted = w.ensures.note c.enum_told.given.1 (omega arith) d.job d.read_on;
+      noted = w.ensures.note c.in-Done.is (omega arith) d.job d.read_on;
     }
 
 -- The hazard noted lies in its ranges.
-bounds : (c : tie.After-enum-told) (f : Found c) → (header c).before.before.before.before.args.index < (header c).header.given.0.0.count
-    → HazardBounds f.job.header (hazard_of c.before.before.before.before.before.walk.new.1.1.1.1.1.1.1.1.1.0)
+bounds : (c : tie.In-Done) (f : Found c) → (header c).args.index < (header c).in-Header.header.count
+    → HazardBounds f.job.header (hazard_of c.walk-walked.new.noted)
 bounds c f l =
-    let m = get_d_member f.job.hazards (header c).before.before.before.before.args.index (hazard_of []) (omega (arith, l, f.number)) in
+    let m = get_d_member f.job.hazards (header c).args.index (hazard_of []) (omega (arith, l, f.number)) in
     rw f.noted (hazard_bounds _ _ ((accepted_fits _ _ f.job_is_accepted).fits.hazards.each _ m))
 
-returns : tie.Need-returns
-returns c = let f = found c.before.before in sym (indexed_none _ _ f.job_is_accepted (omega (arith, c.if1.true, f.number)))
+returns : tie.Need-returns-then-header-index
+returns c = let f = found c.before.before in sym (indexed_none _ _ f.job_is_accepted (omega (arith, c.if-header-index.true, f.number)))
 
-returns-2 : tie.Need-returns-2
+returns-2 : tie.Need-returns-else-header-index
 returns-2 c =
     let f = found c.before.before in
-    let l = c.if1.false in
+    let l = c.if-header-index.false in
     sym (indexed_found _ _ f.job_is_accepted (omega (arith, l, f.number))
     ∙ ap (λ (h : Header). let a : AcceptedHazard = record {
       header = h;
-      hazard = hazard_at f.job (header c.before.before).before.before.before.before.args.index;
+      hazard = hazard_at f.job (header c.before.before).args.index;
     } in accepted a) f.its_header
-    ∙ ap (λ (z : Hazard). let a : AcceptedHazard = record { header = (header c.before.before).header.given.0.0; hazard = z } in accepted a)
+    ∙ ap (λ (z : Hazard). let a : AcceptedHazard = record { header = (header c.before.before).in-Header.header; hazard = z } in accepted a)
     (sym f.noted))
 
-returns-3 : tie.Need-returns-3
+returns-3 : tie.Need-returns-in-Refused-outcome
 unfolding given_hazards
 returns-3 c =
-    let w = c.before.before.before.before.before.before in
-    let h = w.before.before.before.before.before.before in
-    let x = c.before.outcome.given in
-    sym (indexed_refused _ _ x.0.0 (walk_refuses _ (read h) 2 All w.walk.result.outcome _ w.walk.ensures.answer x.0.0 x.1))
+    let h = c.before.before.before.before.before.before.before.before.before in
+    sym (indexed_refused _ _ c.in-Refused-outcome.refusal (walk_refuses _ (read h) 2 All c.walk-walked.result.outcome _ c.walk-walked.ensures.answer c.in-Refused-outcome.refusal c.in-Refused-outcome.is))
 
-returns-4 : tie.Need-returns-4
+returns-4 : tie.Need-returns-in-Refused
 returns-4 c =
-    let r = c.before.before.before in
-    let a = r.before.before.args in
-    let x = c.before.refusal.given in
-    sym (indexed_refused a.s.now a.index x.0.0 (accept_unread a.s.now x.0.0 (sym r.read-header.ensures ∙ ap header_answer x.1)))
+    let a = c.args in
+    sym (indexed_refused a.s.now a.index c.in-Refused.refusal (accept_unread a.s.now c.in-Refused.refusal (sym c.read_header.ensures ∙ ap header_answer c.in-Refused.is)))
 
-pub indexed-hazard-spec : {M : Type 1} → statement M
-indexed-hazard-spec =
+pub indexed_hazard_spec : {M : Type 1} → statement M
+indexed_hazard_spec =
     tie.close
     (tie.spec (λ c κs. search rules) (λ c. search rules) (λ c. search rules) (λ c. search rules) (λ c. search rules) (λ c. search rules) walk-requires
     (λ c. search rules) returns
-    (λ c. search rules) (λ c. search rules) (λ c. search rules) (λ c. omega (arith, bounds c.before.before (found c.before.before) c.if1.false))
-    (λ c. search rules) (λ c. omega (arith, bounds c.before.before (found c.before.before) c.if1.false))
-    (λ c. search rules) (λ c. omega (arith, bounds c.before.before (found c.before.before) c.if1.false)) (λ c. search rules)
-    (λ c. omega (arith, bounds c.before.before (found c.before.before) c.if1.false))
+    (λ c. search rules) (λ c. search rules) (λ c. search rules) (λ c. omega (arith, bounds c.before.before (found c.before.before) c.if-header-index.false))
+    (λ c. search rules) (λ c. omega (arith, bounds c.before.before (found c.before.before) c.if-header-index.false))
+    (λ c. search rules) (λ c. omega (arith, bounds c.before.before (found c.before.before) c.if-header-index.false)) (λ c. search rules)
+    (λ c. omega (arith, bounds c.before.before (found c.before.before) c.if-header-index.false))
     (λ c. search rules) (λ c. search rules) returns-2 returns-3 returns-4)

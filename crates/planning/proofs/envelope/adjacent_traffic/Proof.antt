@@ -5,13 +5,13 @@ use Rattle.planning.specs.Envelope.{adjacent_traffic}
 use Rattle.planning.proofs.envelope.adjacent_traffic.Statement.{statement}
 use Rattle.planning.proofs.envelope.adjacent_traffic.Tie as tie
 
-returns : tie.Need-returns
+returns : tie.Need-returns-then-is_adjacent
 unfolding adjacent_traffic
-returns c = rw (sym c.before.is_adjacent.ensures ∙ c.if1.true)
+returns c = rw (sym c.before.is_adjacent.ensures ∙ c.if-is_adjacent.true)
 
-returns-2 : tie.Need-returns-2
+returns-2 : tie.Need-returns-else-is_adjacent
 unfolding adjacent_traffic
-returns-2 c = rw (sym c.before.is_adjacent.ensures ∙ c.if1.false)
+returns-2 c = rw (sym c.before.is_adjacent.ensures ∙ c.if-is_adjacent.false)
 
-pub adjacent-traffic-spec : {M : Type 1} → statement M
-adjacent-traffic-spec = tie.close (tie.spec (λ c κs. search rules) returns returns-2)
+pub adjacent_traffic_spec : {M : Type 1} → statement M
+adjacent_traffic_spec = tie.close (tie.spec (λ c κs. search rules) returns returns-2)

@@ -13,8 +13,8 @@ returns c =
     let second = early.before.before in
     let first = second.before in
     let a = first.before.args in
-    cut_by_sums a.header a.hazard first.lengthened-by.ensures.0 second.lengthened-by2.ensures.0 early.saturating-sub.ensures
-    late.saturating-sub2.ensures
+    cut_by_sums a.header a.hazard first.lengthened_by-before.ensures.0 second.lengthened_by-behind.ensures.0 early.saturating_sub-early.ensures
+    late.saturating_sub-late.ensures
 
 -- The road and the hazard lie below the last station, so that no sum leaves 64 bits.
 of-header : (s : tie.Start) → HeaderBounds s.args.header
@@ -23,8 +23,8 @@ of-header s = header_bounds s.args.header s.requires.0
 of-hazard : (s : tie.Start) → HazardBounds s.args.header s.args.hazard
 of-hazard s = hazard_bounds s.args.header s.args.hazard s.requires.1.0
 
-pub cut-envelope-spec : {M : Type 1} → statement M
-cut-envelope-spec =
+pub cut_envelope_spec : {M : Type 1} → statement M
+cut_envelope_spec =
     tie.close
     (tie.spec
     (λ c κs. search rules)

@@ -4,11 +4,11 @@ use borrow.Author.Rules.{rules}
 use Rattle.planning.proofs.envelope.is_adjacent.Statement.{statement}
 use Rattle.planning.proofs.envelope.is_adjacent.Tie as tie
 
-returns : tie.Need-returns
-returns c = rw c.before.enum_told.given.1
+returns : tie.Need-returns-in-Forward
+returns c = rw c.before.in-Forward.is
 
-returns-2 : tie.Need-returns-2
-returns-2 c = rw c.enum-told2.given.1
+returns-2 : tie.Need-returns-in-Opposite
+returns-2 c = rw c.in-Opposite.is
 
-pub is-adjacent-spec : {M : Type 1} → statement M
-is-adjacent-spec = tie.close (tie.spec (λ c. search rules) (λ c. search rules) returns returns-2)
+pub is_adjacent_spec : {M : Type 1} → statement M
+is_adjacent_spec = tie.close (tie.spec (λ c. search rules) (λ c. search rules) returns returns-2)

@@ -11,11 +11,11 @@ returns c =
     let s = c.before.before.before in
     near_numbers s.args.header s.args.hazard (hazard_bounds s.args.header s.args.hazard s.requires.1).side
 
-add-result : tie.Need-overflow-add-result
+add-result : tie.Need-overflow_add-result
 add-result c =
     let s = c.before.before.before in
     let bounds = header_bounds s.args.header s.requires.0 in
     omega (arith, bounds.offset_top, bounds.deflection_top)
 
-pub stands-near-spec : {M : Type 1} → statement M
-stands-near-spec = tie.close (tie.spec (λ c. search rules) add-result returns)
+pub stands_near_spec : {M : Type 1} → statement M
+stands_near_spec = tie.close (tie.spec (λ c. search rules) add-result returns)

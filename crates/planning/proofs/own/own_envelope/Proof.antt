@@ -8,10 +8,10 @@ use Rattle.planning.proofs.own.own_envelope.Statement.{statement}
 use Rattle.planning.proofs.own.own_envelope.Tie as tie
 
 -- The hazard's numbers but for its stations.
-rest : (c : tie.After-packed) → c.packed.result ≡ packed (named 0 c.before.before.args.hazard)
-rest c = c.packed.ensures ∙ ap packed c.before.named.ensures
+rest : (c : tie.After-packed-rest) → c.packed-rest.result ≡ packed (named 0 c.before.before.args.hazard)
+rest c = c.packed-rest.ensures ∙ ap packed c.before.named.ensures
 
-walk-requires : tie.Need-walk-requires
+walk-requires : tie.Need-walk-walked-requires
 walk-requires c κs =
     let p = c.before.before.before.before.before.before in
     let s = p.before.before in
@@ -19,23 +19,23 @@ walk-requires c κs =
     let z = s.args.hazard in
     (walk_fits h s.requires.0, (walk_given h z s.requires.1.0 (rest p) _ refl, walk_places h z s.requires.1.0 (rest p) _ _ _ refl refl))
 
-returns : tie.Need-returns
+returns : tie.Need-returns-then-taken-eq0
 returns c =
     let w = c.before.before.before.before.before.before.before in
     let p = w.before.before.before.before.before.before.before in
     let s = p.before.before in
-    walk_missing s.args.header s.args.hazard s.requires.1.0 (rest p) s.requires.1.1 _ _ _ _ _ w.walk.ensures c.if1.true
+    walk_missing s.args.header s.args.hazard s.requires.1.0 (rest p) s.requires.1.1 _ _ _ _ _ w.walk-walked.ensures c.if-taken-eq0.true
 
-returns-2 : tie.Need-returns-2
+returns-2 : tie.Need-returns
 returns-2 c =
     let w = c.before.before.before.before.before.before.before in
     let p = w.before.before.before.before.before.before.before in
     let s = p.before.before in
-    walk_found s.args.header s.args.hazard s.requires.1.0 (rest p) s.requires.1.1 _ _ _ _ _ w.walk.ensures
-    c.before.before.before.before.before.before.keys2.given c.if1.false
+    walk_found s.args.header s.args.hazard s.requires.1.0 (rest p) s.requires.1.1 _ _ _ _ _ w.walk-walked.ensures
+    c.before.before.before.before.before.before.keys-2-1.given c.if-taken-eq0.false
 
-pub own-envelope-spec : {M : Type 1} → statement M
-own-envelope-spec =
+pub own_envelope_spec : {M : Type 1} → statement M
+own_envelope_spec =
     tie.close
     (tie.spec
     (λ c κs. search rules)

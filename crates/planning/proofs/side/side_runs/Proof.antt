@@ -1,7 +1,7 @@
 -- `planning::side::side_runs` meets its contract: the required runs of the side as it is accepted. Assumes nothing.
-use mathlib.Core.Path.{◌≡◌, refl, sym, ap, ◌∙◌}
+use mathlib.Core.Path.{◌≡◌, refl, ap, ◌∙◌}
 use borrow.Author.Rules.{rules}
-use Rattle.base.specs.Answer.{accepted, refused, ◌>>=◌}
+use Rattle.base.specs.Answer.{accepted}
 use Rattle.refusal.specs.Refusal.{refusal}
 use Rattle.runs.specs.Required.{required_runs}
 use Rattle.runs.specs.Keys.{keyed_envelopes}
@@ -12,34 +12,30 @@ use Rattle.planning.proofs.AcceptedSideLaws.{side_done, side_refused, side_sound
 use Rattle.planning.proofs.side.side_runs.Statement.{statement}
 use Rattle.planning.proofs.side.side_runs.Tie as tie
 
-required-runs-requires : tie.Need-required-runs-requires
+required-runs-requires : tie.Need-required_runs-requires
 required-runs-requires c κs =
-    let r = c.before.before.before.before.before.before in
-    let a = r.before.before.before.before.args in
-    let e = side_done _ _ r.side-of.result a.s.now a.side All r.side-of.ensures.0 c.before.before.enum_told.given.1 in
-    (search rules, (search rules, (r.side-of.ensures.1.few, side_sound a.s.now a.side All _ e)))
+    let a = c.args in
+    let e = side_done _ _ c.side_of-read.result a.s.now a.side All c.side_of-read.ensures.0 c.before.before.in-Done.is in
+    (search rules, (search rules, (c.side_of-read.ensures.1.few, side_sound a.s.now a.side All _ e)))
 
-returns : tie.Need-returns
+returns : tie.Need-returns-in-Done
 returns c =
-    let r = c.before.before.before.before.before.before.before in
-    let a = r.before.before.before.before.args in
-    let e = side_done _ _ r.side-of.result a.s.now a.side All r.side-of.ensures.0 c.before.before.before.enum_told.given.1 in
-    let runs = required_runs (keyed_envelopes r.side-of.new.1.1.1.0 r.side-of.new.1.1.1.1.0 r.side-of.result.count)
-    r.side-of.result.continuity in
+    let a = c.args in
+    let e = side_done _ _ c.side_of-read.result a.s.now a.side All c.side_of-read.ensures.0 c.before.before.before.in-Done.is in
+    let runs = required_runs (keyed_envelopes c.side_of-read.new.keys c.side_of-read.new.ends c.side_of-read.result.count)
+    c.side_of-read.result.continuity in
     let whole : accepted_runs a.s.now a.side ≡ accepted runs = runs_side a.s.now a.side ∙ rw e in
-    rw (whole, c.required_runs_lem.ensures) (ap accepted (runs_stored runs), refl)
+    rw (whole, c.required_runs.ensures) (ap accepted (runs_stored runs), refl)
 
-returns-2 : tie.Need-returns-2
+returns-2 : tie.Need-returns-in-Refused
 returns-2 c =
-    let r = c.before.before.before.before.before in
-    let a = r.before.before.before.before.args in
-    let x = c.before.outcome.given in
-    let e = side_refused _ _ r.side-of.result a.s.now a.side All r.side-of.ensures.0 x.0.0 x.1 in
-    let whole : accepted_runs a.s.now a.side ≡ refusal x.0.0 = runs_side a.s.now a.side ∙ rw e in
+    let a = c.args in
+    let e = side_refused _ _ c.side_of-read.result a.s.now a.side All c.side_of-read.ensures.0 c.in-Refused.refusal c.in-Refused.is in
+    let whole : accepted_runs a.s.now a.side ≡ refusal c.in-Refused.refusal = runs_side a.s.now a.side ∙ rw e in
     rw whole (refl, refl)
 
-pub side-runs-spec : {M : Type 1} → statement M
-side-runs-spec =
+pub side_runs_spec : {M : Type 1} → statement M
+side_runs_spec =
     tie.close
     (tie.spec (λ c. search rules) (λ c. search rules) (λ c κs. search rules) (λ c. search rules) (λ c. search rules) required-runs-requires (λ c. search rules)
     returns returns-2)

@@ -9,8 +9,8 @@ use Rattle.planning.proofs.walk.note.Tie as tie
 returns : tie.Need-returns
 returns c = let start = c.before.before.before.before in six_noted start.args.noted.now start.args.z start.requires
 
-pub note-spec : {M : Type 1} → statement M
-note-spec =
+pub note_spec : {M : Type 1} → statement M
+note_spec =
     tie.close
     (tie.spec (λ c. search rules) (λ c. search rules) (λ c. search rules) (λ c. search rules) (λ c. search rules) (λ c. search rules) (λ c. search rules)
     (λ c. simp length-set (omega (arith, c.before.before.before.requires))) (λ c. search rules)

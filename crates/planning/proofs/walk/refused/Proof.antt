@@ -8,7 +8,7 @@ use Rattle.planning.proofs.walk.refused.Statement.{statement}
 use Rattle.planning.proofs.walk.refused.Tie as tie
 
 returns : tie.Need-returns
-returns c = ap (λ (t : Taken). let r : Walked = record { outcome = Refused c.before.args.refusal; taken = t } in r) c.nothing.ensures
+returns c = ap (λ (t : Taken). let r : Walked = record { outcome = Refused c.before.args.refusal; taken = t } in r) c.nothing-taken.ensures
 
-pub refused-spec : {M : Type 1} → statement M
-refused-spec = tie.close (tie.spec (λ c κs. search rules) returns)
+pub refused_spec : {M : Type 1} → statement M
+refused_spec = tie.close (tie.spec (λ c κs. search rules) returns)

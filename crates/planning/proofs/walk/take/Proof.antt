@@ -18,9 +18,9 @@ use Rattle.planning.proofs.walk.take.Statement.{statement}
 use Rattle.planning.proofs.walk.take.Tie as tie
 
 -- What the test of the hazard said.
-told : (c : tie.After-test-hazard) (r : Tested) → c.test-hazard.result ≡ r
+told : (c : tie.After-test_hazard) (r : Tested) → c.test_hazard.result ≡ r
     → let a = c.before.before.before.before.args in tested_answer r ≡ tested_hazard a.header a.side a.window a.index a.hazard
-told c r e = ap tested_answer (sym e) ∙ c.test-hazard.ensures
+told c r e = ap tested_answer (sym e) ∙ c.test_hazard.ensures
 
 -- The envelope arm: the side is one of two, so there is room, and level and start fit a key.
 record Own (s : tie.Start) (e : Stretch) (o : Overhangs) : Type 0 where
@@ -47,75 +47,67 @@ own s e o p =
           (omega (arith, z.long, z.ends, road.road_end));
     }
 
-taken : (c : tie.After-envelope) → Own c.before.before.before.before.before.before c.envelope.given.0.0.stretch
-    c.envelope.given.0.0.overhangs
-taken c = own _ _ _ (told c.before.before _ c.envelope.given.1)
+taken : (c : tie.In-Envelope) → Own c.before.before.before.before.before c.in-Envelope.envelope.stretch
+    c.in-Envelope.envelope.overhangs
+taken c = own _ _ _ (told c.before _ c.in-Envelope.is)
 
-room : (c : tie.After-envelope) → let s = c.before.before.before.before.before.before in
-    (s.args.before.count < length s.args.keys.now) × (s.args.before.count < length s.args.ends.now)
+room : (c : tie.In-Envelope) → (c.args.before.count < length c.args.keys.now) × (c.args.before.count < length c.args.ends.now)
 room c =
-    let s = c.before.before.before.before.before.before in
-    s.requires.1.1.1.1.1.1.0 (omega (arith, (taken c).on, (taken c).low))
+    c.requires.1.1.1.1.1.1.0 (omega (arith, (taken c).on, (taken c).low))
 
-returns : tie.Need-returns
+returns : tie.Need-returns-then-before-lt256
 returns c =
-    let s = c.before.before.before.before.before.before.before.before in
-    let a = s.args in
-    let t = c.before.before.enum-told2.given in
+    let a = c.args in
     five_held a.header a.side a.window a.asked a.index a.hazard a.keys.now a.ends.now a.noted.now a.before
-    s.requires.1.1.1.1.1.0 s.requires.1.1.1.1.0
-    t.0.0 (told c.before.before.before.before _ t.1) c.if2.true
+    c.requires.1.1.1.1.1.0 c.requires.1.1.1.1.0
+    c.before.before.in-Refused.field-0 (told c.before.before.before _ c.before.before.in-Refused.is) c.if-before-lt256.true
 
-returns-2 : tie.Need-returns-2
+returns-2 : tie.Need-returns-in-Envelope
 returns-2 c =
-    let e = c.before.before.before.before.before.before.before in
-    let s = e.before.before.before.before.before.before in
-    let a = s.args in
-    let z = e.envelope.given.0.0 in
+    let e = c.before.before.before.before.before.before in
+    let a = e.args in
+    let z = e.in-Envelope.envelope in
     rw c.before.key_of.ensures
     (envelope_taken a.header a.side a.window a.asked a.index a.hazard a.keys.now a.ends.now a.noted.now a.before
-    s.requires.1.1.1.1.1.0 s.requires.1.1.1.1.0
-    z.stretch z.overhangs c.greater-of.result (told e.before.before _ e.envelope.given.1) c.greater-of.ensures (taken e).low
-    (omega (arith, s.requires.1.1.0, s.requires.1.1.1.0)) (room e).0 (room e).1 (omega (arith, (taken e).level)))
+    e.requires.1.1.1.1.1.0 e.requires.1.1.1.1.0
+    z.stretch z.overhangs c.greater_of.result (told e.before _ e.in-Envelope.is) c.greater_of.ensures (taken e).low
+    (omega (arith, e.requires.1.1.0, e.requires.1.1.1.0)) (room e).0 (room e).1 (omega (arith, (taken e).level)))
 
-returns-3 : tie.Need-returns-3
+returns-3 : tie.Need-returns-then-index-asked
 returns-3 c =
     let t = c.before.before.before.before.before in
-    let s = t.before.before.before.before.before.before in
-    let a = s.args in
+    let a = t.args in
     none_taken a.header a.side a.window a.asked a.index a.hazard a.keys.now a.ends.now a.noted.now a.before
-    s.requires.1.1.1.1.1.0 s.requires.1.1.1.1.0
-    _ (told t.before.before _ t.enum_told.given.1)
-    (λ high. simp (eq-eqb a.index a.asked c.before.before.before.before.if1.true) c.before.before.note.ensures)
+    t.requires.1.1.1.1.1.0 t.requires.1.1.1.1.0
+    _ (told t.before _ t.in-Without.is)
+    (λ high. simp (eq-eqb a.index a.asked c.before.before.before.before.if-index-asked.true) c.before.before.note.ensures)
 
-returns-4 : tie.Need-returns-4
+returns-4 : tie.Need-returns-else-index-asked
 returns-4 c =
     let t = c.before in
-    let s = t.before.before.before.before.before.before in
-    let a = s.args in
+    let a = t.args in
     none_taken a.header a.side a.window a.asked a.index a.hazard a.keys.now a.ends.now a.noted.now a.before
-    s.requires.1.1.1.1.1.0 s.requires.1.1.1.1.0
-    a.noted.now (told t.before.before _ t.enum_told.given.1) (λ high. simp (ne_eqb a.index a.asked c.if1.false))
+    t.requires.1.1.1.1.1.0 t.requires.1.1.1.1.0
+    a.noted.now (told t.before _ t.in-Without.is) (λ high. simp (ne_eqb a.index a.asked c.if-index-asked.false))
 
-returns-5 : tie.Need-returns-5
+returns-5 : tie.Need-returns-else-before-lt256
 returns-5 c =
     let t = c.before.before.before in
-    let s = t.before.before.before.before.before.before in
-    let a = s.args in
+    let a = t.args in
     five_first a.header a.side a.window a.asked a.index a.hazard a.keys.now a.ends.now a.noted.now a.before
-    s.requires.1.1.1.1.1.0 s.requires.1.1.1.1.0
-    t.enum-told2.given.0.0 (told t.before.before _ t.enum-told2.given.1) c.before.if2.false s.requires.1.1.0
+    t.requires.1.1.1.1.1.0 t.requires.1.1.1.1.0
+    t.in-Refused.field-0 (told t.before _ t.in-Refused.is) c.before.if-before-lt256.false t.requires.1.1.0
 
 pub take_spec : {M : Type 1} → statement M
 take_spec =
     tie.close
-    (tie.spec (λ c κs. search rules) (λ c. search rules) (λ c. omega (arith, (taken c.before.before.before.before.before).level))
-    (λ c κs. let e = c.before.before.before.before.before in (
+    (tie.spec (λ c κs. search rules) (λ c. search rules) (λ c. omega (arith, (taken c.before.before.before.before).level))
+    (λ c κs. let e = c.before.before.before.before in (
       (taken e).start,
-      omega (arith, e.before.before.before.before.before.before.requires.1.1.0, e.before.before.before.before.before.before.requires.1.1.1.0),
+      omega (arith, e.requires.1.1.0, e.requires.1.1.1.0),
     ))
-    (λ c. search rules) (λ c. (room c.before.before.before.before.before.before).0) (λ c. search rules)
-    (λ c. (room c.before.before.before.before.before.before).1)
+    (λ c. search rules) (λ c. (room c.before.before.before.before.before).0) (λ c. search rules)
+    (λ c. (room c.before.before.before.before.before).1)
     (λ c. search rules) (λ c κs. search rules) (λ c. search rules)
-    (λ c κs. c.before.before.before.before.before.before.before.before.requires.1.1.1.1.1.1.1 c.before.if1.true)
+    (λ c κs. c.requires.1.1.1.1.1.1.1 c.before.if-index-asked.true)
     (λ c. search rules) returns (λ c. search rules) (λ c. search rules) returns-2 (λ c. search rules) returns-3 returns-4 returns-5)

@@ -6,20 +6,20 @@ use Rattle.queries.proofs.PlaceLaws.{lookup_side, lookup_argument}
 use Rattle.queries.proofs.lookup.locate.Statement.{statement}
 use Rattle.queries.proofs.lookup.locate.Tie as tie
 
-returns : tie.Need-returns
+returns : tie.Need-returns-then-side-eq0
 returns c =
     let a = c.before.before.before.before.args in
-    c.IsPlace-in.ensures ∙ sym (lookup_side a.right.now a.left.now a.side a.station (omega arith) a.right.now (rw c.before.if1.true))
+    c.place_in.ensures ∙ sym (lookup_side a.right.now a.left.now a.side a.station (omega arith) a.right.now (rw c.before.if-side-eq0.true))
 
-returns-2 : tie.Need-returns-2
+returns-2 : tie.Need-returns-then-side-eq1
 returns-2 c =
     let a = c.before.before.before.before.before.args in
-    c.place-in2.ensures ∙ sym (lookup_side a.right.now a.left.now a.side a.station (omega arith) a.left.now (rw c.before.if2.true))
+    c.place_in-then-side-eq1.ensures ∙ sym (lookup_side a.right.now a.left.now a.side a.station (omega arith) a.left.now (rw c.before.if-side-eq1.true))
 
-returns-3 : tie.Need-returns-3
+returns-3 : tie.Need-returns-else-side-eq1
 returns-3 c =
     let a = c.before.before.before.before.args in
     sym (lookup_argument a.right.now a.left.now a.side a.station (omega arith))
 
-pub locate-spec : {M : Type 1} → statement M
-locate-spec = tie.close (tie.spec (λ c κs. search rules) (λ c κs. search rules) returns returns-2 returns-3)
+pub locate_spec : {M : Type 1} → statement M
+locate_spec = tie.close (tie.spec (λ c κs. search rules) (λ c κs. search rules) returns returns-2 returns-3)

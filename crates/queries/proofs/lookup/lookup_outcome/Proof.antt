@@ -5,18 +5,18 @@ use Rattle.queries.specs.Lookup.{outcome_of}
 use Rattle.queries.proofs.lookup.lookup_outcome.Statement.{statement}
 use Rattle.queries.proofs.lookup.lookup_outcome.Tie as tie
 
-returns : tie.Need-returns
+returns : tie.Need-returns-in-Found
 unfolding outcome_of
-returns c = rw (sym c.before.before.locate.ensures, c.enum_told.given.1)
+returns c = rw (sym c.locate.ensures, c.in-Found.is)
 
-returns-2 : tie.Need-returns-2
+returns-2 : tie.Need-returns-in-Nothing
 unfolding outcome_of
-returns-2 c = rw (sym c.before.before.locate.ensures, c.enum-told2.given.1)
+returns-2 c = rw (sym c.locate.ensures, c.in-Nothing.is)
 
-returns-3 : tie.Need-returns-3
+returns-3 : tie.Need-returns-in-Refused
 unfolding outcome_of
-returns-3 c = rw (sym c.before.before.before.locate.ensures, c.before.refusal.given.1)
+returns-3 c = rw (sym c.locate.ensures, c.in-Refused.is)
 
-pub lookup-outcome-spec : {M : Type 1} → statement M
-lookup-outcome-spec =
+pub lookup_outcome_spec : {M : Type 1} → statement M
+lookup_outcome_spec =
     tie.close (tie.spec (λ c κs. search rules) (λ c. search rules) (λ c. search rules) (λ c. search rules) returns returns-2 returns-3)

@@ -1,4 +1,5 @@
 -- `queries::lookup::place_in` meets its contract: the place that the walk found, none, or its refusal. Assumes nothing.
+use native.Mathlib.Omega.{arith}
 use mathlib.Core.Path.{sym, ap, ◌∙◌}
 use borrow.Author.Rules.{rules}
 use Rattle.base.specs.Answer.{accepted}
@@ -7,16 +8,12 @@ use Rattle.queries.proofs.PlaceLaws.{so_far_lem, so_far_none}
 use Rattle.queries.proofs.lookup.place_in.Statement.{statement}
 use Rattle.queries.proofs.lookup.place_in.Tie as tie
 
-returns : tie.Need-returns
-returns c = sym (ap (place_reply _) c.enum_told.given.1) ∙ c.before.before.walk.ensures.1
+returns : tie.Need-returns-in_default
+returns c = sym (ap (place_reply _) c.in_default.is) ∙ c.walk.ensures.1
 
-returns-2 : tie.Need-returns-2
-returns-2 c = sym (ap accepted (so_far_lem _ _ _ _ c.if1.true)) ∙ sym (ap (place_reply _) c.before.before.from.given.1)
-    ∙ c.before.before.before.before.walk.ensures.1
-
-returns-3 : tie.Need-returns-3
-returns-3 c = sym (ap accepted (so_far_none _ _ _ _ c.if1.false)) ∙ sym (ap (place_reply _) c.before.before.from.given.1)
-    ∙ c.before.before.before.before.walk.ensures.1
-
-pub place-in-spec : {M : Type 1} → statement M
-place-in-spec = tie.close (tie.spec (λ c κs. search rules) (λ c. search rules) (λ c. search rules) returns returns-2 returns-3)
+pub place_in_spec : {M : Type 1} → statement M
+place_in_spec =
+    tie.close
+    (tie.spec (λ c κs. search rules) (λ c. search rules) (λ c. search rules) returns
+    (λ c. sym (ap accepted (so_far_lem _ _ _ _ (omega arith))) ∙ sym (ap (place_reply _) c.in-Over.is) ∙ c.walk.ensures.1)
+    (λ c. sym (ap accepted (so_far_none _ _ _ _ (omega arith))) ∙ sym (ap (place_reply _) c.in-Over.is) ∙ c.walk.ensures.1))

@@ -9,34 +9,34 @@ use Rattle.queries.proofs.RangeLaws.{ranges_end, ranges_odd, ranges_more, ranges
 use Rattle.queries.proofs.quantities.are_ranges.Statement.{statement}
 use Rattle.queries.proofs.quantities.are_ranges.Tie as tie
 
-abbrev invariant-loop : tie.invariant-loop
+abbrev invariant-loop : tie.invariant-loop-i
 invariant-loop numbers i₀ i = (i ≤ length numbers) × (are_ranges numbers ≡ are_ranges (drop i numbers))
 
-abbrev decreases-loop : tie.decreases-loop
+abbrev decreases-loop : tie.decreases-loop-i
 decreases-loop numbers i₀ i = length numbers - i
 
-returns : tie.Need-returns invariant-loop decreases-loop
+returns : tie.Need-returns-then-numbers-i-eq1 invariant-loop decreases-loop
 returns c =
-    let l = c.before.before.loop in
+    let l = c.before.before.loop-i in
     sym (l.invariant.1 ∙ ranges_odd _ l.i (omega arith))
 
-returns-2 : tie.Need-returns-2 invariant-loop decreases-loop
+returns-2 : tie.Need-returns-then-numbers-i invariant-loop decreases-loop
 returns-2 c =
-    let l = c.before.before.before.before.before.loop in
-    sym (l.invariant.1 ∙ ranges_none _ l.i (omega arith) c.if2.true)
+    let l = c.before.before.before.before.before.loop-i in
+    sym (l.invariant.1 ∙ ranges_none _ l.i (omega arith) c.if-numbers-i.true)
 
-loop-again : tie.Need-loop-preserved invariant-loop decreases-loop
+loop-again : tie.Need-loop-i-preserved invariant-loop decreases-loop
 loop-again c =
-    let l = c.before.before.before.before.before.loop in
-    (omega arith, l.invariant.1 ∙ ranges_more _ l.i (omega arith) c.if2.false)
+    let l = c.before.before.before.before.before.loop-i in
+    (omega arith, l.invariant.1 ∙ ranges_more _ l.i (omega arith) c.if-numbers-i.false)
 
-returns-3 : tie.Need-returns-3 invariant-loop decreases-loop
+returns-3 : tie.Need-returns invariant-loop decreases-loop
 returns-3 c =
-    let l = c.before.loop in
-    sym (l.invariant.1 ∙ ranges_end _ l.i c.loop-test.false)
+    let l = c.before.loop-i in
+    sym (l.invariant.1 ∙ ranges_end _ l.i c.loop-i-test.false)
 
-pub are-ranges-spec : {M : Type 1} → statement M
-are-ranges-spec =
+pub are_ranges_spec : {M : Type 1} → statement M
+are_ranges_spec =
     tie.close
     (tie.spec invariant-loop decreases-loop (λ c. (omega arith, refl)) (λ c. omega arith) returns (λ c. omega arith) (λ c. omega arith) (λ c. omega arith) (λ c. omega arith)
     (λ c. omega arith) returns-2 (λ c. omega arith) (λ c. omega arith) loop-again returns-3)

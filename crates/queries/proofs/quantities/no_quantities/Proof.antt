@@ -8,5 +8,5 @@ returns : tie.Need-returns
 unfolding quantities_replied
 returns c = refl
 
-pub no-quantities-spec : {M : Type 1} → statement M
-no-quantities-spec = tie.close (tie.spec returns)
+pub no_quantities_spec : {M : Type 1} → statement M
+no_quantities_spec = tie.close (tie.spec returns)

@@ -12,56 +12,54 @@ use Rattle.queries.proofs.SumLaws.{Tallying, tallying_start, tallying_turn, tall
 use Rattle.queries.proofs.quantities.walk_level.Statement.{statement}
 use Rattle.queries.proofs.quantities.walk_level.Tie as tie
 
-abbrev invariant-loop : tie.invariant-loop
+abbrev invariant-loop : tie.invariant-loop-records
 invariant-loop s level starts₀ sums₀ count first records₀ noted₀ at₀ end₀ last₀ starts sums records noted at end last =
     Tallying s level starts sums count records noted at end last
 
-abbrev decreases-loop : tie.decreases-loop
+abbrev decreases-loop : tie.decreases-loop-records
 decreases-loop s level starts₀ sums₀ count first records₀ noted₀ at₀ end₀ last₀ starts sums records noted at end last = count - records
 
-returns : tie.Need-returns invariant-loop decreases-loop
-returns c = tallied_head _ _ _ _ (sym c.before.before.read_head.ensures ∙ ap head_reply c.enum_told.given.1)
+returns : tie.Need-returns-in_default invariant-loop decreases-loop
+returns c = tallied_head _ _ _ _ (sym c.read_head.ensures ∙ ap head_reply c.in_default.is)
 
-loop-holds : tie.Need-loop-init invariant-loop decreases-loop
-loop-holds c = tallying_start _ _ _ _ _ (sym c.before.before.before.read_head.ensures ∙ ap head_reply c.before.count.given.1)
-    c.before.before.before.before.before.requires
+loop-holds : tie.Need-loop-records-init invariant-loop decreases-loop
+loop-holds c = tallying_start _ _ _ _ _ (sym c.read_head.ensures ∙ ap head_reply c.in-Count.is)
+    c.requires
 
-next-record-requires : tie.Need-next-record-requires invariant-loop decreases-loop
-next-record-requires c κs = c.before.loop.invariant.ends
+next-record-requires : tie.Need-next_record-requires invariant-loop decreases-loop
+next-record-requires c κs = c.before.loop-records.invariant.ends
 
-returns-2 : tie.Need-returns-2 invariant-loop decreases-loop
+returns-2 : tie.Need-returns-in_default-next_record invariant-loop decreases-loop
 returns-2 c =
-    let l = c.before.before.before.before.loop in
-    tallied_record _ _ _ _ _ _ _ _ _ _ l.invariant c.before.before.before.loop-test.true
-    (sym c.before.before.next-record.ensures ∙ ap record_reply c.enum-told2.given.1)
+    let l = c.loop-records in
+    tallied_record _ _ _ _ _ _ _ _ _ _ l.invariant c.loop-records-test.true
+    (sym c.next_record.ensures ∙ ap record_reply c.in_default-next_record.is)
 
-note-run-requires : tie.Need-note-run-requires invariant-loop decreases-loop
+note-run-requires : tie.Need-note_run-noted-requires invariant-loop decreases-loop
 note-run-requires c κs =
-    let d = c.before.before.before in
-    let l = d.before.before.before.before.loop in
-    let passed : ReadRun = record { run = d.run.given.0.0; next = d.run.given.0.1.0 } in
-    let next = record_follows _ _ _ _ passed (sym d.before.before.next-record.ensures ∙ ap record_reply d.run.given.1) in
+    let l = c.loop-records in
+    let passed : ReadRun = record { run = c.in-Next.run'; next = c.in-Next.next } in
+    let next = record_follows _ _ _ _ passed (sym c.next_record.ensures ∙ ap record_reply c.in-Next.is) in
     (omega (arith, next.long), (omega (arith, l.invariant.fewer, l.invariant.few), noted_later l.invariant.kept _ next.after))
 
-loop-again : tie.Need-loop-preserved invariant-loop decreases-loop
+loop-again : tie.Need-loop-records-preserved invariant-loop decreases-loop
 loop-again c =
-    let d = c.before.before.before.before in
-    let read = sym d.before.before.next-record.ensures ∙ ap record_reply d.run.given.1 in
-    tallying_turn _ _ _ _ _ _ _ _ _ _ _ _ _ _ d.before.before.before.loop-test.true read c.note-run.ensures
-    d.before.before.before.before.loop.invariant
+    let read = sym c.next_record.ensures ∙ ap record_reply c.in-Next.is in
+    tallying_turn _ _ _ _ _ _ _ _ _ _ _ _ _ _ c.loop-records-test.true read c.note_run-noted.ensures
+    c.loop-records.invariant
 
-returns-3 : tie.Need-returns-3 invariant-loop decreases-loop
+returns-3 : tie.Need-returns-then-at-s invariant-loop decreases-loop
 returns-3 c =
-    let l = c.before.before.loop in
-    tallied_left_over _ _ _ _ _ _ _ _ _ _ l.invariant c.before.loop-test.false c.if1.true
+    let l = c.before.before.loop-records in
+    tallied_left_over _ _ _ _ _ _ _ _ _ _ l.invariant c.before.loop-records-test.false c.if-at-s.true
 
-returns-4 : tie.Need-returns-4 invariant-loop decreases-loop
+returns-4 : tie.Need-returns invariant-loop decreases-loop
 returns-4 c =
-    let l = c.before.before.loop in
-    tallied_over _ _ _ _ _ _ _ _ _ _ l.invariant c.before.loop-test.false c.if1.false
+    let l = c.before.before.loop-records in
+    tallied_over _ _ _ _ _ _ _ _ _ _ l.invariant c.before.loop-records-test.false c.if-at-s.false
 
-pub walk-level-spec : {M : Type 1} → statement M
-walk-level-spec =
+pub walk_level_spec : {M : Type 1} → statement M
+walk_level_spec =
     tie.close
     (tie.spec invariant-loop decreases-loop (λ c κs. search rules) (λ c. search rules) (λ c. search rules) returns loop-holds
     next-record-requires (λ c. search rules) (λ c. search rules) returns-2 (λ c. omega arith) note-run-requires

@@ -5,11 +5,11 @@ use Rattle.queries.specs.Query.{sum_reply}
 use Rattle.queries.proofs.quantity.overlap_sum.Statement.{statement}
 use Rattle.queries.proofs.quantity.overlap_sum.Tie as tie
 
-returns : tie.Need-returns
-returns c = sym (ap sum_reply c.before.sum.given.1) ∙ c.before.before.before.walk.ensures.0
+returns : tie.Need-returns-in-Over
+returns c = sym (ap sum_reply c.in-Over.is) ∙ c.walk.ensures.0
 
-returns-2 : tie.Need-returns-2
-returns-2 c = sym (ap sum_reply c.enum_told.given.1) ∙ c.before.before.walk.ensures.0
+returns-2 : tie.Need-returns-in-Bad
+returns-2 c = sym (ap sum_reply c.in-Bad.is) ∙ c.walk.ensures.0
 
-pub overlap-sum-spec : {M : Type 1} → statement M
-overlap-sum-spec = tie.close (tie.spec (λ c κs. search rules) (λ c. search rules) (λ c. search rules) returns returns-2)
+pub overlap_sum_spec : {M : Type 1} → statement M
+overlap_sum_spec = tie.close (tie.spec (λ c κs. search rules) (λ c. search rules) (λ c. search rules) returns returns-2)

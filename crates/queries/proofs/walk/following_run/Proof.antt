@@ -19,20 +19,17 @@ refuse : (c : tie.Start) → (Follows c → ⊥)
     → refused 10 0 ≡ following_run c.args.end c.args.level c.args.gap c.args.length c.args.own c.args.next
 refuse c n = sym (run_refused c.args.end c.args.level c.args.gap c.args.length c.args.own c.args.next n)
 
-returns : tie.Need-returns
+returns : tie.Need-returns-then-length-eq0
 returns c = refuse c.before (λ n. omega (arith, n.long))
 
-returns-2 : tie.Need-returns-2
-returns-2 c = refuse c.before.before (λ n. omega (arith, n.ends))
-
-returns-3 : tie.Need-returns-3
+returns-3 : tie.Need-returns-then-own-eq0
 returns-3 c = refuse c.before.before.before (λ n. omega (arith, n.low))
 
-returns-4 : tie.Need-returns-4
+returns-4 : tie.Need-returns-then-own-gt6
 returns-4 c = refuse c.before.before.before.before (λ n. omega (arith, n.top))
 
-returns-5 : tie.Need-returns-5
-returns-5 c = refuse c.before.before.before.before.before.before (λ n. n.differs (omega (arith, c.before.if5.true)) c.if6.true)
+returns-5 : tie.Need-returns-then-level-own
+returns-5 c = refuse c.before.before.before.before.before.before (λ n. n.differs (omega (arith, c.before.if-gap-eq0.true)) c.if-level-own.true)
 
 -- Where it may, whether it touches the one before or not.
 follow : (c : tie.Start) → Follows c → let a = c.args in
@@ -40,12 +37,12 @@ follow : (c : tie.Start) → Follows c → let a = c.args in
     ≡ following_run a.end a.level a.gap a.length a.own a.next
 follow c n = let a = c.args in sym (run_follows a.end a.level a.gap a.length a.own a.next n)
 
-returns-6 : tie.Need-returns-6
+returns-6 : tie.Need-returns-else-level-own
 returns-6 c =
     follow c.before.before.before.before.before.before
-    (record { after = omega arith; long = omega arith; ends = omega arith; low = omega arith; top = omega arith; differs = λ touch same. c.if6.false same })
+    (record { after = omega arith; long = omega arith; ends = omega arith; low = omega arith; top = omega arith; differs = λ touch same. c.if-level-own.false same })
 
-returns-7 : tie.Need-returns-7
+returns-7 : tie.Need-returns-else-gap-eq0
 returns-7 c =
     follow c.before.before.before.before.before
     (record {
@@ -54,10 +51,10 @@ returns-7 c =
       ends = omega arith;
       low = omega arith;
       top = omega arith;
-      differs = λ touch same. c.if5.false (omega arith);
+      differs = λ touch same. c.if-gap-eq0.false (omega arith);
     })
 
-pub following-run-spec : {M : Type 1} → statement M
-following-run-spec =
+pub following_run_spec : {M : Type 1} → statement M
+following_run_spec =
     tie.close
-    (tie.spec (λ c. omega arith) (λ c. omega arith) returns returns-2 returns-3 returns-4 returns-5 returns-6 returns-7)
+    (tie.spec (λ c. omega arith) (λ c. omega arith) returns (λ c. refuse c.before.before (λ n. omega (arith, n.ends))) returns-3 returns-4 returns-5 returns-6 returns-7)

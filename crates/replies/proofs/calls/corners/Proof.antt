@@ -19,7 +19,7 @@ struct_of r =
 returns : tie.Need-returns
 unfolding corners_reply_of
 returns c =
-    let r = c.before.before.before.before.corners in
+    let r = c.before.before.before.before.corners-reply in
     ap (λ (how : Reply). record {
       number = how.number;
       value = how.value;
@@ -27,8 +27,8 @@ returns c =
       flare = r.result.flare;
       hazard = r.result.hazard;
     })
-    (c.before.before.before.ended.ensures ∙ ap reply_of (no_value r.result.outcome))
+    (c.before.before.before.ended-how.ensures ∙ ap reply_of (no_value r.result.outcome))
     ∙ ap struct_of r.ensures
 
-pub corners-spec : {M : Type 1} → statement M
-corners-spec = tie.close (tie.spec (λ c κs. search rules) (λ c κs. search rules) returns)
+pub corners_spec : {M : Type 1} → statement M
+corners_spec = tie.close (tie.spec (λ c κs. search rules) (λ c κs. search rules) returns)

@@ -6,16 +6,16 @@ use Rattle.replies.specs.Interface.{reply_of}
 use Rattle.replies.proofs.calls.level.Statement.{statement}
 use Rattle.replies.proofs.calls.level.Tie as tie
 
-returns : tie.Need-returns
+returns : tie.Need-returns-in-Required
 unfolding reply_of
-returns c = ap reply_of (sym (ap level_reply c.before.required.given.1) ∙ c.before.before.before.level.ensures)
+returns c = ap reply_of (sym (ap level_reply c.in-Required.is) ∙ c.level.ensures)
 
-returns-2 : tie.Need-returns-2
+returns-2 : tie.Need-returns-in-Refused
 unfolding reply_of
-returns-2 c = c.refused.ensures ∙ ap reply_of (sym (ap level_reply c.before.before.refusal.given.1) ∙ c.before.before.before.before.level.ensures)
+returns-2 c = c.refused.ensures ∙ ap reply_of (sym (ap level_reply c.in-Refused.is) ∙ c.level.ensures)
 
-pub level-spec : {M : Type 1} → statement M
-level-spec =
+pub level_spec : {M : Type 1} → statement M
+level_spec =
     tie.close
     (tie.spec
     (λ c κs. search rules)

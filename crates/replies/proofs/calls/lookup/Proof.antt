@@ -18,32 +18,32 @@ by-ends : (start end : ℕ) → end ≡ start + (end - start)
 unfolding record_of
 by-ends start end e = ap (λ (n : ℕ). record { number = 0; found = 1; start = start; end = n }) e
 
-returns : tie.Need-returns
+returns : tie.Need-returns-in-Found
 returns c =
-    let s = c.before.before.before.before.before.before in
+    let s = c in
     let a = s.args in
-    let located = c.before.before.before.locate in
-    let start = c.before.start.given.0.0 in
-    let end = c.before.start.given.0.1.0 in
+    let located = c.locate in
+    let start = c.in-Found.start in
+    let end = c.in-Found.end in
     let is : accepted (found (part_between start end)) ≡ lookup a.right.now a.left.now a.side a.station =
-    sym (ap located_reply c.before.start.given.1) ∙ located.ensures in
+    sym (ap located_reply c.in-Found.is) ∙ located.ensures in
     let w = lookup_within a.right.now a.left.now a.side a.station (part_between start end)
-    (index_bytes _ (λ i. omega (arith, c.before.before.before.before.before.shared-slice-known.given i)))
-    (index_bytes _ (λ i. omega (arith, c.before.before.before.before.shared-slice-known2.given i))) (sym is) in
+    (index_bytes _ (λ i. omega (arith, c.shared_slice_known-1.given i)))
+    (index_bytes _ (λ i. omega (arith, c.shared_slice_known-2-1.given i))) (sym is) in
     by-ends start end (omega (arith, w.some)) ∙ ap record_of is
 
-returns-2 : tie.Need-returns-2
+returns-2 : tie.Need-returns-in-Nothing
 unfolding record_of
-returns-2 c = ap record_of (sym (ap located_reply c.enum_told.given.1) ∙ c.before.before.locate.ensures)
+returns-2 c = ap record_of (sym (ap located_reply c.in-Nothing.is) ∙ c.locate.ensures)
 
-returns-3 : tie.Need-returns-3
+returns-3 : tie.Need-returns-in-Refused
 unfolding record_of
 returns-3 c =
-    ap (λ (n : ℕ). record { number = n; found = 0; start = 0; end = 0 }) c.refusal-number.ensures
-    ∙ ap record_of (sym (ap located_reply c.before.before.refusal.given.1) ∙ c.before.before.before.before.locate.ensures)
+    ap (λ (n : ℕ). record { number = n; found = 0; start = 0; end = 0 }) c.refusal_number.ensures
+    ∙ ap record_of (sym (ap located_reply c.in-Refused.is) ∙ c.locate.ensures)
 
-pub lookup-spec : {M : Type 1} → statement M
-lookup-spec =
+pub lookup_spec : {M : Type 1} → statement M
+lookup_spec =
     tie.close
     (tie.spec
     (λ c κs. search rules)

@@ -8,7 +8,7 @@ use Rattle.replies.proofs.calls.plan.Tie as tie
 returns : tie.Need-returns
 returns c =
     let planned = c.before.before.before.plan in
-    (c.plan-reply.ensures ∙ ap plan_reply_of planned.ensures.0, planned.ensures.1)
+    (c.plan_reply.ensures ∙ ap plan_reply_of planned.ensures.0, planned.ensures.1)
 
-pub plan-spec : {M : Type 1} → statement M
-plan-spec = tie.close (tie.spec (λ c κs. search rules) (λ c κs. search rules) (λ c. search rules) returns)
+pub plan_spec : {M : Type 1} → statement M
+plan_spec = tie.close (tie.spec (λ c κs. search rules) (λ c κs. search rules) (λ c. search rules) returns)

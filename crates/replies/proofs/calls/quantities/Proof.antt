@@ -19,10 +19,10 @@ struct_of r =
 returns : tie.Need-returns
 unfolding quantities_of
 returns c =
-    let r = c.before.before.quantities in
+    let r = c.before.before.quantities-reply in
     ap (λ (how : Reply). record { number = how.number; value = how.value; records = r.result.records; quantities = r.result.quantities })
-    (c.before.ended.ensures ∙ ap reply_of (no_value r.result.outcome))
+    (c.before.ended-how.ensures ∙ ap reply_of (no_value r.result.outcome))
     ∙ ap struct_of r.ensures
 
-pub quantities-spec : {M : Type 1} → statement M
-quantities-spec = tie.close (tie.spec (λ c κs. search rules) (λ c κs. search rules) returns)
+pub quantities_spec : {M : Type 1} → statement M
+quantities_spec = tie.close (tie.spec (λ c κs. search rules) (λ c κs. search rules) returns)

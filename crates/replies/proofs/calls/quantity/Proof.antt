@@ -6,17 +6,17 @@ use Rattle.replies.specs.Interface.{reply_of}
 use Rattle.replies.proofs.calls.quantity.Statement.{statement}
 use Rattle.replies.proofs.calls.quantity.Tie as tie
 
-returns : tie.Need-returns
+returns : tie.Need-returns-in-Millimetres
 unfolding reply_of
-returns c = ap reply_of (sym (ap quantity_reply c.before.millimetres.given.1) ∙ c.before.before.before.quantity.ensures)
+returns c = ap reply_of (sym (ap quantity_reply c.in-Millimetres.is) ∙ c.quantity.ensures)
 
-returns-2 : tie.Need-returns-2
+returns-2 : tie.Need-returns-in-Refused
 unfolding reply_of
 returns-2 c =
-    c.refused.ensures ∙ ap reply_of (sym (ap quantity_reply c.before.before.refusal.given.1) ∙ c.before.before.before.before.quantity.ensures)
+    c.refused.ensures ∙ ap reply_of (sym (ap quantity_reply c.in-Refused.is) ∙ c.quantity.ensures)
 
-pub quantity-spec : {M : Type 1} → statement M
-quantity-spec =
+pub quantity_spec : {M : Type 1} → statement M
+quantity_spec =
     tie.close
     (tie.spec
     (λ c κs. search rules)

@@ -7,22 +7,22 @@ use Rattle.replies.specs.Interface.{smallest_of}
 use Rattle.replies.proofs.hazard.offset.Statement.{statement}
 use Rattle.replies.proofs.hazard.offset.Tie as tie
 
-returns : tie.Need-returns
+returns : tie.Need-returns-in-Smallest
 unfolding smallest_of
-returns c = ap smallest_of (sym (ap offset_reply c.before.millimetres.given.1) ∙ c.before.before.before.smallest-offset.ensures)
+returns c = ap smallest_of (sym (ap offset_reply c.in-Smallest.is) ∙ c.smallest_offset.ensures)
 
-returns-2 : tie.Need-returns-2
+returns-2 : tie.Need-returns-in-Nothing
 unfolding smallest_of
-returns-2 c = ap smallest_of (sym (ap offset_reply c.enum_told.given.1) ∙ c.before.before.smallest-offset.ensures)
+returns-2 c = ap smallest_of (sym (ap offset_reply c.in-Nothing.is) ∙ c.smallest_offset.ensures)
 
-returns-3 : tie.Need-returns-3
+returns-3 : tie.Need-returns-in-Refused
 unfolding smallest_of
 returns-3 c =
-    ap₂ (λ (n v : ℕ). record { number = n; value = v; found = 0 }) c.before.refusal-number.ensures c.refusal-value.ensures
-    ∙ ap smallest_of (sym (ap offset_reply c.before.before.before.refusal.given.1) ∙ c.before.before.before.before.before.smallest-offset.ensures)
+    ap₂ (λ (n v : ℕ). record { number = n; value = v; found = 0 }) c.before.refusal_number.ensures c.refusal_value.ensures
+    ∙ ap smallest_of (sym (ap offset_reply c.in-Refused.is) ∙ c.smallest_offset.ensures)
 
-pub offset-spec : {M : Type 1} → statement M
-offset-spec =
+pub offset_spec : {M : Type 1} → statement M
+offset_spec =
     tie.close
     (tie.spec
     (λ c κs. search rules)

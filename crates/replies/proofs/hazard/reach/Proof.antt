@@ -6,7 +6,7 @@ use Rattle.replies.proofs.hazard.reach.Statement.{statement}
 use Rattle.replies.proofs.hazard.reach.Tie as tie
 
 returns : tie.Need-returns
-returns c = c.reach-reply.ensures ∙ ap reach_reply_of c.before.reach.ensures
+returns c = c.reach_reply.ensures ∙ ap reach_reply_of c.before.reach.ensures
 
-pub reach-spec : {M : Type 1} → statement M
-reach-spec = tie.close (tie.spec (λ c κs. search rules) (λ c κs. search rules) returns)
+pub reach_spec : {M : Type 1} → statement M
+reach_spec = tie.close (tie.spec (λ c κs. search rules) (λ c κs. search rules) returns)

@@ -1,10 +1,10 @@
 -- `replies::layout::layout` meets its contract: the reply of the call layout, field by field. Assumes nothing.
+use Rattle.std.specs.Prelude.{if◌then◌else◌}
 use Prim.Native.Nat.{ℕ}
 use mathlib.Core.Path.{◌≡◌, refl, ap, ◌∙◌}
 use mathlib.Core.Bool.{Bool, true, false}
 use borrow.Author.Rules.{rules}
 use mir.Val.{bool_byte}
-use Rattle.base.specs.Choice.{if◌then◌else◌}
 use Rattle.panels.specs.Panels.{Panels}
 use Rattle.panels.specs.Reply.{LayoutReplied, layout_replied}
 use Rattle.base.specs.Answer.{Answer, replied}
@@ -32,7 +32,7 @@ struct-replied r a e =
 
 returns : tie.Need-returns
 returns c =
-    let r = c.before.before.before.layout in
+    let r = c.before.before.before.layout-reply in
     ap (λ (how : Reply). record {
       number = how.number;
       value = how.value;
@@ -42,8 +42,8 @@ returns c =
       tries = r.result.tries;
       floor = r.result.floor;
     })
-    (c.before.before.ended.ensures ∙ ap reply_of (no_value r.result.outcome))
+    (c.before.before.ended-how.ensures ∙ ap reply_of (no_value r.result.outcome))
     ∙ struct-replied _ _ r.ensures
 
-pub layout-spec : {M : Type 1} → statement M
-layout-spec = tie.close (tie.spec (λ c κs. search rules) (λ c κs. search rules) (λ c. search rules) returns)
+pub layout_spec : {M : Type 1} → statement M
+layout_spec = tie.close (tie.spec (λ c κs. search rules) (λ c κs. search rules) (λ c. search rules) returns)

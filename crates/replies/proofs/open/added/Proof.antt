@@ -6,7 +6,7 @@ use Rattle.replies.proofs.open.added.Statement.{statement}
 use Rattle.replies.proofs.open.added.Tie as tie
 
 returns : tie.Need-returns
-returns c = let call = c.before.add in c.with-reply.ensures ∙ changes_seen _ _ call.result call.ensures
+returns c = let call = c.before.add in c.with_reply.ensures ∙ changes_seen _ _ call.result call.ensures
 
-pub added-spec : {M : Type 1} → statement M
-added-spec = tie.close (tie.spec (λ c κs. c.requires) (λ c κs. search rules) returns)
+pub added_spec : {M : Type 1} → statement M
+added_spec = tie.close (tie.spec (λ c κs. c.requires) (λ c κs. search rules) returns)

@@ -8,7 +8,7 @@ use Rattle.replies.proofs.open.kept.Statement.{statement}
 use Rattle.replies.proofs.open.kept.Tie as tie
 
 returns : tie.Need-returns
-returns c = let call = c.before.test-state in c.ending.ensures ∙ ap ended_by (no_value call.result ∙ ap replied call.ensures)
+returns c = let call = c.before.test_state in c.ending.ensures ∙ ap ended_by (no_value call.result ∙ ap replied call.ensures)
 
-pub kept-spec : {M : Type 1} → statement M
-kept-spec = tie.close (tie.spec (λ c κs. search rules) (λ c κs. search rules) returns)
+pub kept_spec : {M : Type 1} → statement M
+kept_spec = tie.close (tie.spec (λ c κs. search rules) (λ c κs. search rules) returns)

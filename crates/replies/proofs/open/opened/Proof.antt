@@ -7,17 +7,16 @@ use Rattle.replies.proofs.OpenLaws.{opens_done, opens_refused}
 use Rattle.replies.proofs.open.opened.Statement.{statement}
 use Rattle.replies.proofs.open.opened.Tie as tie
 
-returns : tie.Need-returns
+returns : tie.Need-returns-in-Header
 returns c =
-    let x = sym c.before.header.given.1 in
-    let e = c.before.before.before.open.ensures in
+    let x = sym c.in-Header.is in
+    let e = c.open.ensures in
     opens_done _ (ap opening_answer x ∙ e.0) (ap opens_with x ∙ e.1)
 
-returns-2 : tie.Need-returns-2
+returns-2 : tie.Need-returns-in-Refused
 returns-2 c =
-    let x = c.before.before.refusal.given in
-    let e = c.before.before.before.before.open.ensures in
-    opens_refused _ x.0.0 (ap opening_answer (sym x.1) ∙ e.0) (ap opens_with (sym x.1) ∙ e.1) c.refused.ensures
+    let e = c.open.ensures in
+    opens_refused _ c.in-Refused.refusal (ap opening_answer (sym c.in-Refused.is) ∙ e.0) (ap opens_with (sym c.in-Refused.is) ∙ e.1) c.refused.ensures
 
-pub opened-spec : {M : Type 1} → statement M
-opened-spec = tie.close (tie.spec (λ c κs. search rules) (λ c. search rules) (λ c. search rules) (λ c κs. search rules) returns returns-2)
+pub opened_spec : {M : Type 1} → statement M
+opened_spec = tie.close (tie.spec (λ c κs. search rules) (λ c. search rules) (λ c. search rules) (λ c κs. search rules) returns returns-2)

@@ -6,7 +6,7 @@ use Rattle.replies.proofs.open.reached.Statement.{statement}
 use Rattle.replies.proofs.open.reached.Tie as tie
 
 returns : tie.Need-returns
-returns c = c.reach-reply.ensures ∙ ap reach_reply_of c.before.reach.ensures
+returns c = c.reach_reply.ensures ∙ ap reach_reply_of c.before.reach.ensures
 
-pub reached-spec : {M : Type 1} → statement M
-reached-spec = tie.close (tie.spec (λ c κs. c.requires) (λ c κs. search rules) returns)
+pub reached_spec : {M : Type 1} → statement M
+reached_spec = tie.close (tie.spec (λ c κs. c.requires) (λ c κs. search rules) returns)

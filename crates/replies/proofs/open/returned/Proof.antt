@@ -6,7 +6,7 @@ use Rattle.replies.proofs.open.returned.Statement.{statement}
 use Rattle.replies.proofs.open.returned.Tie as tie
 
 returns : tie.Need-returns
-returns c = let call = c.before.return-to in c.with-reply.ensures ∙ changes_seen _ _ call.result call.ensures
+returns c = let call = c.before.return_to in c.with_reply.ensures ∙ changes_seen _ _ call.result call.ensures
 
-pub returned-spec : {M : Type 1} → statement M
-returned-spec = tie.close (tie.spec (λ c κs. search rules) (λ c κs. search rules) returns)
+pub returned_spec : {M : Type 1} → statement M
+returned_spec = tie.close (tie.spec (λ c κs. search rules) (λ c κs. search rules) returns)

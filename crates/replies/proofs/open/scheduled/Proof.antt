@@ -8,7 +8,7 @@ use Rattle.replies.proofs.open.scheduled.Tie as tie
 returns : tie.Need-returns
 returns c =
     let planned = c.before.before.before.schedule in
-    (c.plan-reply.ensures ∙ ap plan_reply_of planned.ensures.0, planned.ensures.1)
+    (c.plan_reply.ensures ∙ ap plan_reply_of planned.ensures.0, planned.ensures.1)
 
-pub scheduled-spec : {M : Type 1} → statement M
-scheduled-spec = tie.close (tie.spec (λ c κs. c.before.before.requires) (λ c κs. search rules) (λ c. search rules) returns)
+pub scheduled_spec : {M : Type 1} → statement M
+scheduled_spec = tie.close (tie.spec (λ c κs. c.before.before.requires) (λ c κs. search rules) (λ c. search rules) returns)

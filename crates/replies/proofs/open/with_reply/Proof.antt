@@ -11,7 +11,7 @@ abbrev beside : StoredJob → Reply → Changed
 beside m r = record { next = m; reply = r }
 
 returns : tie.Need-returns
-returns c = ap (beside _) c.before.ended.ensures
+returns c = ap (beside _) c.before.ended-reply.ensures
 
-pub with-reply-spec : {M : Type 1} → statement M
-with-reply-spec = tie.close (tie.spec (λ c κs. search rules) returns)
+pub with_reply_spec : {M : Type 1} → statement M
+with_reply_spec = tie.close (tie.spec (λ c κs. search rules) returns)

@@ -6,7 +6,7 @@ use Rattle.replies.proofs.open.withdrawn.Statement.{statement}
 use Rattle.replies.proofs.open.withdrawn.Tie as tie
 
 returns : tie.Need-returns
-returns c = let call = c.before.withdraw in c.with-reply.ensures ∙ changes_seen _ _ call.result call.ensures
+returns c = let call = c.before.withdraw in c.with_reply.ensures ∙ changes_seen _ _ call.result call.ensures
 
-pub withdrawn-spec : {M : Type 1} → statement M
-withdrawn-spec = tie.close (tie.spec (λ c κs. c.requires) (λ c κs. search rules) returns)
+pub withdrawn_spec : {M : Type 1} → statement M
+withdrawn_spec = tie.close (tie.spec (λ c κs. c.requires) (λ c κs. search rules) returns)

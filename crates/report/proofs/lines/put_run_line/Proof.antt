@@ -4,7 +4,7 @@ use Rattle.report.proofs.lines.put_run_line.Statement.{statement}
 use Rattle.report.proofs.lines.put_run_line.Tie as tie
 
 returns : tie.Need-returns
-returns c = c.before.before.put-line.ensures
+returns c = c.before.before.put_line.ensures
 
-pub put-run-line-spec : {M : Type 1} → statement M
-put-run-line-spec = tie.close (tie.spec (λ c. search rules) (λ c κs. c.before.before.before.before.requires) (λ c. search rules) returns)
+pub put_run_line_spec : {M : Type 1} → statement M
+put_run_line_spec = tie.close (tie.spec (λ c. search rules) (λ c κs. c.before.before.before.before.requires) (λ c. search rules) returns)

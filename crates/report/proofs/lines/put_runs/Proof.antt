@@ -29,32 +29,32 @@ front_fits : (c : tie.Start) → 0 + length (front c.args.right c.args.left) ≤
 front_fits c = first_fits 0 (front c.args.right c.args.left) (back c.args.right c.args.left) (length c.args.text.now) (whole-fits c)
 
 -- where the front is written
-abbrev start : tie.After-put-run-lines2 → tie.Start
-start c = c.before.before.before.before.before.before.before.before.before
+abbrev start : tie.After-put_run_lines-last → tie.Start
+start c = c.before.before.before.before.before.before.before.before.before.before.before
 
-front-written : (c : tie.After-put-run-lines2)
-    → Written (start c).args.text.now 0 (front (start c).args.right (start c).args.left) c.put-run-lines2.result c.put-run-lines2.new.0
-front-written c = written_more c.before.before.before.before.before.put-run-lines.ensures c.put-run-lines2.ensures (front_fits (start c))
+front-written : (c : tie.After-put_run_lines-last)
+    → Written (start c).args.text.now 0 (front (start c).args.right (start c).args.left) c.put_run_lines-last.result c.put_run_lines-last.new.text
+front-written c = written_more c.put_run_lines-second.ensures c.put_run_lines-last.ensures (front_fits (start c))
 
-put-run-lines-requires : tie.Need-put-run-lines-requires
+put-run-lines-requires : tie.Need-put_run_lines-second-requires
 put-run-lines-requires c κs =
-    let s = c.before.before.before in (
+    let s = c.before.before.before.before in (
       s.requires.0,
       first_fits 0 (run_lines right_word (runs_of s.args.right)) (run_lines left_word (runs_of s.args.left)) (length s.args.text.now) (front_fits s),
     )
 
-put-run-lines-requires-2 : tie.Need-put-run-lines-requires-2
+put-run-lines-requires-2 : tie.Need-put_run_lines-last-requires
 put-run-lines-requires-2 c κs =
-    let s = c.before.before.before.before.before.before.before.before in
-    (s.requires.1.0, written_room c.before.before.before.before.put-run-lines.ensures (run_lines left_word (runs_of s.args.left)) (front_fits s))
+    let s = c.before.before.before.before.before.before.before.before.before.before in
+    (s.requires.1.0, written_room c.put_run_lines-second.ensures (run_lines left_word (runs_of s.args.left)) (front_fits s))
 
 -- the totals printed are those of the sides
-totals : (c : tie.After-covered-length2)
-    → total_line c.before.covered-length.result c.covered-length2.result
+totals : (c : tie.After-covered_length-2)
+    → total_line c.before.covered_length.result c.covered_length-2.result
     ≡ back (start c.before.before.before.before.before).args.right (start c.before.before.before.before.before).args.left
-totals c = λ i. total_line (c.before.covered-length.ensures i) (c.covered-length2.ensures i)
+totals c = λ i. total_line (c.before.covered_length.ensures i) (c.covered_length-2.ensures i)
 
-put-total-requires : tie.Need-put-total-requires
+put-total-requires : tie.Need-put_total-requires
 put-total-requires c κs =
     let f = c.before.before.before.before.before in
     rw (totals c) (written_room (front-written f) (back (start f).args.right (start f).args.left) (whole-fits (start f)))
@@ -63,15 +63,13 @@ returns : tie.Need-returns
 unfolding runs_report
 returns c =
     let f = c.before.before.before.before.before.before.before.before in
-    written_more (front-written f) (rw (totals c.before.before.before) at c.before.before.put-total.ensures) (whole-fits (start f))
+    written_more (front-written f) (rw (totals c.before.before.before) at c.before.before.put_total.ensures) (whole-fits (start f))
 
-pub put-runs-spec : {M : Type 1} → statement M
-put-runs-spec =
+pub put_runs_spec : {M : Type 1} → statement M
+put_runs_spec =
     tie.close
     (tie.spec
-    (λ c. search rules)
     put-run-lines-requires
-    (λ c. search rules)
     put-run-lines-requires-2
     (λ c κs. search rules)
     (λ c κs. search rules)

@@ -6,21 +6,21 @@ use Rattle.report.proofs.TextLaws.{written_more, written_room, written_length}
 use Rattle.report.proofs.text.put_field.Statement.{statement}
 use Rattle.report.proofs.text.put_field.Tie as tie
 
-put-decimal-requires : tie.Need-put-decimal-requires
+put-decimal-requires : tie.Need-put_decimal-requires
 put-decimal-requires c κs =
     let s = c.before.before.before.before.before.before in
-    written_room c.before.before.before.put_byte.ensures (decimal s.args.x) s.requires
+    written_room c.before.before.before.put_byte-number.ensures (decimal s.args.x) s.requires
 
 returns : tie.Need-returns
 returns c =
     let s = c.before.before.before.before.before.before.before.before.before in
-    written_more c.before.before.before.before.before.before.put_byte.ensures c.before.before.put-decimal.ensures s.requires
+    written_more c.before.before.before.before.before.before.put_byte-number.ensures c.before.before.put_decimal.ensures s.requires
 
-pub put-field-spec : {M : Type 1} → statement M
-put-field-spec =
+pub put_field_spec : {M : Type 1} → statement M
+put_field_spec =
     tie.close
     (tie.spec
     (λ c κs. search rules)
     put-decimal-requires
-    (λ c. written_length c.before.before.put-decimal.ensures ∙ written_length c.before.before.before.before.before.before.put_byte.ensures)
+    (λ c. written_length c.before.before.put_decimal.ensures ∙ written_length c.before.before.before.before.before.before.put_byte-number.ensures)
     returns)

@@ -12,31 +12,30 @@ use Rattle.schedule.proofs.PlanLaws.{fitted_fits, fitted_short, placed_first}
 use Rattle.schedule.proofs.plan.place.Statement.{statement}
 use Rattle.schedule.proofs.plan.place.Tie as tie
 
-returns : tie.Need-returns
-unfolding bytes_written
-returns c =
-    let a = c.before.before.before.args in
-    let w = write_schedule (runs_of a.t2) in
-    let counted = c.before.bytes-needed.ensures.1 c.if1.true in
-    let short : length a.out.now < length w = omega arith in
-    rw (fitted_short w a.overhangs (length a.out.now) short) (ap (refused 9) counted, refl)
-
-put-schedule-requires : tie.Need-put-schedule-requires
+put-schedule-requires : tie.Need-put_schedule-bytes-requires
 put-schedule-requires c κs =
-    let e = c.before.before.before.before.before in
-    let fits = e.before.bytes-needed.ensures.0 e.if1.false in
+    let fits = c.bytes_needed-needed.ensures.0 (omega arith) in
     search (rules, fits)
 
-returns-2 : tie.Need-returns-2
+returns-2 : tie.Need-returns
 unfolding bytes_written
 returns-2 c =
-    let e = c.before.before.before.before.before.before.before.before in
-    let a = e.before.before.before.args in
-    let w = write_schedule (runs_of a.t2) in
-    let fits : length w ≤ length a.out.now = e.before.bytes-needed.ensures.0 e.if1.false in
-    let put = c.before.before.put-schedule in
+    let a = c.args in
+    let w = write_schedule (runs_of a.list) in
+    let fits : length w ≤ length a.out.now = c.bytes_needed-needed.ensures.0 (omega arith) in
+    let put = c.before.before.put_schedule-bytes in
     rw (fitted_fits w a.overhangs (length a.out.now) fits)
     (ap (λ (n : ℕ). accepted (record { bytes = n; overhangs = a.overhangs })) put.ensures.0, put.ensures.1 ∙ placed_first a.out.now w fits)
 
-pub place-spec : {M : Type 1} → statement M
-place-spec = tie.close (tie.spec (λ c κs. search rules) returns put-schedule-requires (λ c. search rules) returns-2)
+pub place_spec : {M : Type 1} → statement M
+unfolding bytes_written
+place_spec =
+    tie.close
+    (tie.spec (λ c κs. search rules)
+    (λ c.
+    let a = c.args in
+    let w = write_schedule (runs_of a.list) in
+    let counted = c.bytes_needed-needed.ensures.1 (omega arith) in
+    let short : length a.out.now < length w = omega arith in
+    rw (fitted_short w a.overhangs (length a.out.now) short) (ap (refused 9) counted, refl))
+    put-schedule-requires (λ c. search rules) returns-2)

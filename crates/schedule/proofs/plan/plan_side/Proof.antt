@@ -14,15 +14,15 @@ place-requires c κs =
     let a = start.args in
     let es = keyed_envelopes a.keys.now a.ends.now a.count in
     let few = keyed_length a.keys.now a.ends.now a.count (omega (arith, start.requires.0, start.requires.1.1.0)) in
-    rw (c.required_runs_lem.ensures, runs_stored (required_runs es a.continuity))
+    rw (c.required_runs.ensures, runs_stored (required_runs es a.continuity))
     (runs_listed es a.continuity start.requires.1.1.1.0 (omega (arith, few, start.requires.1.1.0)), start.requires.1.1.1.1)
 
 returns : tie.Need-returns
 returns c =
     let r = c.before.before in
     let a = r.before.before.before.before.before.before.args in
-    rw (r.before.required_runs_lem.ensures, runs_stored (required_runs (keyed_envelopes a.keys.now a.ends.now a.count) a.continuity)) at
+    rw (r.before.required_runs.ensures, runs_stored (required_runs (keyed_envelopes a.keys.now a.ends.now a.count) a.continuity)) at
     r.place.ensures
 
-pub plan-side-spec : {M : Type 1} → statement M
-plan-side-spec = tie.close (tie.spec (λ c κs. search rules) place-requires (λ c. search rules) returns)
+pub plan_side_spec : {M : Type 1} → statement M
+plan_side_spec = tie.close (tie.spec (λ c κs. search rules) place-requires (λ c. search rules) returns)

@@ -28,7 +28,7 @@ head l = length (write_number l.count)
 abbrev lent : (count : ℕ) (starts ends levels : List ℕ) → RunList
 lent count starts ends levels = record { count = count; starts = starts; ends = ends; levels = levels }
 
-abbrev invariant-loop : tie.invariant-loop
+abbrev invariant-loop : tie.invariant-loop-done
 invariant-loop out₀ count starts ends levels at₀ end₀ done₀ out at end i =
     let list = lent count starts ends levels in
     (i ≤ count) × (count ≤ 511)
@@ -36,7 +36,7 @@ invariant-loop out₀ count starts ends levels at₀ end₀ done₀ out at end i
     × (end ≡ last_end 0 (first_runs starts ends levels i))
     × (out ≡ placed out₀ (head list) (records list i))
 
-abbrev decreases-loop : tie.decreases-loop
+abbrev decreases-loop : tie.decreases-loop-done
 decreases-loop out₀ count starts ends levels at₀ end₀ done₀ out at end i = count - i
 
 -- the record of run i
@@ -68,11 +68,11 @@ turn l i at end next out₀ out new a e o n w fits =
       w ∙ rw (a, e, o, more) (placed_append out₀ (head l) (records l i) (record_at l i) fits),
     )
 
-put-number-requires : tie.Need-put-number-requires invariant-loop decreases-loop
+put-number-requires : tie.Need-put_number-at-requires invariant-loop decreases-loop
 put-number-requires c κs =
     (omega (arith, top c.before.before), omega (arith, whole_length (list c.before.before), c.before.before.requires.1))
 
-loop-holds : tie.Need-loop-init invariant-loop decreases-loop
+loop-holds : tie.Need-loop-done-init invariant-loop decreases-loop
 loop-holds c =
     let l = list c.before.before.before.before.before in
     let none = records_none l.starts l.ends l.levels in (
@@ -80,26 +80,26 @@ loop-holds c =
       top c.before.before.before.before.before,
       omega (arith, ap length none),
       sym (last_none l.starts l.ends l.levels),
-      rw none (sym (placed_none c.before.before.put-number.new.0 (head l))),
+      rw none (sym (placed_none c.before.before.put_number-at.new.out (head l))),
     )
 
 -- in a turn, the run list and where the loop stands
 abbrev Turn : Type 0
-Turn = tie.In-loop invariant-loop decreases-loop
+Turn = tie.In-loop-done invariant-loop decreases-loop
 
 abbrev start : Turn → tie.Start invariant-loop decreases-loop
 start c = c.before.before.before.before.before.before.before
 
 -- the output is as long as at entry, and the record of run i fits
-same : (c : tie.At-loop invariant-loop decreases-loop) → length c.loop.out ≡ length c.before.before.before.before.before.before.args.out.now
+same : (c : tie.At-loop-done invariant-loop decreases-loop) → length c.loop-done.out ≡ length c.before.before.before.before.before.before.args.out.now
 same c =
     let s = c.before.before.before.before.before.before in
     let l = list s in
-    let first = c.before.before.before.put-number in
-    ap length c.loop.invariant.4 ∙ placed_length first.new.0 (head l) (records l c.loop.done) ∙ ap length first.ensures.1
+    let first = c.before.before.before.put_number-at in
+    ap length c.loop-done.invariant.4 ∙ placed_length first.new.out (head l) (records l c.loop-done.done) ∙ ap length first.ensures.1
     ∙ placed_length s.args.out.now 0 (write_number l.count)
 
-room : (c : Turn) → c.before.loop.at + length (record_at (list (start c)) c.before.loop.done) ≤ length c.before.loop.out
+room : (c : Turn) → c.before.loop-done.at + length (record_at (list (start c)) c.before.loop-done.done) ≤ length c.before.loop-done.out
 room c =
     let l = list (start c) in
     omega (
@@ -107,37 +107,37 @@ room c =
       same c.before,
       whole_length l,
       (start c).requires.1,
-      records_within l.starts l.ends l.levels c.before.loop.done l.count c.loop-test.true,
+      records_within l.starts l.ends l.levels c.before.loop-done.done l.count c.loop-done-test.true,
     )
 
-put-record-requires : tie.Need-put-record-requires invariant-loop decreases-loop
+put-record-requires : tie.Need-put_record-at-requires invariant-loop decreases-loop
 put-record-requires c κs =
-    let t = c.before.before.before.before in
-    let l = list (start t) in
-    rw t.before.loop.invariant.3 (run_fits l.starts l.ends l.levels l.count t.before.loop.done (start t).requires.0 t.loop-test.true, room t)
-
-loop-again : tie.Need-loop-preserved invariant-loop decreases-loop
-loop-again c =
     let t = c.before.before.before.before.before.before.before in
     let l = list (start t) in
-    let at = t.before.loop in
-    let first = t.before.before.before.before.put-number in
-    let written = c.before.before.put_record in
-    let fits : head l + length (records l at.done) + length (record_at l at.done) ≤ length first.new.0 =
-    omega (arith, room t, ap length at.invariant.4, placed_length first.new.0 (head l) (records l at.done)) in
-    let step = turn l at.done at.at at.end written.result first.new.0 at.out written.new.0 at.invariant.2 at.invariant.3 at.invariant.4
+    rw t.before.loop-done.invariant.3 (run_fits l.starts l.ends l.levels l.count t.before.loop-done.done (start t).requires.0 t.loop-done-test.true, room t)
+
+loop-again : tie.Need-loop-done-preserved invariant-loop decreases-loop
+loop-again c =
+    let t = c.before.before.before.before.before.before.before.before.before.before in
+    let l = list (start t) in
+    let at = t.before.loop-done in
+    let first = t.before.before.before.before.put_number-at in
+    let written = c.before.before.put_record-at in
+    let fits : head l + length (records l at.done) + length (record_at l at.done) ≤ length first.new.out =
+    omega (arith, room t, ap length at.invariant.4, placed_length first.new.out (head l) (records l at.done)) in
+    let step = turn l at.done at.at at.end written.result first.new.out at.out written.new.out at.invariant.2 at.invariant.3 at.invariant.4
     written.ensures.0 written.ensures.1 fits in
     (omega arith, at.invariant.1, step.0, sym (last_more l.starts l.ends l.levels at.done), step.1)
 
-same_length : tie.Need-same-length invariant-loop decreases-loop
+same_length : tie.Need-shape_of-out invariant-loop decreases-loop
 same_length c = same c.before
 
 returns : tie.Need-returns invariant-loop decreases-loop
 returns c =
     let s = c.before.before.before.before.before.before.before in
     let l = list s in
-    let at = c.before.loop in
-    let first = c.before.before.before.before.put-number in
+    let at = c.before.loop-done in
+    let first = c.before.before.before.before.put_number-at in
     let done : at.done ≡ l.count = omega arith in
     let fits : 0 + head l + length (records l l.count) ≤ length s.args.out.now = omega (arith, whole_length l, s.requires.1) in (
       rw done at at.invariant.2 ∙ sym (whole_length l),
@@ -145,8 +145,8 @@ returns c =
           (rw (zero-add (head l)) at (placed_append s.args.out.now 0 (write_number l.count) (records l l.count) fits)),
     )
 
-pub put-schedule-spec : {M : Type 1} → statement M
-put-schedule-spec =
+pub put_schedule_spec : {M : Type 1} → statement M
+put_schedule_spec =
     tie.close
     (tie.spec
     invariant-loop

@@ -12,13 +12,13 @@ use Rattle.schedule.proofs.write.record_length.Tie as tie
 short : (n : ℕ) → n ≤ greatest_number → group_count n ≤ 6
 short n h = omega (arith, group_count_lem n h, number_length n)
 
-add-result : tie.Need-overflow-add-result
+add-result : tie.Need-overflow_add-result
 add-result c =
     let a = c.before.before.args in
     let f = c.before.before.requires in
     omega (arith, short (a.start - a.end) (omega (arith, f.long, f.ends)), short (a.stop - a.start) (omega (arith, f.ends)))
 
-add-result-2 : tie.Need-overflow-add-result-2
+add-result-2 : tie.Need-overflow_add-result-2
 add-result-2 c =
     let a = c.before.before.before.args in
     let f = c.before.before.before.requires in
@@ -34,8 +34,8 @@ returns c =
     let a = c.before.before.before.args in
     omega (arith, record_groups a.end a.start a.stop a.level c.before.before.before.requires)
 
-pub record-length-spec : {M : Type 1} → statement M
-record-length-spec =
+pub record_length_spec : {M : Type 1} → statement M
+record_length_spec =
     tie.close
     (tie.spec
     (λ c. search rules)

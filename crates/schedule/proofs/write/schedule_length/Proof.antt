@@ -14,19 +14,19 @@ use Rattle.schedule.proofs.WriteLaws.{run_fits, record_short, records_more, last
 use Rattle.schedule.proofs.write.schedule_length.Statement.{statement}
 use Rattle.schedule.proofs.write.schedule_length.Tie as tie
 
-abbrev invariant-loop : tie.invariant-loop
+abbrev invariant-loop : tie.invariant-loop-i
 invariant-loop count starts ends levels bytes₀ end₀ i₀ bytes end i =
     (i ≤ count) × (count ≤ 511) × (bytes ≤ 6 + 18 * i)
     × (bytes ≡ length (write_number count) + length (write_records 0 (first_runs starts ends levels i)))
     × (end ≡ last_end 0 (first_runs starts ends levels i))
 
-abbrev decreases-loop : tie.decreases-loop
+abbrev decreases-loop : tie.decreases-loop-i
 decreases-loop count starts ends levels bytes₀ end₀ i₀ bytes end i = count - i
 
 top : (c : tie.Start invariant-loop decreases-loop) → c.args.count ≤ 511
 top c = let l = c.args in count_top l.starts.now l.ends.now l.levels.now l.count c.requires
 
-loop-holds : tie.Need-loop-init invariant-loop decreases-loop
+loop-holds : tie.Need-loop-i-init invariant-loop decreases-loop
 loop-holds c =
     let l = c.before.args in
     let g = group_count_lem l.count (omega (arith, top c.before)) in (
@@ -37,23 +37,23 @@ loop-holds c =
       sym (last_none l.starts.now l.ends.now l.levels.now),
     )
 
-record-length-requires : tie.Need-record-length-requires invariant-loop decreases-loop
+record-length-requires : tie.Need-record_length-bytes-requires invariant-loop decreases-loop
 record-length-requires c κs =
-    let l = c.before.before.before.before.before.before.args in
-    let at = c.before.before.before.before.loop in
-    rw at.invariant.4 (run_fits l.starts.now l.ends.now l.levels.now l.count at.i c.before.before.before.before.before.before.requires
-    c.before.before.before.loop-test.true)
+    let l = c.args in
+    let at = c.loop-i in
+    rw at.invariant.4 (run_fits l.starts.now l.ends.now l.levels.now l.count at.i c.requires
+    c.loop-i-test.true)
 
-add-bytes : tie.Need-overflow-add-bytes invariant-loop decreases-loop
+add-bytes : tie.Need-overflow_add-bytes invariant-loop decreases-loop
 add-bytes c =
     let l = c.before.before.before.before.before.before.before.args in
-    let at = c.before.before.before.before.before.loop in
+    let at = c.before.before.before.before.before.loop-i in
     omega (arith, record_short at.end (run l.starts.now l.ends.now l.levels.now at.i))
 
-loop-again : tie.Need-loop-preserved invariant-loop decreases-loop
+loop-again : tie.Need-loop-i-preserved invariant-loop decreases-loop
 loop-again c =
-    let l = c.before.before.before.before.before.before.before.args in
-    let at = c.before.before.before.before.before.loop in
+    let l = c.args in
+    let at = c.loop-i in
     let short = record_short at.end (run l.starts.now l.ends.now l.levels.now at.i) in (
       omega arith,
       at.invariant.1,
@@ -66,11 +66,11 @@ returns : tie.Need-returns invariant-loop decreases-loop
 unfolding write_schedule
 returns c =
     let l = c.before.before.before.args in
-    let done : c.before.loop.i ≡ l.count = omega arith in
-    rw (length-append, runs_length l.starts.now l.ends.now l.levels.now l.count) (rw (done) at c.before.loop.invariant.3)
+    let done : c.before.loop-i.i ≡ l.count = omega arith in
+    rw (length-append, runs_length l.starts.now l.ends.now l.levels.now l.count) (rw (done) at c.before.loop-i.invariant.3)
 
-pub schedule-length-spec : {M : Type 1} → statement M
-schedule-length-spec =
+pub schedule_length_spec : {M : Type 1} → statement M
+schedule_length_spec =
     tie.close
     (tie.spec
     invariant-loop

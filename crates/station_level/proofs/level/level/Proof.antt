@@ -13,44 +13,44 @@ use Rattle.station_level.proofs.level.level.Statement.{statement}
 use Rattle.station_level.proofs.level.level.Tie as tie
 
 -- The side was asked for by the window about the station.
-abbrev start : tie.After-side-of → tie.Start
+abbrev start : tie.After-side_of-read → tie.Start
 start r = r.before.before.before.before.before.before
 
-about : (r : tie.After-side-of) → let a = (start r).args in
-    side_within a.job.now a.side (window_about a.station) ≡ side_within a.job.now a.side r.before.before.before.window-about.result
-about r = let a = (start r).args in ap (side_within a.job.now a.side) (sym r.before.before.before.window-about.ensures)
+about : (r : tie.After-side_of-read) → let a = (start r).args in
+    side_within a.job.now a.side (window_about a.station) ≡ side_within a.job.now a.side r.before.before.before.window_about-window.result
+about r = let a = (start r).args in ap (side_within a.job.now a.side) (sym r.before.before.before.window_about-window.ensures)
 
-returns : tie.Need-returns
+returns : tie.Need-returns-then-side-gt1
 returns c =
     let a = c.before.before.args in
-    sym (level_bad_side a.job.now a.side a.station c.if1.true)
+    sym (level_bad_side a.job.now a.side a.station c.if-side-gt1.true)
 
-required-level-requires : tie.Need-required-level-requires
+required-level-requires : tie.Need-required_level-requires
 required-level-requires c κs =
-    let r = c.before.before.before.before.before.before in
-    let a = (start r).args in
-    let e = side_done _ _ r.side-of.result a.job.now a.side _ r.side-of.ensures.0 c.before.before.enum_told.given.1 in
-    (r.side-of.ensures.1, (side_sound a.job.now a.side _ _ e, side_continuity a.job.now a.side _ _ e))
-
-returns-2 : tie.Need-returns-2
-returns-2 c =
-    let r = c.before.before.before.before.before.before.before in
-    let a = (start r).args in
-    let side : a.side ≤ 1 = omega arith in
-    let e = side_done _ _ r.side-of.result a.job.now a.side _ r.side-of.ensures.0 c.before.before.before.enum_told.given.1 in
-    ap accepted c.required-level.ensures ∙ sym (level_done a.job.now a.side a.station side _ (about r ∙ e))
-
-returns-3 : tie.Need-returns-3
-returns-3 c =
     let r = c.before.before.before.before.before in
     let a = (start r).args in
+    let e = side_done _ _ r.side_of-read.result a.job.now a.side _ r.side_of-read.ensures.0 c.before.before.in-Done.is in
+    (r.side_of-read.ensures.1, (side_sound a.job.now a.side _ _ e, side_continuity a.job.now a.side _ _ e))
+
+returns-2 : tie.Need-returns-in-Done
+returns-2 c =
+    let r = c.before.before.before.before.before.before in
+    let a = (start r).args in
     let side : a.side ≤ 1 = omega arith in
-    let x = c.before.outcome.given.0.0 in
-    let e = side_refused _ _ r.side-of.result a.job.now a.side _ r.side-of.ensures.0 x c.before.outcome.given.1 in
+    let e = side_done _ _ r.side_of-read.result a.job.now a.side _ r.side_of-read.ensures.0 c.before.before.before.in-Done.is in
+    ap accepted c.required_level.ensures ∙ sym (level_done a.job.now a.side a.station side _ (about r ∙ e))
+
+returns-3 : tie.Need-returns-in-Refused
+returns-3 c =
+    let r = c.before.before.before in
+    let a = (start r).args in
+    let side : a.side ≤ 1 = omega arith in
+    let x = c.in-Refused.refusal in
+    let e = side_refused _ _ r.side_of-read.result a.job.now a.side _ r.side_of-read.ensures.0 x c.in-Refused.is in
     sym (level_refused a.job.now a.side a.station side x (about r ∙ e))
 
-pub level-spec : {M : Type 1} → statement M
-level-spec =
+pub level_spec : {M : Type 1} → statement M
+level_spec =
     tie.close
     (tie.spec returns (λ c κs. search rules) (λ c. search rules) (λ c. search rules) (λ c κs. search rules) (λ c. search rules) (λ c. search rules)
     (λ c. search rules)

@@ -7,5 +7,5 @@ use Rattle.station_level.proofs.nearest.has_station.Tie as tie
 returns : tie.Need-returns
 returns c = refl
 
-pub has-station-spec : {M : Type 1} → statement M
-has-station-spec = tie.close (tie.spec (λ c. search rules) returns)
+pub has_station_spec : {M : Type 1} → statement M
+has_station_spec = tie.close (tie.spec (λ c. search rules) returns)

@@ -12,46 +12,46 @@ use Rattle.station_level.proofs.NearestLaws.{read_none, level_found_lem, level_l
 use Rattle.station_level.proofs.nearest.highest_level.Statement.{statement}
 use Rattle.station_level.proofs.nearest.highest_level.Tie as tie
 
-abbrev invariant-loop : tie.invariant-loop
+abbrev invariant-loop : tie.invariant-loop-v
 invariant-loop continuity station near end₀ start₀ v₀ end start v =
     (v ≤ 6) × (end ≤ last_station) × ((es : List Stretch) → AllSound es → NearestOf es station near → ReadTo es continuity station v end start)
 
-abbrev decreases-loop : tie.decreases-loop
+abbrev decreases-loop : tie.decreases-loop-v
 decreases-loop continuity station near end₀ start₀ v₀ end start v = v
 
-loop-holds : tie.Need-loop-init invariant-loop decreases-loop
+loop-holds : tie.Need-loop-v-init invariant-loop decreases-loop
 loop-holds c = (omega arith, omega arith, λ es sound kept. read_none es sound c.args.continuity c.args.station)
 
-has-station-requires : tie.Need-has-station-requires invariant-loop decreases-loop
+has-station-requires : tie.Need-has_station-requires invariant-loop decreases-loop
 has-station-requires c κs =
-    let l = c.before.before.before.before.before.loop in
+    let l = c.before.before.before.before.before.loop-v in
     let pre = c.before.before.before.before.before.before.requires in
-    (omega (arith, c.before.before.max.ensures, l.invariant.1, pre.0 l.v (omega arith)), pre.1)
+    (omega (arith, c.before.before.max-end.ensures, l.invariant.1, pre.0 l.v (omega arith)), pre.1)
 
-returns : tie.Need-returns invariant-loop decreases-loop
+returns : tie.Need-returns-then-has_station invariant-loop decreases-loop
 returns c =
     let start = c.before.before.before.before.before.before.before.before in
-    let l = c.before.before.before.before.before.before.before.loop in
-    λ es sound kept. level_found_lem es sound start.args.t1 start.args.continuity start.args.station l.v l.end l.start kept
+    let l = c.before.before.before.before.before.before.before.loop-v in
+    λ es sound kept. level_found_lem es sound start.args.near start.args.continuity start.args.station l.v l.end l.start kept
     (l.invariant.2 es sound kept) (omega arith) (omega arith)
-    c.before.before.before.before.max.ensures c.before.before.min.ensures (omega arith) (sym c.before.has-station.ensures ∙ c.if1.true)
+    c.before.before.before.before.max-end.ensures c.before.before.min-start.ensures (omega arith) (sym c.before.has_station.ensures ∙ c.if-has_station.true)
 
-loop-again : tie.Need-loop-preserved invariant-loop decreases-loop
+loop-again : tie.Need-loop-v-preserved invariant-loop decreases-loop
 loop-again c =
     let start = c.before.before.before.before.before.before.before.before in
-    let l = c.before.before.before.before.before.before.before.loop in (
+    let l = c.before.before.before.before.before.before.before.loop-v in (
       omega arith,
-      omega (arith, c.before.before.before.before.max.ensures, l.invariant.1, start.requires.0 l.v (omega arith)),
-      λ es sound kept. level_lower es sound start.args.t1 start.args.continuity start.args.station l.v l.end l.start kept
+      omega (arith, c.before.before.before.before.max-end.ensures, l.invariant.1, start.requires.0 l.v (omega arith)),
+      λ es sound kept. level_lower es sound start.args.near start.args.continuity start.args.station l.v l.end l.start kept
           (l.invariant.2 es sound kept) (omega arith) (omega arith)
-          c.before.before.before.before.max.ensures c.before.before.min.ensures (sym c.before.has-station.ensures ∙ c.if1.false),
+          c.before.before.before.before.max-end.ensures c.before.before.min-start.ensures (sym c.before.has_station.ensures ∙ c.if-has_station.false),
     )
 
-returns-2 : tie.Need-returns-2 invariant-loop decreases-loop
-returns-2 c = λ es sound kept. omega (arith, (c.before.loop.invariant.2 es sound kept).level, c.loop-test.false)
+returns-2 : tie.Need-returns invariant-loop decreases-loop
+returns-2 c = λ es sound kept. omega (arith, (c.before.loop-v.invariant.2 es sound kept).level, c.loop-v-test.false)
 
-pub highest-level-spec : {M : Type 1} → statement M
-highest-level-spec =
+pub highest_level_spec : {M : Type 1} → statement M
+highest_level_spec =
     tie.close
     (tie.spec
     invariant-loop

@@ -8,25 +8,25 @@ use Rattle.withdrawal.proofs.HazardLaws.{told_there, told_refused}
 use Rattle.withdrawal.proofs.reach.reach.Statement.{statement}
 use Rattle.withdrawal.proofs.reach.reach.Tie as tie
 
-hazard-reach-requires : tie.Need-hazard-reach-requires
+hazard-reach-requires : tie.Need-hazard_reach-requires
 hazard-reach-requires c κs =
-    let r = c.before.before.before in
-    let a = r.before.before.args in
-    let fits = indexed_fits a.job.now a.hazard _ (sym r.indexed-hazard.ensures ∙ ap indexed_answer c.before.header.given.1) in
+    let r = c in
+    let a = r.args in
+    let fits = indexed_fits a.job.now a.hazard _ (sym r.indexed_hazard.ensures ∙ ap indexed_answer c.in-Hazard.is) in
     (fits.header, (fits.hazard, fits.passed))
 
-returns : tie.Need-returns
+returns : tie.Need-returns-in-Hazard
 returns c =
-    let r = c.before.before.before.before in
-    let a = r.before.before.args in
-    told_there a.job.now a.hazard (sym r.indexed-hazard.ensures ∙ ap indexed_answer c.before.before.header.given.1) c.hazard-reach.ensures
+    let r = c in
+    let a = r.args in
+    told_there a.job.now a.hazard (sym r.indexed_hazard.ensures ∙ ap indexed_answer c.in-Hazard.is) c.hazard_reach.ensures
 
-returns-2 : tie.Need-returns-2
+returns-2 : tie.Need-returns-in-Refused
 returns-2 c =
-    let r = c.before.before.before in
-    let a = r.before.before.args in
-    let x = c.before.refusal.given.0.0 in
-    told_refused a.job.now a.hazard (number_of x) (value_of x) (sym r.indexed-hazard.ensures ∙ ap indexed_answer c.before.refusal.given.1)
+    let r = c in
+    let a = r.args in
+    let x = c.in-Refused.refusal in
+    told_refused a.job.now a.hazard (number_of x) (value_of x) (sym r.indexed_hazard.ensures ∙ ap indexed_answer c.in-Refused.is)
 
-pub reach-spec : {M : Type 1} → statement M
-reach-spec = tie.close (tie.spec (λ c κs. search rules) (λ c. search rules) hazard-reach-requires (λ c. search rules) returns returns-2)
+pub reach_spec : {M : Type 1} → statement M
+reach_spec = tie.close (tie.spec (λ c κs. search rules) (λ c. search rules) hazard-reach-requires (λ c. search rules) returns returns-2)
