@@ -13,30 +13,41 @@ HAND = $(CARGO) run --release --locked --manifest-path tests/Cargo.toml
 # Document 01's printed example, through the program: proved, built, run.
 run:
 	@mkdir -p target
-	@rt check barrier >target/run.log 2>&1 || { cat target/run.log; exit 1; }
-	@target/bin/barrier <crates/barrier/stdin
+	@cd crates/barrier && rt run <stdin 2>"$(CURDIR)/target/run.log" || { cat "$(CURDIR)/target/run.log"; exit 1; }
 
-# Everything. The toolchain's gate comes last: all proved from nothing, each must-fail edit refused, each program run.
+# Everything. The toolchain's gate comes last: each crate proved, each must-fail edit refused, each program run.
 # Before it the log is told what was built and tested, which make dist reads there.
 test: promises hand vendor-test portable-test
 	@python3 -B delivery/gate.py
-	rt fmt --check
-	rt ci
+	@python3 -B tests/ci.py
 
 # The index of promises, which the prover reads, has every theorem that docs/PROMISES.md names.
 promises:
 	python3 -B tests/promises.py
 
-# The program and the archive, proved.
-engine: proved target/staticlib/libbarrier_engine.a
+# The archive and the program, proved.
+engine: target/staticlib/libbarrier_engine.a target/bin/barrier
 
+# The crates that the engine is made of. What has not changed since it was proved here costs seconds.
 proved:
-	rt check
+	cd crates/barrier_engine && rt lib
 
-# Whatever links the archive or installs it asks for this file, so the proofs and a fresh archive always come first.
+# Whatever links the archive or installs it asks for this file, so the proofs and a fresh archive always come first. The toolchain calls it after its crate. It is
+# made for every x86-64, as the program is; without CPU the toolchain takes a newer one.
+CPU = x86-64
 VENDOR_OWN_ARCHIVE = target/staticlib/libbarrier_engine.a
 $(VENDOR_OWN_ARCHIVE): proved
-	rt staticlib barrier_engine
+	@mkdir -p $(@D)
+	cd crates/barrier_engine_c && rt lib --cpu $(CPU)
+	cp crates/barrier_engine_c/out/libbarrier_engine_c.a $@
+
+# Here the program is always built, so its tests may not be left out.
+BARRIER = target/bin/barrier
+$(BARRIER): proved
+	@mkdir -p $(@D)
+	cd crates/barrier && rt run --cpu $(CPU) <stdin >"$(CURDIR)/target/printed"
+	cmp target/printed crates/barrier/stdout
+	cp crates/barrier/out/barrier $@
 
 # The implementation by another hand: its own tests, the test of the test, and the engine held against it.
 hand: engine
@@ -51,7 +62,7 @@ portable: proved
 portable-test: engine
 	sh portable/test.sh
 
-# The toolchain's examples through the translator; wrong translators, each of which has to be found.
+# The toolchain's own libraries through the translator; wrong translators, each of which has to be found.
 portable-mutants: proved
 	python3 -B portable/tests/examples.py
 	python3 -B portable/tests/mutants.py
@@ -68,24 +79,24 @@ web-test: web
 
 # target/dist/barrier_engine-VERSION and its tar.gz, from the last commit. The page is part of it, and is built here with clang and lld; where these are not,
 # that is said before anything runs, and WEB=no delivers without the page. GATE names the log of a gate run of that commit (.ci/run >LOG); without it the gate
-# runs first, and its log is kept as target/gate.log. The gate removes target/ on its way.
+# runs first, and its log is kept as target/gate.log.
 dist:
 	@[ -z "$(GATE)" ] || [ -f "$(GATE)" ] || { echo "dist: there is no log $(GATE)" >&2; exit 1; }
 	@[ "$(WEB)" = no ] || python3 -B web/build.py --tools || { echo "dist: or leave the page out, WEB=no" >&2; exit 1; }
 	@python3 -B delivery/dist.py ready
 	@if [ -z "$(GATE)" ]; then \
 	    log=$$(mktemp) && echo "dist: the gate runs first; its log is $$log" && \
-	    { MAKEFLAGS='' .ci/run >"$$log" 2>&1 || { tail -n 20 "$$log"; exit 1; }; } && mv "$$log" target/gate.log; \
+	    { MAKEFLAGS='' .ci/run >"$$log" 2>&1 || { tail -n 20 "$$log"; exit 1; }; } && mkdir -p target && mv "$$log" target/gate.log; \
 	fi
 	@$(MAKE) --no-print-directory engine
 	@[ "$(WEB)" = no ] || $(MAKE) --no-print-directory web
 	@python3 -B delivery/dist.py make "$(or $(GATE),target/gate.log)" $(if $(filter no,$(WEB)),--no-page)
 
-# One command that compares: all is proved and built again, and held against CHANGELOG.md and, where DIST names a delivery (its folder or its tar.gz), against
-# that. Without the toolchain, what can be compared without it.
+# One command that compares: all is proved from nothing and built again, and held against CHANGELOG.md and, where DIST names a delivery (its folder or its tar.gz),
+# against that. Without the toolchain, what can be compared without it.
 dist-check:
 	@if command -v rt >/dev/null; then \
-	    rm -rf target/stamp target/rlib target/bin target/staticlib && $(MAKE) --no-print-directory engine && \
+	    rt all verdict && $(MAKE) --no-print-directory engine && \
 	    sh portable/make.sh target/barrier_engine.c && python3 -B delivery/check.py --c target/barrier_engine.c $(if $(DIST),"$(DIST)"); \
 	else \
 	    python3 -B delivery/check.py $(if $(DIST),"$(DIST)"); \
@@ -99,9 +110,6 @@ bench: engine
 
 bench-instructions: engine
 	sh tests/instructions.sh
-
-# Here the program is always built, so its tests may not be left out.
-BARRIER = target/bin/barrier
 
 include Makefile.vendor
 

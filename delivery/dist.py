@@ -44,12 +44,12 @@ def tested(files, log, changelog):
 
 
 def same_crates(c_text, log):
-    """The C file names the first digits of the sums of the crates that it was made from: those of the gate."""
+    """The C file names the first digits of the sums of the MIR that it was made from: those of the gate."""
     head = ' '.join(c_text[:c_text.index('*/')].replace(' * ', ' ').split())
-    named = re.findall(r'\b([a-z0-9_]+) ([0-9a-f]{16})\b', head.split('first 16 digits of its sum: ')[-1])
+    named = re.findall(r'\b([a-z0-9_]+) ([0-9a-f]{16})\b', head.split('first 16 digits of the SHA-256 of its MIR: ')[-1])
     need(named, '%s does not name the crates that it was made from', C_FILE)
     for crate, digits in named:
-        need(log.sums.get(crate, '').startswith(digits), '%s was made from crate %s with sum %s, and the gate proved %s', C_FILE, crate, digits, log.sums.get(crate, 'none'))
+        need(log.mir.get(crate, '').startswith(digits), '%s was made from crate %s with MIR of sum %s, and the gate had %s', C_FILE, crate, digits, log.mir.get(crate, 'none'))
 
 
 def tested_page():

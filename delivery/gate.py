@@ -2,9 +2,9 @@
 
     python3 -B delivery/gate.py
 
-prints, as a step of `make test`, what the toolchain's own lines in the log do not have: the commit, the toolchain, the sum that the toolchain wrote into
-each proved crate, and the SHA-256 of what was built and tested. `make dist` reads them again from the log, with the prover's verdicts. Tested
-(tests/vendor/dist.sh) and not proved.
+prints, as a step of `make test`, what the toolchain's own lines in the log do not have: the commit, the toolchain, the SHA-256 of each crate's files and of the
+MIR that the C is made from, the prover's lines of the archive and of the program, and the SHA-256 of what was built and tested. `make dist` reads them again from
+the log, with what rt ci says of each crate. Tested (tests/vendor/dist.sh) and not proved.
 """
 import pathlib
 import re
@@ -16,6 +16,9 @@ from refused import Refused, need, run
 
 MARK = 'delivery: '
 PASSED = re.compile(r'[1-9][0-9]* passed, 0 failed')
+# The crates that are built for a machine, as CPU names it; of all others the crates above them are made.
+BUILT = {'archive': 'barrier_engine_c', 'program': 'barrier'}
+CPU = 'x86-64'
 
 
 def commit_line():
@@ -25,16 +28,40 @@ def commit_line():
         return 'unknown'
 
 
-def crate_sums(folder='target/rlib'):
-    """Crate -> the sum in its file `format`, as portable/translator reads it."""
-    return {path.parent.stem: re.search(r'^sum ([0-9a-f]+)$', path.read_text(), re.M).group(1) for path in sorted(pathlib.Path(folder).glob('*.rlib/format'))}
+def crates():
+    """The crates' names, in the order of crates.txt as it lies here."""
+    return repository.crates_in(pathlib.Path('crates.txt').read_text(encoding='utf-8'))
+
+
+def files_sum(folder):
+    """The SHA-256 of what sha256sum prints of the files of a crate, in the order of their paths; what rt makes, in out/, is none of them."""
+    paths = {path.relative_to(folder).as_posix(): path for path in folder.rglob('*') if path.is_file()}
+    lines = ['%s  %s\n' % (sha256(read(place)), path) for path, place in sorted(paths.items()) if not path.startswith('out/')]
+    return sha256(''.join(lines).encode())
+
+
+def mir_sums():
+    """Crate -> the SHA-256 of its MIR, as portable/translator reads it."""
+    return {path.parts[-3][:-len('.rlib')]: sha256(read(path)) for path in sorted(pathlib.Path('crates').glob('*/out/rlib/*.rlib/toolchain/mir.json'))}
+
+
+def prover_lines(crate):
+    """The prover's verdict of a crate that is built, and its lines that name axioms."""
+    done = subprocess.run(['rt', 'check', '--cpu', CPU], cwd='crates/' + crate, stdout=subprocess.PIPE, universal_newlines=True)
+    need(done.returncode == 0, '%s is not proved: %s', crate, done.stdout[-500:])
+    return [line for line in done.stdout.splitlines() if re.match(r'(axioms |logic=proved functions=)', line)]
 
 
 def say():
     print(MARK + 'commit ' + commit_line())
     print(MARK + 'toolchain ' + subprocess.run(['rt', 'version'], check=True, stdout=subprocess.PIPE, universal_newlines=True).stdout.strip())
-    for crate, total in crate_sums().items():
-        print(MARK + 'crate %s %s' % (crate, total))
+    for crate in crates():
+        print(MARK + 'crate %s %s' % (crate, files_sum(pathlib.Path('crates') / crate)))
+    for crate, total in mir_sums().items():
+        print(MARK + 'mir %s %s' % (crate, total))
+    for what, crate in BUILT.items():
+        for line in prover_lines(crate):
+            print(MARK + '%s %s' % (what, line))
     for path, place in BUILT_AT.items():
         print(MARK + 'file %s %s' % (path, sha256(read(place))))
 
@@ -52,33 +79,23 @@ class Log:
         said = [' '.join(words[1:]) for words in marked if words[0] == 'toolchain']
         need(len(said) == 1, 'the gate\'s log does not name one toolchain')
         self.toolchain = said[0]
-        self.sums = {words[1]: words[2] for words in marked if words[0] == 'crate'}
-        self.files = {words[1]: words[2] for words in marked if words[0] == 'file'}
+        self.sums, self.mir, self.files = ({words[1]: words[2] for words in marked if words[0] == kind} for kind in ('crate', 'mir', 'file'))
+        self.built = {what: [' '.join(words[1:]) for words in marked if words[0] == what] for what in BUILT}
         need('rt ci' in lines, 'the gate\'s log has no run of rt ci')
         at = len(lines) - 1 - lines[::-1].index('rt ci')
-        self.blocks = blocks(lines[at + 1:], r'rt: ([a-z0-9_]+) proved \([0-9]+ s\)')
-        self.archive = blocks(lines[:at], r'rt: target/staticlib/lib([a-z0-9_]+)\.a has the functions .*').get('barrier_engine', [])
+        proved = {found.group(1) for found in map(PROVED.match, lines[at + 1:]) if found}
         for crate in crates:
-            need(verdict(self.blocks.get(crate, [])), 'the gate\'s log has no verdict of the crate %s', crate)
-            need(crate in self.sums or is_program(self.blocks[crate]), 'the gate\'s log has no sum of the crate %s', crate)
-        need(verdict(self.archive), 'the gate\'s log has no verdict of the archive')
+            need(crate in proved, 'the gate\'s log does not say that the crate %s is proved', crate)
+            need(crate in self.sums, 'the gate\'s log has no sum of the crate %s', crate)
+        for what in BUILT:
+            need(verdict(self.built[what]), 'the gate\'s log has no verdict of the %s', what)
         said = [line for line in lines if line.startswith('portable: barrier_engine.c is ')]
         need(said, 'the gate\'s log does not say that the C is what the proved crates give')
         self.c_line = said[-1]
 
 
-def blocks(lines, end):
-    """Name -> the lines that the toolchain printed of it, which a line of rt's own ends; of several the last."""
-    found, block = {}, []
-    for line in lines:
-        if line.startswith('rt: '):
-            named = re.fullmatch(end, line)
-            if named:
-                found[named.group(1)] = block
-            block = []
-        else:
-            block.append(line)
-    return found
+# rt ci proves a crate anew where its files or those below it have changed since it last did so on the machine.
+PROVED = re.compile(r'rt: ([a-z0-9_]+) (?:proved$|is kept: an earlier run on this machine proved the same files over the same libraries$)')
 
 
 def verdict(block):
@@ -87,14 +104,9 @@ def verdict(block):
     return found[0] if len(found) == 1 else ''
 
 
-def is_program(block):
-    """A program is built for a machine, and the toolchain writes no sum of it."""
-    return ' target=' in verdict(block)
-
-
 def axioms(block):
     """The prover's lines that name axioms; nothing where its verdict counts none."""
-    named = [line for line in block if line.startswith('axioms ')]
+    named = [line for line in block if line.startswith('axioms ') and ': none reached of ' not in line]
     need(bool(named) == (' axioms=' in verdict(block)), 'the gate\'s log counts axioms and does not name them, or the other way about: %s', verdict(block))
     return named
 

@@ -17,9 +17,9 @@ def git(*words, given=b''):
 
 
 def uncommitted():
-    """Names of files that are not as the last commit has them. An untracked one counts below crates/ only: it may be proved with the others."""
+    """Names of files that are not as the last commit has them. An untracked one counts below crates/ only, but for what rt makes there: it may be proved with the others."""
     changed = git('diff', '--name-only', '-z', 'HEAD')
-    untracked = git('ls-files', '--others', '-z', '--', 'crates')
+    untracked = git('ls-files', '--others', '-z', '--exclude=/crates/*/out/', '--', 'crates')
     return [name.decode('utf-8', 'replace') for name in (changed + untracked).split(b'\0') if name]
 
 
@@ -83,7 +83,12 @@ def version_of(header):
     return found.group(1)
 
 
+def crates_in(listed):
+    """The crates' names, in the order of a crates.txt; behind a name may stand what it is, as staticlib."""
+    lines = [line.split('#')[0].partition(':') for line in listed.splitlines()]
+    return [name.split()[0] for name, colon, _ in lines if colon]
+
+
 def crates():
-    """The crates' names, in the order of crates.txt."""
-    lines = [line.split('#')[0].partition(':') for line in text('crates.txt').splitlines()]
-    return [name.strip() for name, colon, _ in lines if colon]
+    """The crates' names, in the order of the last commit's crates.txt."""
+    return crates_in(text('crates.txt'))

@@ -1,5 +1,5 @@
 #!/bin/sh
-# current.sh: fails where portable/barrier_engine.c is not, byte for byte, what the proved MIR in target/rlib gives.
+# current.sh: fails where portable/barrier_engine.c is not, byte for byte, what the MIR of the proved crates gives.
 set -eu
 cd "$(dirname "$0")/.."
 made=$(mktemp)

@@ -3,20 +3,20 @@
 # is built before. Needs gcc, g++, cargo and python3. portable/README.md says what each part shows.
 set -eu
 cd "$(dirname "$0")/.."
-kit=$(dirname "$(dirname "$(rt doc)")")/on/$(uname -m)/rlib
+kit=$(dirname "$(rt doc)")/rlibs
 out=target/portable
 mkdir -p "$out/lib"
 
 sh portable/current.sh
 echo "portable: barrier_engine.c is what the proved MIR gives, byte for byte; barrier.h's calls and structs are the MIR's by width and order, the sources' by name"
-python3 -B portable/tests/header.py target/rlib "$kit"
-python3 -B portable/tests/tie.py target/rlib "$kit"
+python3 -B portable/tests/header.py crates/*/out/rlib "$kit"
+python3 -B portable/tests/tie.py crates/*/out/rlib "$kit"
 CC=gcc CXX=g++ OUT=$out sh portable/tests/build.sh
 python3 -B portable/tests/refusals.py
 python3 -B portable/tests/guards.py
 python3 -B portable/tests/random_mir.py 40
 gcc -shared "$out/usual.o" -o "$out/usual.so"
-python3 -B portable/tests/against_machine.py "$out/usual.so" target/rlib "$kit" 5
+python3 -B portable/tests/against_machine.py "$out/usual.so" 5 1 crates/*/out/rlib "$kit"
 
 # The tests of the archive, over an archive that gcc made from the C.
 rm -f "$out/lib/libbarrier_engine.a"
@@ -29,9 +29,11 @@ echo "portable: the tests of the archive pass over the C, by gcc -O2"
 
 # And as a vendor builds it, with another compiler named: archive, shared library, installation.
 rm -rf "$out/vendor"
+prefix=$(mktemp -d)
+trap 'rm -rf "$prefix"' EXIT
 MAKEFLAGS='' make -s -f Makefile.vendor vendor-c LIBDIR="$out/vendor" CC=gcc AR=ar CFLAGS='-O1 -DNDEBUG'
-MAKEFLAGS='' make -s -f Makefile.vendor install LIBDIR="$out/vendor" VENDOR_BUILD="$out/vendor" CC=gcc PREFIX="$PWD/$out/vendor/prefix" >/dev/null
-gcc -Iinclude examples/first.c -L"$out/vendor/prefix/lib" -lbarrier_engine -Wl,-rpath,"$PWD/$out/vendor/prefix/lib" -o "$out/vendor/first"
+MAKEFLAGS='' make -s -f Makefile.vendor install LIBDIR="$out/vendor" VENDOR_BUILD="$out/vendor" CC=gcc PREFIX="$prefix" >/dev/null
+gcc -Iinclude examples/first.c -L"$prefix/lib" -lbarrier_engine -Wl,-rpath,"$prefix/lib" -o "$out/vendor/first"
 "$out/vendor/first" | diff "$out/wanted" - || { echo "portable: the installed shared library prints something else" >&2; exit 1; }
 if MAKEFLAGS='' make -s -f Makefile.vendor vendor-c LIBDIR=target/staticlib 2>/dev/null; then echo "portable: vendor-c writes over the proved archive" >&2; exit 1; fi
 echo "portable: Makefile.vendor makes archive and shared library from the C, and installs them"

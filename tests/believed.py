@@ -5,8 +5,8 @@ Two counts of lines, without blank lines, comments and imports:
 - definitions of the calls: all that a contract of an exported call or of a
   function of the program (`main` has none) names, and all that these
   definitions name in turn;
-- statements about them: all that the signature of a theorem named in
-  docs/PROMISES.md names beside these, in turn.
+- statements about them: all that the signature of a theorem in the index
+  of promises, or of crate barrier, names beside these, in turn.
 With -v the names. The code's own types that both are over are listed last.
 What the libraries define (the toolchain's, io's) is not counted. It fails on
 a call whose contract it does not find. It reads names and not meanings, and it
@@ -16,6 +16,8 @@ counts; it proves nothing.
 import pathlib
 import re
 import sys
+
+import promises
 
 # The engine's calls and the program; of a file without names, every function.
 CALLS = {
@@ -51,7 +53,7 @@ ORDER = (
 ).split()
 
 # Names that stand between their arguments.
-MIXFIX = {"if": "if_then_else_", ">>=": "_>>=_", "to": "_to_"}
+MIXFIX = {">>=": "◌>>=◌", "to": "◌to◌", "followed_by": "◌followed_by◌"}
 
 TOKEN = re.compile(r"[^\s(){};,\[\]`\"]+")
 IMPORT = re.compile(r"^(?:pub |ghost )*use (\S+?)(?:\.\{([^}]*)\}| as (\S+?));?$", re.M)
@@ -61,7 +63,7 @@ HEAD = re.compile(r"^(\s*)(abbrev |unfoldable )?(pub )?(record |data )?([^\s:({]
 
 
 def module_of(path):
-    found = re.match(r"Rattle·([a-z_]+)(?:·specs|·proofs)?\.(specs|proofs)\.(.+)$", path)
+    found = re.match(r"Rattle\.([a-z_]+)\.(specs|proofs)\.(.+)$", path)
     return found.groups() if found else None
 
 
@@ -141,7 +143,7 @@ def closure(modules, roots):
     while left:
         key, name = left.pop()
         if key[2].startswith("declared."):
-            types.add((key[0], key[2].split(".the-variants")[0].split(".")[-1]))
+            types.add((key[0], key[2].split(".TheVariants")[0].split(".")[-1]))
             continue
         module = modules.get(key)
         if not module:
@@ -167,8 +169,8 @@ def contract_roots(crates):
             yield from module.named_in([contracts[name]], None)
 
 
-def theorem_roots(modules, promises):
-    cited = set(re.findall(r"`([^`\s]*[-→\d][^`\s]*)`", promises))
+def theorem_roots(modules):
+    cited = {name for name, _ in promises.indexed()} | promises.of_program()
     for key, module in modules.items():
         if key[1] == "proofs":
             yield from ((key, n) for n, kind in module.kinds.items() if n in cited and not kind)
@@ -193,8 +195,7 @@ def main():
     crates = pathlib.Path("crates")
     modules = load(crates)
     calls, types = closure(modules, (root for root in contract_roots(crates) if root[0]))
-    promises = pathlib.Path("docs/PROMISES.md").read_text()
-    said, more = closure(modules, theorem_roots(modules, promises))
+    said, more = closure(modules, theorem_roots(modules))
     names_too = "-v" in sys.argv[1:]
     show("Definitions of the calls", modules, calls, names_too)
     show("Statements about them", modules, said - calls, names_too)

@@ -1,18 +1,17 @@
 #!/usr/bin/env python3
 """The check's time for a list of commits: python3 tests/check_times.py COMMIT...
 
-Each commit is checked out apart and proved from nothing, crate by crate in the
-order of their dependencies, with RT_JOBS=1. A crate's figure is the user time
-of its own `rt check`, with what that spends on finding the crates below it
-unchanged. Prints a markdown table, a row for each commit, and each row on
-standard error as it comes. Figures of one table can be compared where nothing
-ran beside it: the load when a commit's check began stands in its row. A crate
-that is not proved ends the script.
+Each commit is checked out apart and proved from nothing, one crate after the
+other in the order of their dependencies (rt all verdict --jobs 1). A crate's
+figure is the user time of its own check. Prints a markdown table, a row for
+each commit, and each row on standard error as it comes. Figures of one table
+can be compared where nothing ran beside it: the load when a commit's check
+began stands in its row. A crate that is not proved ends the script.
 """
 
 import os
 import pathlib
-import resource
+import re
 import subprocess
 import sys
 import tempfile
@@ -22,39 +21,31 @@ def output(*words, **options):
     return subprocess.run(words, check=True, capture_output=True, text=True, **options).stdout
 
 
-def in_order(tree):
-    """The crates of crates.txt, each after those that it depends on."""
-    listed = {}
-    for line in (tree / "crates.txt").read_text().splitlines():
-        name, _, below = line.split("#")[0].partition(":")
-        if name.strip():
-            listed[name.strip()] = below.split()
-    order = []
-
-    def visit(name):
-        if name in listed and name not in order:
-            for below in listed[name]:
-                visit(below)
-            order.append(name)
-
-    for name in listed:
-        visit(name)
-    return order
+def user_seconds(process):
+    """What the commands that a process has run took."""
+    fields = pathlib.Path(f"/proc/{process.pid}/stat").read_text().rpartition(")")[2].split()
+    return int(fields[13]) / os.sysconf("SC_CLK_TCK")
 
 
-def user_seconds(tree, crate):
-    begin = resource.getrusage(resource.RUSAGE_CHILDREN).ru_utime
-    done = subprocess.run(
-        ["rt", "check", crate],
+def checked(tree):
+    """Crate -> seconds. What is printed of a crate comes when its check has ended."""
+    seconds, said, before = {}, "", 0.0
+    with subprocess.Popen(
+        ["rt", "all", "verdict", "--jobs", "1"],
         cwd=tree,
-        env={**os.environ, "RT_JOBS": "1"},
         stdout=subprocess.PIPE,
         stderr=subprocess.STDOUT,
         text=True,
-    )
-    if done.returncode:
-        sys.exit(f"{crate} is not proved:\n{done.stdout[-2000:]}")
-    return resource.getrusage(resource.RUSAGE_CHILDREN).ru_utime - begin
+    ) as run:
+        for line in run.stdout:
+            said += line
+            crate = re.fullmatch(r"== (\w+)\n", line)
+            if crate and crate[1] != "summary":
+                now = user_seconds(run)
+                seconds[crate[1]], before = now - before, now
+    if run.returncode:
+        sys.exit(f"not all is proved:\n{said[-2000:]}")
+    return seconds
 
 
 def row(cells):
@@ -67,7 +58,7 @@ def measure(commit, folder):
     output("git", "worktree", "add", "--detach", str(tree), commit)
     try:
         load = os.getloadavg()[0]
-        return load, {crate: user_seconds(tree, crate) for crate in in_order(tree)}
+        return load, checked(tree)
     finally:
         output("git", "worktree", "remove", "--force", str(tree))
 

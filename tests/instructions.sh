@@ -1,6 +1,6 @@
 #!/bin/sh
 # Instructions for one call, engine beside reference, on fixed jobs: the difference between eleven calls and one, counted by callgrind.
-# The C library clears memory without `rep stosb`, which is one instruction and which callgrind counts once for each byte.
+# The C library clears and copies memory without `rep stosb` and `rep movsb`, which are one instruction each and which callgrind counts once for each byte.
 set -eu
 cd "$(dirname "$0")"
 command -v valgrind >/dev/null || { echo "instructions: valgrind is wanted, and is not on this machine" >&2; exit 1; }
@@ -11,7 +11,7 @@ trap 'rm -rf "$tmp"' EXIT
 
 # A run that fails, or counts nothing, ends the script: a blank would look like a figure.
 counted() { # CASE TIMES WHO [FUNCTION, for what is inside it alone]
-    GLIBC_TUNABLES=glibc.cpu.x86_rep_stosb_threshold=1000000000 valgrind --tool=callgrind --callgrind-out-file=/dev/null ${4:+"--toggle-collect=$4"} \
+    GLIBC_TUNABLES=glibc.cpu.x86_rep_stosb_threshold=1000000000:glibc.cpu.x86_rep_movsb_threshold=1000000000 valgrind --tool=callgrind --callgrind-out-file=/dev/null ${4:+"--toggle-collect=$4"} \
         target/release/bench --case "$1" --times "$2" --who "$3" >"$tmp/said" 2>&1 || { cat "$tmp/said" >&2; exit 1; }
     count=$(sed -n 's/.*Collected : \([0-9][0-9]*\).*/\1/p' "$tmp/said")
     [ "${count:-0}" -gt 0 ] || { echo "instructions: callgrind gives no count for $1" >&2; exit 1; }

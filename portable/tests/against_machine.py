@@ -1,4 +1,4 @@
-"""against_machine.py LIBRARY RLIBS KIT_RLIBS [SECONDS [SEED]]: the calls of barrier.h, interpreted from the MIR (machine.py), beside the same calls of a shared library made from
+"""against_machine.py LIBRARY SECONDS SEED RLIBS..: the calls of barrier.h, interpreted from the MIR (machine.py), beside the same calls of a shared library made from
 barrier_engine.c: the reply and every byte of lent memory. It goes on for the seconds, and until every function that the calls reach has run; it fails where one never does.
 """
 import ctypes
@@ -214,11 +214,10 @@ class Compare:
 
 
 def main():
-    library, folders = sys.argv[1], sys.argv[2:4]
-    seconds, seed = float(sys.argv[4]) if len(sys.argv) > 4 else 30, int(sys.argv[5]) if len(sys.argv) > 5 else 1
+    library, seconds, seed, folders = sys.argv[1], float(sys.argv[2]), int(sys.argv[3]), sys.argv[4:]
     sys.setrecursionlimit(20000)
-    functions, _ = read_crates(folders, 'barrier_engine')
-    names = reached(functions, [n for n in functions if n.startswith('barrier_engine::')])
+    functions = read_crates(folders, 'barrier_engine')
+    names = reached(functions, functions.of('barrier_engine'))
     machine = Machine({n: functions[n] for n in names})
     compare, begin = Compare(machine, library, seed), time.time()
     compare.chosen()

@@ -10,14 +10,13 @@ HERE = pathlib.Path(__file__).resolve().parent
 sys.path.insert(0, os.environ.get('TRANSLATOR', str(HERE.parent / 'translator')))
 from machine import Machine, Stuck  # noqa: E402
 from program import Program  # noqa: E402
-from random_mir import A, S, SHAPES as PLAIN_SHAPES, T, U64, copy, field, int_, libraries, ref, slice_of  # noqa: E402
+from random_mir import A, S, SHAPES as PLAIN_SHAPES, T, U16, U64, copy, declared, field, fn, int_, libraries, named, ref, repeat, slice_of  # noqa: E402
 from refusals import assign, function, op, place  # noqa: E402
 
+EMPTY = {'Array': [U64, {'Lit': 0}]}
 LARGE = {'Array': [U64, {'Lit': 16}]}       # more than 64 bytes: made in place
-R = {'Named': {'name': 'r::R', 'lifetimes': []}}
-Q = {'Named': {'name': 'r::Q', 'lifetimes': []}}
-TYPES = [{'name': 'r::R', 'lifetimes': 0, 'bounds': [], 'shape': {'Fields': [LARGE, U64, LARGE]}},
-         {'name': 'r::Q', 'lifetimes': 0, 'bounds': [], 'shape': {'Fields': [U64, A]}}]
+R, Q = named('R'), named('Q')
+TYPES = [declared('r::R', {'Fields': [LARGE, U64, LARGE]}), declared('r::Q', {'Fields': [U64, A]})]
 
 
 def opd(x):
@@ -29,7 +28,7 @@ def xor(a, b):
 
 
 def call(name, given, to):
-    return [{'Call': [{'Direct': name}, given, to]}]
+    return [{'Call': [fn(name), given, to]}]
 
 
 def if_(c, yes, no=()):
@@ -106,9 +105,9 @@ def parts_piece():
     """q = [{ 0, [7; 4] }; 2]; q[q[0].n] = { 1, [b; 4] }; q[0].values[2]"""
     two, first, start, n, bytes_, to, values = place(3), place(7), place(6), place(8), place(9), place(10), place(13)
     return entry([('memory', {'Array': [Q, {'Lit': 2}]}), A, Q, 'Ptr', 'Ptr', U64, U64, 'Ptr', A, U64, ('memory', A), 'Ptr', 'Ptr'], [
-        assign(place(4), {'Repeat': [int_(7), 4]}), assign(place(5), {'Aggregate': [int_(0), copy(place(4))]}), assign(two, {'Aggregate': [copy(place(5)), copy(place(5))]}),
+        assign(place(4), repeat(int_(7), 4)), assign(place(5), {'Aggregate': [int_(0), copy(place(4))]}), assign(two, {'Aggregate': [copy(place(5)), copy(place(5))]}),
         assign(start, {'AddrOf': two}), assign(first, {'Op2': ['Offset', copy(start), int_(0)]}), assign(n, opd(place(7, {'Deref': Q}, field(0)))),
-        assign(bytes_, op('Mul', copy(n), int_(40))), assign(to, {'Op2': ['Offset', copy(start), copy(bytes_)]}), assign(place(11), {'Repeat': [b, 4]}),
+        assign(bytes_, op('Mul', copy(n), int_(40))), assign(to, {'Op2': ['Offset', copy(start), copy(bytes_)]}), assign(place(11), repeat(b, 4)),
         assign(place(10, {'Deref': Q}), {'Aggregate': [int_(1), copy(place(11))]}),
         assign(start, {'AddrOf': two}), assign(first, {'Op2': ['Offset', copy(start), int_(0)]}), assign(values, opd(place(7, {'Deref': Q}, field(1)))),
         assign(place(14), {'AddrOf': values}), assign(place(15), {'Op2': ['Offset', copy(place(14)), int_(16)]}), assign(RES, opd(place(15, {'Deref': U64})))])
@@ -151,15 +150,22 @@ PIECES = {
     'a test and false, or another': boolean([op('Lt', a, b), {'Op2': ['And', copy(place(3)), 'False']}, op('Lt', b, int_(4)), ('Or', 1, 2)]),
     'the place of a struct is made from what the struct replaces': parts_piece(),
     'a thing is copied onto itself': entry([('memory', S), ref(S), ref(S), A, 'Ptr', 'Ptr'], [
-        assign(place(6), {'Repeat': [a, 4]}), assign(V, {'Aggregate': [a, int_(3, 16), copy(place(6))]}), assign(W, {'AddrOf': V}), assign(X3, {'AddrOf': V}),
+        assign(place(6), repeat(a, 4)), assign(V, {'Aggregate': [a, int_(3, 16), copy(place(6))]}), assign(W, {'AddrOf': V}), assign(X3, {'AddrOf': V}),
         assign(place(4, {'Deref': S}, field(2)), opd(place(5, {'Deref': S}, field(2)))), assign(Z3, {'AddrOf': place(3, field(2))}),
         assign(place(8), {'Op2': ['Offset', copy(Z3), int_(8)]}), assign(RES, opd(place(8, {'Deref': U64})))]),
     'a branch where a <= b fails': entry(['Bool', U64], [assign(W, {'Opd': int_(3)}), assign(V, op('Le', a, b)), if_(copy(V), [], [assign(W, {'Opd': int_(4)})]), assign(RES, opd(W))]),
     'a branch where a < b fails': entry(['Bool', U64], [assign(W, {'Opd': int_(3)}), assign(V, op('Lt', a, b)), if_(copy(V), [], [assign(W, {'Opd': int_(4)})]), assign(RES, opd(W))]),
     'a thing is copied onto itself, through one reference': entry([('memory', S), ref(S), A, 'Ptr', 'Ptr'], [
-        assign(place(5), {'Repeat': [a, 4]}), assign(V, {'Aggregate': [a, int_(3, 16), copy(place(5))]}), assign(W, {'AddrOf': V}),
+        assign(place(5), repeat(a, 4)), assign(V, {'Aggregate': [a, int_(3, 16), copy(place(5))]}), assign(W, {'AddrOf': V}),
         assign(place(3, field(2)), opd(place(4, {'Deref': S}, field(2)))), assign(place(6), {'AddrOf': place(3, field(2))}),
         assign(place(7), {'Op2': ['Offset', copy(place(6)), int_(8)]}), assign(RES, opd(place(7, {'Deref': U64})))]),
+    'a sum that wraps in 16 bits, and a difference': entry([U16, U16, U16, U16, U64], [
+        assign(V, {'Op2': ['WrapSub', int_(2, 16), int_(9, 16)]}), assign(W, {'Op2': ['WrapAdd', copy(V), int_(65530, 16)]}), assign(X3, op('Div', copy(W), int_(3, 16))),
+        assign(Z3, {'Op1': [{'Cast': ['Unsigned', 'Unsigned', 64]}, copy(X3)]}), assign(RES, {'Op2': ['WrapAdd', copy(Z3), a]})]),
+    'a difference that wraps, shifted': entry([U64, U64], [assign(V, {'Op2': ['WrapSub', a, b]}), assign(W, op('Shr', copy(V), int_(7))), assign(RES, {'Op2': ['WrapSub', copy(W), copy(V)]})]),
+    'an empty constant that is lent': entry([ref(EMPTY, 'Imm'), ref(U64, 'Imm'), slice_of('Imm'), U64], [
+        [{'LendStatic': [V, EMPTY, {'Repeat': [int_(0), 0]}]}], assign(W, {'AddrOf': place(3, {'Deref': U64})}), assign(X3, {'Aggregate': [copy(W), int_(0)]}),
+        assign(Y3, opd(place(5, field(1)))), assign(RES, xor(copy(Y3), a))]),
     'a difference of a difference': entry([U64, U64], [assign(V, {'Op2': ['Or', a, b]}), assign(W, op('Sub', copy(V), b)), assign(RES, op('Sub', copy(V), copy(W)))]),
 }
 # Where the interpreter has to be stuck, as the logic's machine is.
@@ -169,9 +175,9 @@ STUCK = {
     'a sum that does not fit': entry([], [assign(RES, op('Add', a, int_(2 ** 64 - 1)))]),
     'a byte as a number of 64 bits': entry([{'Int': 8}], [assign(V, {'Opd': int_(1, 8)}), assign(RES, opd(V))]),
     'a struct of other parts': entry([T], [assign(V, {'Aggregate': [a, int_(1, 8), b]}), assign(RES, {'Opd': a})]),
-    'an element at an odd offset': entry([ma, 'Ptr', 'Ptr'], [assign(V, {'Repeat': [a, 4]}), assign(W, {'AddrOf': V}), assign(X3, {'Op2': ['Offset', copy(W), int_(3)]}),
+    'an element at an odd offset': entry([ma, 'Ptr', 'Ptr'], [assign(V, repeat(a, 4)), assign(W, {'AddrOf': V}), assign(X3, {'Op2': ['Offset', copy(W), int_(3)]}),
                                                               assign(RES, opd(place(5, {'Deref': U64})))]),
-    'an element behind the last': entry([ma, 'Ptr', 'Ptr'], [assign(V, {'Repeat': [a, 4]}), assign(W, {'AddrOf': V}), assign(X3, {'Op2': ['Offset', copy(W), int_(32)]}),
+    'an element behind the last': entry([ma, 'Ptr', 'Ptr'], [assign(V, repeat(a, 4)), assign(W, {'AddrOf': V}), assign(X3, {'Op2': ['Offset', copy(W), int_(32)]}),
                                                              assign(RES, opd(place(5, {'Deref': U64})))]),
     'a bool that is 2': entry([('memory', {'Int': 8}), 'Ptr', 'Bool'], [assign(V, {'Opd': int_(2, 8)}), assign(W, {'AddrOf': V}), assign(X3, opd(place(4, {'Deref': 'Bool'}))), assign(RES, {'Opd': a})]),
     'a test that is a number': entry([], [assign(RES, {'Opd': a}), if_(a, [])]),
@@ -190,7 +196,7 @@ def is_stuck(f):
 def result_pieces():
     """Functions whose large result is made in place, or must not be; each with an entry that reads some of it."""
     def made(p, n):
-        return assign(p, {'Repeat': [n, 16]})
+        return assign(p, repeat(n, 16))
     one, two, three = place(3), place(4), place(5)
     bodies = {
         'one local becomes two fields': ([LARGE], [made(one, a), assign(RES, {'Aggregate': [copy(one), a, copy(one)]}), ['Return']]),
@@ -200,7 +206,7 @@ def result_pieces():
         'a whole result, or one of parts': ([R, LARGE, LARGE, 'Bool'], [made(two, a), made(three, b), assign(one, {'Aggregate': [copy(two), a, copy(three)]}), assign(place(6), op('Lt', a, b)), if_(copy(place(6)), [assign(RES, opd(one)), ['Return']]), assign(RES, {'Aggregate': [copy(three), b, copy(two)]}), ['Return']]),
         'a part that is changed behind the result': ([LARGE, LARGE], [made(one, a), made(two, b), assign(RES, {'Aggregate': [copy(one), a, copy(two)]}), made(one, int_(7)), ['Return']]),
         'a value that is made of its own parts': ([R, LARGE, LARGE], [made(two, a), made(three, b), assign(one, {'Aggregate': [copy(two), a, copy(three)]}), assign(one, {'Aggregate': [copy(place(3, field(2))), b, copy(place(3, field(0)))]}), assign(RES, opd(one)), ['Return']]),
-        'a result that is changed before it is returned': ([LARGE, LARGE], [made(one, a), made(two, b), assign(RES, {'Aggregate': [copy(one), a, copy(two)]}), assign(one, {'Repeat': [int_(7), 16]}), assign(place(0, field(2)), opd(one)), ['Return']]),
+        'a result that is changed before it is returned': ([LARGE, LARGE], [made(one, a), made(two, b), assign(RES, {'Aggregate': [copy(one), a, copy(two)]}), assign(one, repeat(int_(7), 16)), assign(place(0, field(2)), opd(one)), ['Return']]),
     }
     out = {}
     for k, (name, (locals_, body)) in enumerate(bodies.items()):

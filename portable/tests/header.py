@@ -1,4 +1,4 @@
-"""header.py RLIBS KIT_RLIBS: the test of the test of the header. The translator refuses a header whose calls or structs are not the MIR's (header.py there); this changes barrier.h in one
+"""header.py RLIBS..: the test of the test of the header. The translator refuses a header whose calls or structs are not the MIR's (header.py there); this changes barrier.h in one
 place at a time, and each change has to be refused.
 """
 import copy
@@ -37,7 +37,7 @@ def changes(text):
 
 
 def main():
-    functions, _ = read_crates(sys.argv[1:], 'barrier_engine')
+    functions = read_crates(sys.argv[1:], 'barrier_engine')
     exports = exported(functions, 'barrier_engine')
     text = (ROOT / 'include/barrier.h').read_text(encoding='utf-8')
     program = Program(functions, exports, None, str(ROOT / 'crates'))

@@ -68,7 +68,7 @@ class Machine:
         (kind, v), = t.items()
         if kind == 'Struct':
             return 0, [v[1]]
-        shape = self.shapes[v['name']]
+        shape = self.shapes[v[0]['name']]
         return (0, [shape['Fields']]) if 'Fields' in shape else (1, shape['Variants'])
 
     def offsets(self, ts, end):
@@ -232,7 +232,7 @@ class Machine:
             return 'Ptr', self.whole((b << 32 | o).to_bytes(8, 'little'))
         if kind == 'Repeat':
             of, (data, known) = self.operand(frame, v[0])
-            return {'Array': [of, {'Lit': v[1]}]}, (data * v[1], known * v[1])
+            return {'Array': [of, v[1]]}, (data * v[1]['Lit'], known * v[1]['Lit'])
         if kind == 'Aggregate':
             return t, self.aggregate([self.operand(frame, x) for x in v], t)
         return self.op1(frame, v, t) if kind == 'Op1' else self.op2(frame, v, t)
@@ -293,6 +293,7 @@ class Machine:
         limit = 1 << 8 * self.layout(of)[0]
         n = {'Add': lambda: a + b, 'Sub': lambda: a - b, 'Mul': lambda: a * b, 'Div': lambda: a // b, 'Rem': lambda: a % b, 'Shr': lambda: a >> b,
              'Shl': lambda: (a << b) % limit, 'And': lambda: a & b, 'Or': lambda: a | b, 'Xor': lambda: a ^ b,
+             'WrapAdd': lambda: (a + b) % limit, 'WrapSub': lambda: (a - b) % limit,
              'Eq': lambda: a == b, 'Ne': lambda: a != b, 'Lt': lambda: a < b, 'Le': lambda: a <= b}[name]()
         if n >= limit:
             raise Stuck('%s does not fit' % name)
@@ -310,6 +311,13 @@ class Machine:
             kind, v, subs = subs[1]
         if kind in ('Assign', 'Call'):
             return self.put(frame, kind, v)
+        if kind == 'LendStatic':
+            data = self.constant(v[2])
+            if len(data) != self.layout(v[1])[0]:
+                raise Stuck('a constant of another size')
+            t, b, o = self.spot(frame, v[0])
+            self.store(t, b, o, self.whole((self.new(len(data), data) << 32).to_bytes(8, 'little')), 'Ptr')
+            return 'next'
         if kind == 'Skip':
             return 'next'
         if kind == 'Return':
@@ -339,14 +347,28 @@ class Machine:
             raise Stuck('no arm')
         return self.run(frame, subs[-1])
 
+    def constant(self, c):
+        """The bytes of a constant of integers."""
+        (kind, v), = c.items()
+        if kind == 'Ints':
+            return b''.join(n.to_bytes(v['width'] // 8, 'little') for n in v['values'])
+        if kind == 'Repeat':
+            return self.constant(v[0]) * v[1]
+        if kind == 'Int':
+            return v['value'].to_bytes(v['width'] // 8, 'little')
+        raise Stuck('a constant %s' % kind)
+
     def put(self, frame, kind, v):
         dest = v[0] if kind == 'Assign' else v[2]
         if kind == 'Assign':
             of, value = self.rvalue(frame, v[1], self.spot(frame, dest)[0])
         else:
             given = [self.operand(frame, x) for x in v[1]]
-            value = self.call(v[0]['Direct'], [value for _, value in given], [of for of, _ in given])
-            of = self.functions[v[0]['Direct']]['locals'][0]['ty']
+            (callee, args), = v[0].values()
+            if 'Fn' not in v[0] or args['types'] or args['dicts']:
+                raise Stuck('a call of another kind')
+            value = self.call(callee, [value for _, value in given], [of for of, _ in given])
+            of = self.functions[callee]['locals'][0]['ty']
         t, b, o = self.spot(frame, dest)
         self.store(t, b, o, value, of)
         return 'next'

@@ -21,6 +21,8 @@ MUTANTS = [     # (name, module, text, wrong text)
     ('| for ^', 'expressions', "'Xor': '^'", "'Xor': '|'"),
     ('a shift to the left', 'expressions', "'Shr': '>>'", "'Shr': '<<'"),
     ('a shift to the right', 'expressions', "'Shl': '<<'", "'Shl': '>>'"),
+    ('a sum that wraps for a difference', 'expressions', "'WrapSub': '-'", "'WrapSub': '+'"),
+    ('a difference that wraps for a sum', 'expressions', "'WrapAdd': '+'", "'WrapAdd': '-'"),
     ('float sum for difference', 'expressions', "'FloatSub': '-'", "'FloatSub': '+'"),
     ('float difference for sum', 'expressions', "'FloatAdd': '+'", "'FloatAdd': '-'"),
     ('wrong opposite of <', 'expressions', "{'<': '>='", "{'<': '>'"),
@@ -110,8 +112,9 @@ def run(*command, **more):
 
 def engine(translator):
     """The C of the engine, or None."""
-    kit = pathlib.Path(run('rt', 'doc').stdout.strip()).parent.parent
-    made = subprocess.run([sys.executable, '-B', str(translator), '--rlibs', 'target/rlib', str(kit / 'on' / os.uname().machine / 'rlib'), '--crate', 'barrier_engine', '--header', 'include/barrier.h',
+    kit = pathlib.Path(run('rt', 'doc').stdout.strip()).parent
+    rlibs = [str(path) for path in sorted(ROOT.glob('crates/*/out/rlib'))] + [str(kit / 'rlibs')]
+    made = subprocess.run([sys.executable, '-B', str(translator), '--rlibs'] + rlibs + ['--crate', 'barrier_engine', '--header', 'include/barrier.h',
                            '--sources', 'crates'], stdout=subprocess.PIPE, stderr=subprocess.PIPE, universal_newlines=True, cwd=str(ROOT))
     return made.stdout if made.returncode == 0 else None
 

@@ -24,14 +24,30 @@ A = {'Array': [U64, {'Lit': 4}]}
 
 
 def named(name):
-    return {'Named': {'name': 'r::' + name, 'lifetimes': []}}
+    return {'Named': [{'name': 'r::' + name, 'lifetimes': []}, []]}
+
+
+def declared(name, shape):
+    """A row of a function's table of types."""
+    return {'name': name, 'lifetimes': 0, 'bounds': [], 'type_params': 0, 'const_params': [], 'type_bounds': [], 'owns': False, 'is_cell': False, 'shape': shape, 'is_tuple': False}
+
+
+NOT_GENERIC = {'types': [], 'outlives': [], 'bounds': [], 'method_of': None, 'trait_lifetimes': 0, 'impls': []}
+
+
+def fn(name):
+    """What a call of this function names."""
+    return {'Fn': [name, {'types': [], 'dicts': []}]}
+
+
+def repeat(x, n):
+    return {'Repeat': [x, {'Lit': n}]}
 
 
 T, P, S, B, E = map(named, 'TPSBE')     # T 24 bytes, P 16, S 48 with an array, B 88 with two, E an enum
 FIELDS = {'r::T': [U64, U64, U64], 'r::P': [U64, U8], 'r::S': [U64, U16, A], 'r::B': [S, A, U64]}
 VARIANTS = [[], [U64], [P], [T, U64]]
-SHAPES = [{'name': n, 'lifetimes': 0, 'bounds': [], 'shape': {'Fields': f}} for n, f in FIELDS.items()] + \
-    [{'name': 'r::E', 'lifetimes': 0, 'bounds': [], 'shape': {'Variants': VARIANTS}}]
+SHAPES = [declared(n, {'Fields': f}) for n, f in FIELDS.items()] + [declared('r::E', {'Variants': VARIANTS})]
 VALUES = [U64, T, P, S, B, E, A]
 
 
@@ -128,7 +144,7 @@ class Maker:
             return int_(self.r.choice([0, 1, 3, 255, 65535, 2 ** 32 - 1, 2 ** 32, 2 ** 64 - 1, self.r.randrange(2 ** 64)]))
         a, b = self.number(depth - 1), self.number(depth - 1)
         if kind == 4:
-            return self.op(self.r.choice(['And', 'Or', 'Xor']), a, b, sign=False)
+            return self.op(self.r.choice(['And', 'Or', 'Xor', 'WrapAdd', 'WrapSub']), a, b, sign=False)
         if kind == 5:       # a | b is never below a & b
             return self.op('Sub', self.op('Or', a, b, sign=False), self.op('And', a, b, sign=False))
         if kind == 6:
@@ -154,7 +170,7 @@ class Maker:
         x = self.made(t, {'Op1': [cast, self.op('And', a, int_(most), sign=False)]})
         x = self.op('Sub', int_(most, w), x, t) if self.r.random() < .5 else self.op('Shl', x, int_(3, w), t, sign=False)
         y = self.made(t, {'Op1': [cast, self.op('And', b, int_(most // 2), sign=False)]})
-        x = self.op('Add', self.op('Div', x, int_(2, w), t), y, t)
+        x = self.op(self.r.choice(['WrapAdd', 'WrapSub']), x, y, t, sign=False) if self.r.random() < .3 else self.op('Add', self.op('Div', x, int_(2, w), t), y, t)
         if self.r.random() < .4:
             return self.wide(self.boolean_of(self.op('Le', x, y, 'Bool')))
         return self.made(U64, {'Op1': [{'Cast': ['Unsigned', 'Unsigned', 64]}, x]})
@@ -219,11 +235,11 @@ class Maker:
 
     def aggregate(self, t, depth):
         if t == A:
-            return {'Repeat': [int_(self.r.choice([0, 0, 7])) if self.r.random() < .6 else self.number(1), 4]} if self.r.random() < .5 else {'Aggregate': [self.number(1) for _ in range(4)]}
+            return repeat(int_(self.r.choice([0, 0, 7])) if self.r.random() < .6 else self.number(1), 4) if self.r.random() < .5 else {'Aggregate': [self.number(1) for _ in range(4)]}
         if t == E:
             k = self.r.randrange(len(VARIANTS))
             return {'Aggregate': [int_(k, 8)] + [self.value(u, 0) for u in VARIANTS[k]]}
-        return {'Aggregate': [self.value(u, depth - 1 if depth else 0) for u in FIELDS[t['Named']['name']]]}
+        return {'Aggregate': [self.value(u, depth - 1 if depth else 0) for u in FIELDS[t['Named'][0]['name']]]}
 
     def call(self, name, dest, lend=None):
         """Arguments by value are made first: some of what a reference then lends. lend: a place to lend where it fits."""
@@ -246,7 +262,7 @@ class Maker:
             given[k] = self.made(ref(inner, kind), {'AddrOf': place})
             if 'Struct' in t:
                 given[k] = self.made(slice_of(kind), {'Aggregate': [given[k], int_(4)]})
-        self.say({'Call': [{'Direct': name}, [given[k] for k in range(len(params))], dest]})
+        self.say({'Call': [fn(name), [given[k] for k in range(len(params))], dest]})
         return dest
 
     # ---- statements
@@ -376,7 +392,7 @@ class Maker:
         return self.mir()
 
     def mir(self):
-        return {'lifetimes': 0, 'outlives': [], 'params': len(self.params), 'types': SHAPES, 'locals': self.locals, 'body': seq(self.out)}
+        return {'lifetimes': 0, 'outlives': [], 'params': len(self.params), 'generics': NOT_GENERIC, 'types': SHAPES, 'locals': self.locals, 'body': seq(self.out)}
 
     # ---- a number of all that a program made
     def mix(self, h, p, t):
@@ -392,7 +408,7 @@ class Maker:
                 self.mix(h, at(q['Copy'], {'Deref': U64}), U64)
             return
         if 'Named' in t:
-            for k, u in enumerate(FIELDS[t['Named']['name']]):
+            for k, u in enumerate(FIELDS[t['Named'][0]['name']]):
                 self.mix(h, at(p, field(k)), u)
             return
         x = copy(p) if t == U64 else self.made(U64, {'Op1': [{'Cast': ['Unsigned', 'Unsigned', 64]}, copy(p)]})
@@ -435,7 +451,7 @@ GIVEN = [(0, 0), (1, 2), (2 ** 64 - 1, 5), (123456789012345, 2 ** 63)]
 
 
 # MIR that no compiler made has values that nothing uses, tests that are always true, and loops that end at once; all else that gcc or clang would say is an error.
-WARNINGS = '-std=c99 -Wall -Wextra -Wpedantic -Wconversion -Werror -Wno-unused -Wno-tautological-compare -Wno-bool-compare -Wno-unknown-warning-option'.split()
+WARNINGS = '-std=c99 -Wall -Wextra -Wpedantic -Wconversion -Werror -Wno-unused -Wno-tautological-compare -Wno-bool-compare -Wno-type-limits -Wno-unknown-warning-option'.split()
 
 
 def libraries(text):

@@ -8,7 +8,7 @@ import tempfile
 HERE = pathlib.Path(__file__).resolve().parent
 sys.path.insert(0, os.environ.get('TRANSLATOR', str(HERE.parent / 'translator')))
 from program import Program, read_crates  # noqa: E402
-from random_mir import A, E, S, SHAPES, T, U8, U64, copy, field, int_, ref, seq, slice_of  # noqa: E402
+from random_mir import A, E, NOT_GENERIC, S, SHAPES, T, U8, U64, copy, declared, field, fn, int_, ref, repeat, seq, slice_of  # noqa: E402
 from refused import Refused  # noqa: E402
 
 
@@ -27,9 +27,10 @@ def op(name, a, b, sign='Unsigned'):
 def function(locals_, params, statements, types=SHAPES):
     """locals_: types, those in memory as ('memory', type)."""
     made = [{'ty': t[1], 'home': 'MemorySlot'} if isinstance(t, tuple) else {'ty': t, 'home': 'ValueLocal'} for t in locals_]
-    return {'lifetimes': 0, 'outlives': [], 'params': params, 'types': types, 'locals': made, 'body': seq(statements + [['Return']])}
+    return {'lifetimes': 0, 'outlives': [], 'params': params, 'generics': NOT_GENERIC, 'types': types, 'locals': made, 'body': seq(statements + [['Return']])}
 
 
+EMPTY = {'Array': [U64, {'Lit': 0}]}
 RESULT = assign(place(0), {'Opd': int_(0)})
 X, Y = copy(place(1)), copy(place(2))
 
@@ -37,7 +38,7 @@ X, Y = copy(place(1)), copy(place(2))
 def element(between, then=()):
     """t = i * 8; p = &a; q = p + t; (between) result = *q"""
     return function([U64, U64, ('memory', A), U64, 'Ptr', 'Ptr', 'Bool', U64], 1,
-                    [assign(place(2), {'Repeat': [int_(1), 4]}), assign(place(7), {'Opd': X}), assign(place(3), op('Mul', copy(place(7)), int_(8))),
+                    [assign(place(2), repeat(int_(1), 4)), assign(place(7), {'Opd': X}), assign(place(3), op('Mul', copy(place(7)), int_(8))),
                      assign(place(4), {'AddrOf': place(2)}), assign(place(5), {'Op2': ['Offset', copy(place(4)), copy(place(3))]})] + between +
                     [assign(place(0), {'Opd': copy(place(5, {'Deref': U64}))})] + list(then))
 
@@ -69,7 +70,7 @@ RIGHT = {
     'a sum': one(op('Add', X, Y)),
     'an element': element([]),
     'an element, and its index changed after': element([], [assign(place(7), {'Opd': int_(3)})]),
-    'an element whose array is changed before it is read': element([assign(place(2), {'Repeat': [int_(2), 4]})]),
+    'an element whose array is changed before it is read': element([assign(place(2), repeat(int_(2), 4))]),
     'a switch on a tag': function([U64, E], 1, [RESULT, [{'Switch': [copy(place(1, {'Variant': 0}, field(0))), [[0], [1], [2], [3]], False]}, 'Skip', 'Skip', 'Skip', 'Skip']]),
     'two locals, each a copy of the other': function([U64, T, T, T], 1, [RESULT, assign(place(2), {'Opd': copy(place(3))}), assign(place(3), {'Opd': copy(place(2))}),
                                                                           assign(place(0), {'Opd': copy(place(2, field(0)))})]),
@@ -79,6 +80,8 @@ WRONG = {
     'a signed sum': one(op('Add', X, Y, 'Signed')),
     'a signed shift': one(op('Shr', X, Y, 'Signed')),
     'a signed test': one(op('Lt', X, Y, 'Signed'), 'Bool'),
+    'a product that wraps': one({'Op2': ['WrapMul', X, Y]}),
+    'the size of a type': one({'Opd': {'SizeOf': U64}}),
     'a product of floats': one({'Op2': ['FloatMul', copy(place(3)), copy(place(3))]}, {'Float': 64}, {'Float': 64}),
     'a float of 32 bits': one({'Opd': copy(place(3))}, {'Float': 32}, {'Float': 32}),
     'the opposite of all bits': one({'Op1': ['Not', X]}),
@@ -94,13 +97,13 @@ WRONG = {
     'an element by a count that is no longer the product': element([assign(place(3), {'Opd': int_(3)}), assign(place(5), {'Op2': ['Offset', copy(place(4)), copy(place(3))]})]),
     'an element whose pointer is of before a branch': element([[{'If': copy(place(6))}, 'Skip', 'Skip']]),
     'an element by a count that is no product': function([U64, U64, ('memory', A), 'Ptr', 'Ptr'], 1, [
-        assign(place(2), {'Repeat': [int_(1), 4]}), assign(place(3), {'AddrOf': place(2)}), assign(place(4), {'Op2': ['Offset', copy(place(3)), X]}),
+        assign(place(2), repeat(int_(1), 4)), assign(place(3), {'AddrOf': place(2)}), assign(place(4), {'Op2': ['Offset', copy(place(3)), X]}),
         assign(place(0), {'Opd': copy(place(4, {'Deref': U64}))})]),
     'an element by half its size': function([U64, ('memory', A), 'Ptr', 'Ptr'], 0, [
-        assign(place(1), {'Repeat': [int_(1), 4]}), assign(place(2), {'AddrOf': place(1)}), assign(place(3), {'Op2': ['Offset', copy(place(2)), int_(4)]}),
+        assign(place(1), repeat(int_(1), 4)), assign(place(2), {'AddrOf': place(1)}), assign(place(3), {'Op2': ['Offset', copy(place(2)), int_(4)]}),
         assign(place(0), {'Opd': copy(place(3, {'Deref': U64}))})]),
     'an element as another type': function([U8, ('memory', A), 'Ptr', 'Ptr'], 0, [
-        assign(place(1), {'Repeat': [int_(1), 4]}), assign(place(2), {'AddrOf': place(1)}), assign(place(3), {'Op2': ['Offset', copy(place(2)), int_(8)]}),
+        assign(place(1), repeat(int_(1), 4)), assign(place(2), {'AddrOf': place(1)}), assign(place(3), {'Op2': ['Offset', copy(place(2)), int_(8)]}),
         assign(place(0), {'Opd': copy(place(3, {'Deref': U8}))})]),
     'the address of a local that is not in memory': function([U64, S, ref(S)], 1, [RESULT, assign(place(2), {'AddrOf': place(1)}), assign(place(0), {'Opd': copy(place(2, {'Deref': S}, field(0)))})]),
     'a parameter in memory': function([U64, ('memory', U64)], 1, [RESULT]),
@@ -109,14 +112,23 @@ WRONG = {
     'a block that is no loop': function([U64], 0, [RESULT, ['Block', 'Skip']]),
     'an exit through two loops': function([U64], 0, [RESULT, ['Block', 'Loop', 'Block', 'Loop', {'Exit': 2}]]),
     'an exit outside a loop': function([U64], 0, [RESULT, [{'Exit': 0}]]),
-    'a repeat of another length': function([U64, A], 0, [RESULT, assign(place(1), {'Repeat': [int_(1), 5]})]),
+    'a repeat of another length': function([U64, A], 0, [RESULT, assign(place(1), repeat(int_(1), 5))]),
     'a struct of too few parts': one({'Aggregate': [X, Y]}, T),
     'a struct with an array, of too few parts': function([S, U64], 1, [assign(place(0), {'Aggregate': [X]})]),
     'a variant of too few parts': one({'Aggregate': [int_(3, 8), X]}, E),
     'a tag that is no constant': function([E, U8], 1, [assign(place(0), {'Aggregate': [X]})]),
-    'a struct that holds a reference': function([U64], 0, [RESULT], [{'name': 'r::H', 'lifetimes': 0, 'bounds': [], 'shape': {'Fields': [ref(U64)]}}]),
-    'an enum that holds an array': function([U64], 0, [RESULT], [{'name': 'r::H', 'lifetimes': 0, 'bounds': [], 'shape': {'Variants': [[A]]}}]),
-    'a type with a lifetime': function([U64, {'Named': {'name': 'r::T', 'lifetimes': ['Erased']}}], 0, [RESULT]),
+    'a struct that holds a reference': function([U64], 0, [RESULT], [declared('r::H', {'Fields': [ref(U64)]})]),
+    'an enum that holds an array': function([U64], 0, [RESULT], [declared('r::H', {'Variants': [[A]]})]),
+    'a type with a lifetime': function([U64, {'Named': [{'name': 'r::T', 'lifetimes': ['Erased']}, []]}], 0, [RESULT]),
+    'a type with a type for a parameter': function([U64, {'Named': [{'name': 'r::T', 'lifetimes': []}, [U64]]}], 0, [RESULT]),
+    'a type that has a parameter': function([U64], 0, [RESULT], [dict(declared('r::H', {'Fields': [U64]}), type_params=1)]),
+    'a type that owns memory': function([U64], 0, [RESULT], [dict(declared('r::H', {'Fields': [U64]}), owns=True)]),
+    'a type without a name in C': function([U64], 0, [RESULT], [declared('(,)', {'Fields': [U64]})]),
+    'a function with a type for a parameter': dict(function([U64], 0, [RESULT]), generics=dict(NOT_GENERIC, types=['Type'])),
+    'a function with a bound': dict(function([U64], 0, [RESULT]), generics=dict(NOT_GENERIC, bounds=[{}])),
+    'a constant in memory of its own': function([U64, ref(U64, 'Imm')], 0, [RESULT, [{'LendStatic': [place(1), U64, {'Int': {'width': 64, 'value': 1}}]}]]),
+    'an empty constant that is given back': function([slice_of('Imm'), ref(EMPTY, 'Imm')], 0, [[{'LendStatic': [place(1), EMPTY, {'Repeat': [int_(0), 0]}]}], assign(place(0), {'Aggregate': [copy(place(1)), int_(0)]})]),
+    'what is never reached': function([U64], 0, [RESULT, ['Unreachable']]),
     'a call into memory of a struct': None,
     'a call into an element whose index is in memory': None,
     'a call into a field behind a reference': None,
@@ -131,7 +143,7 @@ WRONG = {
     'an address as a reference to another type': function([U64, U64, ('memory', T), ref(U8)], 1, [made(place(2)), RESULT, assign(place(3), {'AddrOf': place(2)})]),
     'a &mut slice from a &': function([U64, ref(A, 'Imm'), slice_of('Mut')], 1, [RESULT, assign(place(2), {'Aggregate': [X, int_(4)]})]),
     'a &mut slice from a raw pointer': function([U64, ('memory', A), 'Ptr', slice_of('Mut')], 0, [
-        RESULT, assign(place(1), {'Repeat': [int_(1), 4]}), assign(place(2), {'AddrOf': place(1)}), assign(place(3), {'Aggregate': [copy(place(2)), int_(4)]})]),
+        RESULT, assign(place(1), repeat(int_(1), 4)), assign(place(2), {'AddrOf': place(1)}), assign(place(3), {'Aggregate': [copy(place(2)), int_(4)]})]),
     'an element of a & slice is written': function([U64, slice_of('Imm'), 'Ptr'], 1, [
         RESULT, assign(place(2), {'Op2': ['Offset', copy(place(1, field(0))), int_(8)]}), assign(place(2, {'Deref': U64}), {'Opd': int_(1)})]),
     'a reference to a reference': function([U64, ref(ref(T))], 1, [RESULT]),
@@ -155,7 +167,10 @@ WRONG = {
     'an arm without a number': function([U64, U64], 1, [RESULT, [{'Switch': [X, [[]], True]}, 'Skip', 'Skip']]),
     'a type that is not known': function([U64, 'Char'], 1, [RESULT]),
     'an operand that is not known': one({'Opd': 'Nothing'}),
-    'a call through a pointer': function([U64, U64], 1, [[{'Call': [{'Indirect': X}, [X], place(0)]}]]),
+    'a call through a pointer': function([U64, U64], 1, [[{'CallV': [X, {'abi': 'Rattle', 'types': [U64, U64]}, [X], place(0)]}]]),
+    'a call at a type': None,
+    'a call of a function without a name in C': None,
+    'a call of a dictionary\'s method': None,
     'a call of what is not there': None,
     'recursion': None,
     'a call with an argument too many': None,
@@ -167,9 +182,9 @@ def program(main, more=None):
     return dict({'r::main': main}, **(more or {}))
 
 
-def calls(callee, given):
+def calls(callee, given, named=None):
     """result = callee(given)"""
-    return program(function([U64, U64, U64], 1, [[{'Call': [{'Direct': callee}, given, place(2)]}], assign(place(0), {'Opd': Y})]),
+    return program(function([U64, U64, U64], 1, [[{'Call': [named or fn(callee), given, place(2)]}], assign(place(0), {'Opd': Y})]),
                    {'r::f': function([U64, U64], 1, [assign(place(0), {'Opd': X})])})
 
 
@@ -179,12 +194,12 @@ BUMP = {'r::bump': function([U64, ref(T)], 1, [assign(place(0), {'Opd': copy(pla
 def lent(t, to, more=(), before=()):
     """t = ..; r = &t, in local 3 of this type; to = bump(r)"""
     return program(function([U64, U64, ('memory', T), t] + list(more), 1, [RESULT, made(place(2)), assign(place(3), {'AddrOf': place(2)})] + list(before) +
-                            [[{'Call': [{'Direct': 'r::bump'}, [copy(place(3))], to]}]]), BUMP)
+                            [[{'Call': [fn('r::bump'), [copy(place(3))], to]}]]), BUMP)
 
 
 def into_element():
     """a[t.0] = bump(&mut t)"""
-    before = [assign(place(4), {'Repeat': [int_(9), 4]}), assign(place(5), op('Mul', copy(place(2, field(0))), int_(8))), assign(place(6), {'AddrOf': place(4)}),
+    before = [assign(place(4), repeat(int_(9), 4)), assign(place(5), op('Mul', copy(place(2, field(0))), int_(8))), assign(place(6), {'AddrOf': place(4)}),
               assign(place(7), {'Op2': ['Offset', copy(place(6)), copy(place(5))]})]
     return lent(ref(T), place(7, {'Deref': U64}), [('memory', A), U64, 'Ptr', 'Ptr'], before)
 
@@ -195,11 +210,14 @@ SPECIAL = {
     'a & for a &mut parameter': lent(ref(T, 'Imm'), place(0)),
     'a raw pointer for a parameter': lent('Ptr', place(0)),
     'a result of another type': lent(ref(T), place(4), [U8]),
+    'a call of a function without a name in C': program(calls('r::f+g', [X])['r::main'], {'r::f+g': function([U64, U64], 1, [assign(place(0), {'Opd': X})])}),
+    'a call at a type': calls('r::f', [X], {'Fn': ['r::f', {'types': [U64], 'dicts': []}]}),
+    'a call of a dictionary\'s method': calls('r::f', [X], {'Method': [{'Given': 0}, 0, {'types': [], 'dicts': []}]}),
     'a call of what is not there': calls('r::nothing', [X]),
     'recursion': calls('r::main', [X]),
     'a call with an argument too many': calls('r::f', [X, X]),
     'an argument of another type': calls('r::f', ['True']),
-    'a call into memory of a struct': program(function([U64, ref(U64)], 1, [RESULT, [{'Call': [{'Direct': 'r::f'}, [int_(1)], place(1, {'Deref': U64})]}]]), {'r::f': function([U64, U64], 1, [assign(place(0), {'Opd': X})])}),
+    'a call into memory of a struct': program(function([U64, ref(U64)], 1, [RESULT, [{'Call': [fn('r::f'), [int_(1)], place(1, {'Deref': U64})]}]]), {'r::f': function([U64, U64], 1, [assign(place(0), {'Opd': X})])}),
 }
 
 
@@ -217,7 +235,7 @@ def crate_twice():
         for name in ('one', 'two'):
             rlib = pathlib.Path(folder) / name / 'x.rlib'
             (rlib / 'toolchain').mkdir(parents=True)
-            (rlib / 'format').write_text('sum 1\n')
+            (rlib / 'format').write_text('crate x\n')
             (rlib / 'toolchain/mir.json').write_text('[]')
         read_crates([folder + '/one'], 'x')
         try:

@@ -1,14 +1,18 @@
-"""tie.py RLIBS KIT_RLIBS: is the MIR that the translator reads the MIR that the theorems speak of?
+"""tie.py RLIBS.. KIT_RLIBS [--crate NAME]: is the MIR that the translator reads the MIR that the theorems speak of?
 
 A proved crate carries both: `toolchain/mir.json`, which the translator and the toolchain's own back end read, and for each function the modules that its theorem
-is made of. `Code/Mir.json` is the toolchain's record of the function that they were made from; `Named.json` the table of the types that it names; `Statement.json`
-and `Met.json` name the function whose theorem it is. For every function that the engine's calls reach, std's too, this program sees that the two are
-equal: types, locals and their homes, parameters and every construct of the body. It sees too that the checked modules, the theorem's own among them, are there.
-Then one number in each crate's mir.json is changed, and that has to be found.
+is made of. `lang/antt/made.json` has the toolchain's record of what each of these modules was made from: `Code/Mir` of the function, `Named` of the types that it
+names, `Statement`, `Met` and the contract's `Key` name the function whose theorem it is. `toolchain/made.json` says where in that file a record stands, and its
+SHA-256. For every function that the engine's calls reach, those of the toolchain's own library too, this program sees that the record is the one of that sum, and that
+the two are equal: types, locals and their homes, parameters and every construct of the body. It sees too that the checked modules, the theorem's own among them, are
+there; of the toolchain's own library the kit has those that state a theorem, and not its proof. Then one number in each crate's mir.json is changed, and that has to be
+found.
 
 Of the checked modules it sees that they are there; it does not read them. That they hold what the records say, and that the prover reads them as they stand, is the
 toolchain's to see to, as every proof is.
 """
+import functools
+import hashlib
 import json
 import pathlib
 import re
@@ -16,52 +20,72 @@ import sys
 import tempfile
 
 sys.path.insert(0, str(pathlib.Path(__file__).resolve().parent.parent / 'translator'))
+from mir import called  # noqa: E402
 from program import read_crates, reached  # noqa: E402
 
 
-def folder_of(folders, name):
-    """(the proved crate, the folder of the function's modules in it)"""
-    crate, *path = name.split('::')
-    rlib = next(p / (crate + '.rlib') for p in folders if (p / (crate + '.rlib')).is_dir())
-    return rlib, rlib / 'lang/antt/proofs' / '/'.join(path)
+class Records:
+    """What a proved crate's modules were made from, by their paths, and which of them stand checked in it."""
+
+    def __init__(self, rlib):
+        self.rlib, self.places = rlib, '\n' + (rlib / 'toolchain/made.json').read_text()
+        self.checked = set(re.findall(r'^\["([^"]*)"', (rlib / 'toolchain/checked.json').read_text(), re.M))
+
+    def record(self, path):
+        """The record of a module, or None."""
+        at = self.places.find('\n["%s",' % path)
+        found = at >= 0 and re.compile(r'\n\["[^"]*",(\d+),(\d+),"([0-9a-f]*)"').match(self.places, at)
+        if not found:
+            return None
+        with open(self.rlib / 'lang/antt/made.json', 'rb') as file:
+            file.seek(int(found.group(1)))
+            data = file.read(int(found.group(2)))
+        return json.loads(data.split(b'\n')[0]) if hashlib.sha256(data).hexdigest() == found.group(3) else None
 
 
-def with_names(folders, body):
-    """In a theorem a callee is named by the module that holds its symbol: Rattle·job·proofs.proofs.read.read_job.Symbol. Here by the symbol itself."""
-    out = []
-    for x in body:
-        if isinstance(x, dict) and 'Call' in x:
-            found = re.match(r'Rattle·(\w+?)(?:·proofs)?\.proofs\.(.*)\.Symbol$', x['Call'][0]['Direct'])
-            name = '::'.join([found.group(1)] + found.group(2).split('.')) if found else None
-            symbol = json.loads((folder_of(folders, name)[1] / 'Symbol.json').read_text())['Symbol']['symbol'] if found else None
-            x = {'Call': [{'Direct': symbol}] + x['Call'][1:]}
-        out.append(x)
-    return out
+records = functools.lru_cache(maxsize=None)(Records)      # by the path, so that what a link leads to is read once
 
 
-def theorem(folders, name):
+def records_of(rlibs, crate):
+    return records((rlibs[crate] / 'toolchain/made.json').resolve().parent.parent)
+
+
+def symbol(rlibs, module):
+    """In a theorem a callee is named by the module that holds its symbol: Rattle-job-proofs.read.read_job.Symbol, from another crate the one that passes it on,
+    Rattle-job.proofs.read.read_job.Symbol."""
+    found = re.match(r'Rattle-(\w+)([-.])proofs\.(.*\.Symbol)$', module)
+    if not found:
+        return None
+    crate, mark, path = found.groups()
+    read = records_of(rlibs, crate).record(('facade/' if mark == '.' else '') + 'proofs/' + path.replace('.', '/'))
+    return read and (symbol(rlibs, read['StandsFor']['source']) if 'StandsFor' in read else read['Symbol']['symbol'])
+
+
+def with_symbols(rlibs, body):
+    return [{'Call': [{'Fn': [symbol(rlibs, called(x['Call'])), x['Call'][0]['Fn'][1]]}] + x['Call'][1:]} if isinstance(x, dict) and 'Call' in x else x for x in body]
+
+
+def theorem(rlibs, name):
     """The MIR that is recorded for the function's theorem, or None."""
     crate, *path = name.split('::')
-    rlib, folder = folder_of(folders, name)
-    if not (folder / 'Code/Mir.json').is_file():
-        return None
-    read = {part: json.loads((folder / (part + '.json')).read_text()) for part in ('Code/Mir', 'Statement', 'Met', 'Key', 'Named') if (folder / (part + '.json')).is_file()}
-    module = '%s.%s' % ('Rattle·%s·proofs.proofs' % crate, '.'.join(path))
-    named = all(read[part][part]['symbol'] == name for part in ('Statement', 'Met', 'Key'))
-    table = read['Code/Mir']['Mir']['function']['types']
-    tabled = read['Named']['Named']['table'] == table if 'Named' in read else not table
-    checked = all((rlib / 'toolchain/checked' / ('%s.%s.oantt' % (module, part))).is_file() for part in ('Code.Mir', 'Code', 'Statement', 'Proof', 'Met'))
-    if not (named and tabled and checked):
+    of, inner = records_of(rlibs, crate), '/'.join(path)
+    read = {part: of.record('proofs/%s/%s' % (inner, part)) for part in ('Code/Mir', 'Code', 'Statement', 'Met', 'Named')}
+    key = of.record('specs/contracts/%s/Key' % inner)
+    if not (read['Code/Mir'] and key and key['Key']['symbol'] == name and all(read[part] and read[part][part]['symbol'] == name for part in ('Code', 'Statement', 'Met'))):
         return None
     f = read['Code/Mir']['Mir']['function']
-    return dict(f, body=with_names(folders, f['body']))
+    if f['types'] != (read['Named']['Named']['table'] if read['Named'] else []):
+        return None
+    module = 'Rattle-%s-proofs.%s' % (crate, '.'.join(path))
+    whole = all('%s.%s' % (module, part) in of.checked for part in ('Code.Mir', 'Code', 'Statement', 'Proof', 'Met'))
+    stated = crate == 'core' and all('part/%s.%s' % (module, part) in of.checked for part in ('Code', 'Statement', 'Met'))
+    return dict(f, body=with_symbols(rlibs, f['body'])) if whole or stated else None
 
 
-def untied(folders):
-    """(how many functions the engine's calls reach, the first whose translated body is not the one recorded for its theorem)"""
-    functions, _ = read_crates(folders, 'barrier_engine')
-    names = reached(functions, [n for n in functions if n.startswith('barrier_engine::')])
-    return len(names), next((n for n in names if theorem(folders, n) != functions[n]), None)
+def untied(functions, crate):
+    """(how many functions a crate's functions reach, the first whose translated body is not the one recorded for its theorem)"""
+    names = reached(functions, functions.of(crate))
+    return len(names), next((n for n in names if theorem(functions.rlibs, n) != functions[n]), None)
 
 
 # ---- the test of this test
@@ -74,36 +98,50 @@ def numbers(x, path=()):
             yield from numbers(y, path + (key,))
 
 
-def with_change(rlib, to, at):
-    """A proved crate in which one number of mir.json is one greater; whose function it is."""
+def with_change(rlib, to, at, names):
+    """A proved crate in which one number of mir.json is one greater, in one of these functions; whose it is."""
     read = json.loads((rlib / 'toolchain/mir.json').read_text())
-    paths = list(numbers(read))
+    paths = [path for path in numbers(read) if read[path[0]][0] in names]
     path = paths[at % len(paths)]
     x = read
     for key in path[:-1]:
         x = x[key]
     x[path[-1]] += 1
     (to / 'toolchain').mkdir(parents=True)
-    for part in ('format', 'lang', 'toolchain/checked'):
+    for part in ('format', 'lang', 'toolchain/checked.json', 'toolchain/made.json'):
         (to / part).symlink_to((rlib / part).resolve())
     (to / 'toolchain/mir.json').write_text(json.dumps(read))
     return read[path[0]][0]
 
 
+def with_read(functions, read):
+    """The functions, with what was read of the toolchain's own crates, which are the same."""
+    for crate, rlib in functions.rlibs.items():
+        if crate in read.sums and read.rlibs[crate] == rlib:
+            functions.sums[crate] = read.sums[crate]
+            functions.update((name, read[name]) for name in read.of(crate))
+    return functions
+
+
 def main():
-    folders = [pathlib.Path(p) for p in sys.argv[1:]]
-    count, wrong = untied(folders)
+    words = sys.argv[1:]
+    top = words.pop() if words[-2] == '--crate' else 'barrier_engine'
+    folders = [pathlib.Path(p) for p in words if p != '--crate']
+    functions = read_crates(folders, top)
+    count, wrong = untied(functions, top)
     if wrong:
         sys.exit('tie: %s: the translated body is not the one recorded for its theorem' % wrong)
-    crates, found = sorted(folders[0].glob('*.rlib')), 0
-    tried = [(c, 37 * k) for k, c in enumerate(crates) if len((c / 'toolchain/mir.json').read_text()) > 9 and c.name not in ('report.rlib',)]
-    for crate, at in tried:
+    names = set(reached(functions, functions.of(top)))
+    own = [rlib for rlib in functions.rlibs.values() if rlib.parent != folders[-1]]
+    tried = [rlib for crate, rlib in sorted(functions.rlibs.items()) if rlib in own and crate in functions.sums]
+    found = 0
+    for k, rlib in enumerate(tried):
         with tempfile.TemporaryDirectory() as d:
-            name = with_change(crate, pathlib.Path(d) / crate.name, at)
-            for other in crates:
-                if other != crate:
+            name = with_change(rlib, pathlib.Path(d) / rlib.name, 37 * k, names)
+            for other in own:
+                if other != rlib:
                     (pathlib.Path(d) / other.name).symlink_to(other.resolve())
-            found += untied([pathlib.Path(d)] + folders[1:])[1] == name
+            found += untied(with_read(read_crates([pathlib.Path(d), folders[-1]], top), functions), top)[1] == name
     if found != len(tried):
         sys.exit('tie: %d of %d changed numbers were not found' % (len(tried) - found, len(tried)))
     print('tie: the %d translated bodies are those that the toolchain records for their theorems, types and all; %d of %d changes of a number were found' % (count, found, len(tried)))

@@ -1,6 +1,6 @@
 """The proved MIR of the engine, as one file of C99.
 
-    python3 portable/translator --rlibs target/rlib KIT_RLIBS --header include/barrier.h --sources crates --crate barrier_engine [--plain]
+    python3 portable/translator --rlibs crates/*/out/rlib KIT_RLIBS --header include/barrier.h --sources crates --crate barrier_engine [--plain]
 
 portable/README.md says how to read this program, portable/make.sh runs it.
 """
@@ -24,11 +24,11 @@ def main():
     args = parser.parse_args()
     header = pathlib.Path(args.header)
     try:
-        functions, sums = read_crates(args.rlibs, args.crate)
+        functions = read_crates(args.rlibs, args.crate)
         exports = exported(functions, args.crate)
         text = header.read_text(encoding='utf-8')
         program = Program(functions, exports, text, args.sources, args.plain)
-        print(program.write(head(text, sums, program, args.toolchain), header.name), end='')
+        print(program.write(head(text, functions.sums, program, args.toolchain), header.name), end='')
     except Refused as e:
         sys.exit('translator: refused: %s' % e)
 

@@ -1,7 +1,7 @@
 """Plain translation, first half: places and expressions, one construct to one construct.
 
 Integers are their bits in uint8_t .. uint64_t, and no arithmetic is signed. That a sum fits, a divisor is not 0, a shift is below the width and an index
-is inside is proved of the MIR, so nothing here is undefined in C, and nothing wraps but what the sources wrap by hand.
+is inside is proved of the MIR, so nothing here is undefined in C, and nothing wraps but a sum and a difference that the MIR says to wrap, as C's unsigned do.
 """
 import re
 import struct
@@ -10,7 +10,7 @@ from refused import need
 from views import is_view, viewed
 
 OPERATORS = {'Add': '+', 'Sub': '-', 'Mul': '*', 'Div': '/', 'Rem': '%', 'Shr': '>>', 'Shl': '<<', 'Lt': '<', 'Le': '<=', 'Eq': '==', 'Ne': '!=',
-             'And': '&', 'Or': '|', 'Xor': '^', 'FloatAdd': '+', 'FloatSub': '-'}
+             'And': '&', 'Or': '|', 'Xor': '^', 'WrapAdd': '+', 'WrapSub': '-', 'FloatAdd': '+', 'FloatSub': '-'}
 OPPOSITE = {'<': '>=', '<=': '>', '==': '!=', '!=': '=='}
 
 

@@ -1,6 +1,13 @@
 """The declared types: their shapes, their layout in the MIR's memory, their C names and declarations."""
+import re
+
 from mir import read_type
 from refused import Refused, need
+
+
+def c_word(name):
+    """Whether it is a name that C knows; the toolchain's own libraries have others."""
+    return re.match(r'[A-Za-z_]\w*$', name, re.ASCII)
 
 
 class Types:
@@ -10,8 +17,12 @@ class Types:
         self.header = {}    # name -> the C type that the header declares for it; header.py fills it
         self.views = {}     # name -> {path of field numbers: the header's member}; header.py fills it
 
-    def declare(self, name, shape):
-        (kind, v), = shape.items()
+    def declare(self, row):
+        """row: of a function's table of types."""
+        name = row['name']
+        need(c_word(name.replace('::', '_')), '%s is no name in C', name)
+        need(not any(row[k] for k in ('lifetimes', 'bounds', 'type_params', 'const_params', 'type_bounds', 'owns', 'is_cell')), '%s is no plain type', name)
+        (kind, v), = row['shape'].items()
         made = (kind, [read_type(t) for t in v] if kind == 'Fields' else [[read_type(t) for t in ts] for ts in v])
         need(self.shapes.setdefault(name, made) == made, 'two types are called %s', name)
         flat = made[1] if kind == 'Fields' else [t for ts in made[1] for t in ts]

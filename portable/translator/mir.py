@@ -36,8 +36,8 @@ def read_type(t):
     if kind == 'Ref':
         need(v[1] in ('Mut', 'Imm') and not is_reference(read_type(v[2])), 'type %s', json.dumps(t))
         return ('ref', v[1] == 'Mut', read_type(v[2]))
-    if kind == 'Named' and not v['lifetimes']:
-        return ('named', v['name'])
+    if kind == 'Named' and not v[0]['lifetimes'] and not v[1]:
+        return ('named', v[0]['name'])
     if kind == 'Struct' and v[0] == '&[]':
         pointer, length = map(read_type, v[1])
         if pointer[0] == 'ref' and length == U64:
@@ -47,7 +47,16 @@ def read_type(t):
 
 # Which sign each operator may have; None where it has none. All else is refused.
 OP2 = {'Add': 'Unsigned', 'Sub': 'Unsigned', 'Mul': 'Unsigned', 'Div': 'Unsigned', 'Rem': 'Unsigned', 'Shr': 'Unsigned', 'Lt': 'Unsigned',
-       'Le': 'Unsigned', 'Eq': None, 'Ne': None, 'And': None, 'Or': None, 'Xor': None, 'Shl': None, 'FloatAdd': None, 'FloatSub': None}
+       'Le': 'Unsigned', 'Eq': None, 'Ne': None, 'And': None, 'Or': None, 'Xor': None, 'Shl': None, 'WrapAdd': None, 'WrapSub': None,
+       'FloatAdd': None, 'FloatSub': None}
+
+
+def called(call):
+    """The function that a call names, which takes no types and no dictionaries."""
+    (kind, v), = call[0].items()
+    need(kind == 'Fn', 'a call of %s', kind)
+    need(not v[1]['types'] and not v[1]['dicts'], '%s: a call at types', v[0])
+    return v[0]
 
 
 class Function:
@@ -55,6 +64,8 @@ class Function:
 
     def __init__(self, name, mir, shapes):
         self.name, self.params, self.shapes = name, mir['params'], shapes
+        generics = mir['generics']
+        need(not generics['types'] and not generics['bounds'] and generics['method_of'] is None, '%s is generic', name)
         self.types = [read_type(l['ty']) for l in mir['locals']]
         self.memory = [l['home'] == 'MemorySlot' for l in mir['locals']]
         tokens = iter(mir['body'])
@@ -83,6 +94,16 @@ class Function:
         return {'bool': 'bool', 'float': ('float', 64), 'unit': 'unit'}.get(x[0]) or x[-1]
 
     # ---- reading
+    def lent_constant(self, p, t, _):
+        """A reference to a constant in memory of its own. Only of an array of no elements, as b"" has: it is a local in memory here, of which nothing can be read. So that
+        nothing has its address longer than the call, the function gives no reference."""
+        place, of = self.read_place(p), read_type(t)
+        need(of[0] == 'array' and of[2] == 0 and not is_reference(self.types[0]), '%s: a constant of %s is lent', self.name, of)
+        self.types.append(of)
+        self.memory.append(True)
+        made = ('var', len(self.types) - 1)
+        return [('assign', made, ('agg', (), of)), ('assign', place, ('addr', made, self.type_of(place)))]
+
     def read_place(self, p):
         place = ('var', p['local'])
         for step in p['steps']:
@@ -117,8 +138,8 @@ class Function:
         if kind == 'Aggregate':
             return ('agg', tuple(map(self.read_operand, v)), t)
         if kind == 'Repeat':
-            need(t[0] == 'array' and t[2] == v[1], 'repeat of another length')
-            return ('repeat', self.read_operand(v[0]), v[1], t)
+            need(t[0] == 'array' and {'Lit': t[2]} == v[1], 'repeat of another length')
+            return ('repeat', self.read_operand(v[0]), t[2], t)
         name, sign = (v[0], None) if isinstance(v[0], str) else next(iter(v[0].items()))
         if kind == 'Op2':
             a, b = map(self.read_operand, v[1:])
@@ -156,9 +177,10 @@ class Function:
             place = self.read_place(v[0])
             return [('assign', place, self.read_rvalue(v[1], self.type_of(place)))]
         if kind == 'Call':
-            need('Direct' in v[0], 'a call through a pointer')
             place = self.read_place(v[2])
-            return [('call', ('call', v[0]['Direct'], tuple(map(self.read_operand, v[1])), self.type_of(place)), place)]
+            return [('call', ('call', called(v), tuple(map(self.read_operand, v[1])), self.type_of(place)), place)]
+        if kind == 'LendStatic':
+            return self.lent_constant(*v)
         if kind == 'If':
             yes = self.read_body(tokens, loops)
             return [('if', self.read_operand(v), yes, self.read_body(tokens, loops))]

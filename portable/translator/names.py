@@ -64,13 +64,13 @@ def read_sources(folder, types):
 
 
 def comment(before):
-    found = re.search(r'((?://[^\n]*\n)+)(?:#\[[^\n]*\n)?[^\n]*$', before)
+    found = re.search(r'((?://[^\n]*\n)+)(?:#\[(?:[^\[\]]|\[[^\[\]]*\])*\]\n)*[^\n]*$', before)
     return re.sub(r'\s*//\s*', ' ', found.group(1)).strip().replace('*/', '* /') if found else ''
 
 
 def variables(text, inner, end):
     at = text.find('{', end)
-    while re.search(r'\b(ensures|requires|decreases|measure|ghost)\s*$', text[end:at]):
+    while re.search(r'\b(ensures|requires)\*?(\s+\w+)?\s*$|\bghost\s+\w+\s*:\s*$', text[end:at]):      # a clause, with a name or without
         end = closed(text, at)
         at = text.find('{', end)
     body = text[at:closed(text, at)]

@@ -1,5 +1,6 @@
 """The whole: which functions are reached, the passes over each, and the C file."""
 import copy
+import hashlib
 import json
 import pathlib
 
@@ -9,9 +10,9 @@ from copies import without_copies
 from header import Header
 from in_place import in_place
 from inline import inlined
-from layout import Types
-from mir import Function, statements
-from refused import need
+from layout import Types, c_word
+from mir import Function, called, statements
+from refused import Refused, need
 from statements import Writer
 from typed import typed
 from unread import without_unread
@@ -45,35 +46,50 @@ static uint32_t leading_zeros_64(uint64_t x)
 '''.split('\n')
 
 
+class Functions(dict):
+    """name -> MIR of every function of some proved crates. Those of a crate are read when the first of them is asked for: the toolchain's own are many. `sums` has the
+    SHA-256 of the MIR of each crate that was read."""
+
+    def __init__(self, rlibs):
+        self.rlibs, self.sums = rlibs, {}
+
+    def of(self, crate):
+        """The names of a crate's functions."""
+        need(crate in self.rlibs, 'the crate %s is none of those that are depended on', crate)
+        if crate not in self.sums:
+            data = (self.rlibs[crate] / 'toolchain/mir.json').read_bytes()
+            self.sums[crate] = hashlib.sha256(data).hexdigest()
+            for name, mir in json.loads(data):
+                need(name.split('::')[0] == crate and name not in self, 'two functions are called %s', name)
+                self[name] = mir
+        return [name for name in self if name.split('::')[0] == crate]
+
+    def __missing__(self, name):
+        need(name in self.of(name.split('::')[0]), 'there is no function %s', name)
+        return self[name]
+
+
 def read_crates(folders, crate):
-    """(name -> MIR of every function, crate -> its sum) of a proved crate and of all that it depends on, as their files `format` say."""
-    functions, sums, todo = {}, {}, [crate]
+    """The functions of a proved crate and of all that it depends on, as their files `format` say."""
+    rlibs, todo = {}, [crate]
     while todo:
         crate = todo.pop()
-        if crate in sums:
+        if crate in rlibs:
             continue
         found = [path for path in (pathlib.Path(folder) / (crate + '.rlib') for folder in folders) if path.is_dir()]
         need(found, 'the crate %s is not proved: there is no %s.rlib', crate, crate)
         need(len(found) == 1, 'the crate %s stands in two folders', crate)
         lines = [line.split(' ', 1) for line in (found[0] / 'format').read_text().splitlines()]
-        sums[crate] = dict(line for line in lines if len(line) == 2)['sum']
+        need(['crate', crate] in lines, '%s is not the crate %s', found[0], crate)
+        rlibs[crate] = found[0]
         todo += [line[1] for line in lines if line[0] == 'dep']
-        for name, mir in json.loads((found[0] / 'toolchain/mir.json').read_text()):
-            need(name not in functions, 'two functions are called %s', name)
-            functions[name] = mir
-    return functions, sums
+    return Functions(rlibs)
 
 
 def exported(functions, crate):
     """The functions of a crate that C calls, name -> its name in C: those with the header's prefix. What else the crate has is reached from them."""
-    last = {name: name.split('::')[-1] for name in functions if name.split('::')[0] == crate}
+    last = {name: name.split('::')[-1] for name in functions.of(crate)}
     return {name: call for name, call in last.items() if call.startswith('barrier_')}
-
-
-def called(mir):
-    calls = [x['Call'][0] for x in mir['body'] if isinstance(x, dict) and 'Call' in x]
-    need(all('Direct' in call for call in calls), 'a call through a pointer')
-    return [call['Direct'] for call in calls]
 
 
 def reached(functions, starts):
@@ -85,9 +101,13 @@ def reached(functions, starts):
             need(name in order, 'recursion through %s', name)
             return
         seen.add(name)
-        need(name in functions, 'there is no function %s', name)
-        for callee in called(functions[name]):
-            visit(callee)
+        try:
+            body = functions[name]['body']
+        except KeyError:
+            raise Refused('there is no function %s' % name)
+        for x in body:
+            if isinstance(x, dict) and 'Call' in x:
+                visit(called(x['Call']))
         order.append(name)
     for name in starts:
         visit(name)
@@ -104,8 +124,8 @@ class Program:
         self.order = reached(functions, exports)
         self.functions = {}
         for name in self.order:
-            for t in functions[name]['types']:
-                self.types.declare(t['name'], t['shape'])
+            for row in functions[name]['types']:
+                self.types.declare(row)
             self.functions[name] = Function(name, functions[name], self.types.shapes)
         self.sources = names.read_sources(sources, self.types) if sources else {}
         names.complete(self.types)
@@ -113,6 +133,7 @@ class Program:
         if header:
             header.match_calls(self.types, self.functions, exports, self.sources)
         need(len(set(map(self.c_name, self.order))) == len(self.order), 'two functions have one name in C')
+        need(all(c_word(self.c_name(name)) for name in self.order), 'a function has no name in C')
 
     def c_name(self, name):
         return self.exports.get(name) or name.replace('::', '_')

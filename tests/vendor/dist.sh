@@ -4,7 +4,7 @@
 # checksums hold, a changed byte, a file more and a file less are found, nothing
 # untracked is in it, and what is not committed, not tested or of other crates is
 # refused. What is unpacked works. The prover is not needed: a program that answers
-# as rt does, crates' sums and a small log stand in for it.
+# as rt does, another MIR and a small log stand in for it.
 set -eu
 tmp=$(mktemp -d)
 trap 'rm -rf "$tmp"' EXIT
@@ -28,16 +28,25 @@ export GIT_AUTHOR_DATE='2020-02-03T04:05:06+0000' GIT_COMMITTER_DATE='2020-02-03
 version=$(sed -n 's/^#define BARRIER_VERSION "\(.*\)"$/\1/p' include/barrier.h)
 name=barrier_engine-$version
 
-# Sums of crates, where the toolchain writes them; those that the C names begin as
-# there. And an archive and a program, where the proved ones are built.
-crates=$(sed -n 's/^\([a-z_0-9]*\):.*/\1/p' crates.txt | grep -vx barrier)
-head=$(sed -n '1,/\*\//p' portable/barrier_engine.c | tr -s '\n *' '   ')
-mkdir -p "$tmp/target/staticlib" "$tmp/target/bin"
-for crate in $crates; do
-    digits=$(echo "$head" | sed -n "s/.*[:,] $crate \([0-9a-f]\{16\}\).*/\1/p")
-    mkdir -p "$tmp/target/rlib/$crate.rlib"
-    printf 'crate %s\nsum %s%048d\n' "$crate" "${digits:-0000000000000000}" 7 >"$tmp/target/rlib/$crate.rlib/format"
-done
+# The MIR of the crates that the C is made of, where the toolchain writes it, and the
+# C with the sums of it. And an archive and a program, where the proved ones are built.
+crates=$(sed -n 's/^\([a-z_0-9]*\)\( staticlib\)*:.*/\1/p' crates.txt)
+mkdir -p "$tmp/target/staticlib" "$tmp/target/bin" "$tmp/crates/barrier" "$tmp/crates/barrier_engine_c"
+python3 -B - "$tmp/crates" portable/barrier_engine.c "$tmp/barrier_engine.c" <<'END'
+import hashlib, pathlib, re, sys
+crates, text = pathlib.Path(sys.argv[1]), pathlib.Path(sys.argv[2]).read_text()
+at = text.index('*/')
+head, named = text[:at], []
+def with_sum(found):
+    named.append(found.group(1))
+    mir = crates / found.group(1) / 'out/rlib' / (found.group(1) + '.rlib') / 'toolchain/mir.json'
+    mir.parent.mkdir(parents=True)
+    mir.write_text(found.group(1))
+    return found.group(1) + found.group(2) + hashlib.sha256(mir.read_bytes()).hexdigest()[:16]
+head = re.sub(r'\b([a-z_0-9]+)((?: |\n \* ))[0-9a-f]{16}\b(?=[,.])', with_sum, head)
+assert 'queries' in named, head
+pathlib.Path(sys.argv[3]).write_text(head + text[at:])
+END
 cp "$LIBDIR/libbarrier_engine.a" "$tmp/target/staticlib"
 # The page, with a stand-in for its module: clang need not be here.
 printf 'a module' >"$tmp/module"
@@ -47,20 +56,22 @@ if [ -n "${BARRIER:-}" ]; then cp "$BARRIER" "$tmp/target/bin/barrier"; else ech
 build() {
     rm -rf "$1/target"
     cp -r "$tmp/target" "$1/target"
+    cp -r "$tmp/crates" "$1/"
 }
 
 # log FOLDER FILE: what the gate would say there.
 log() {
     {
-        printf '%s\n' 'logic=proved functions=9 target=x sum=12 native=nat' 'rt: target/staticlib/libbarrier_engine.a has the functions of barrier_engine'
         echo 'portable: barrier_engine.c is what the proved MIR gives, byte for byte'
         (cd "$1" && PATH="$tmp/bin:$PATH" python3 -B delivery/gate.py)
         echo 'rt ci'
         for crate in $crates; do
-            printf '%s\n' "fn $crate: proved" "logic=proved functions=${#crate} sum=12 native=nat" "rt: $crate proved (3 s)"
+            case $crate in
+            number) echo "rt: $crate is kept: an earlier run on this machine proved the same files over the same libraries" ;;
+            *) printf '%s\n' "== $crate" "fn $crate: proved" "logic=proved functions=${#crate} sum=12 native=nat" "rt: $crate proved" ;;
+            esac
         done
-        printf '%s\n' 'axioms libc: libc::read, libc::write (2 of the 50 declared)' 'logic=proved functions=4 axioms=2 target=x sum=12 native=nat' 'linked files=/a' 'rt: barrier proved (4 s)'
-        printf '%s\n' 'rt: ok, 25 crates proved' '25 passed, 0 failed'
+        printf '%s\n' 'rt: ok; handles allowed: none; must-fail edits: 9 refused' '25 passed, 0 failed'
     } >"$2"
 }
 
@@ -81,11 +92,22 @@ refused() {
 # the checksums of what is built.
 one=$tmp/one
 mkdir "$one" "$tmp/bin"
-printf '#!/bin/sh\necho a kit\n' >"$tmp/bin/rt"
+cat >"$tmp/bin/rt" <<'END'
+#!/bin/sh
+case "$*:$PWD" in
+version:*) echo a kit ;;
+"check --cpu x86-64:"*/barrier) printf '%s\n' 'fn barrier::main: proved' 'axioms libc: libc::read, libc::write (2 of the 50 declared)' 'axioms os: none reached of the 9 declared' \
+    'logic=proved functions=4 axioms=2 target=x sum=12 native=nat' ;;
+"check --cpu x86-64:"*/barrier_engine_c) printf '%s\n' 'axioms libc: none reached of the 50 declared' 'logic=proved functions=9 target=x sum=12 native=nat' ;;
+*) exit 1 ;;
+esac
+END
 chmod 755 "$tmp/bin/rt"
 tar --exclude=.git --exclude=target --exclude=./tests --exclude=./crates --exclude=__pycache__ -cf - . | tar -C "$one" -xf -
 mkdir -p "$one/crates"
 cp -r crates/refusal "$one/crates"
+rm -rf "$one/crates/refusal/out"
+cp "$tmp/barrier_engine.c" "$one/portable/barrier_engine.c"
 build "$one"
 for pair in lib/x86_64-linux/libbarrier_engine.a=target/staticlib/libbarrier_engine.a bin/x86_64-linux/barrier=target/bin/barrier portable/barrier_engine.c=portable/barrier_engine.c; do
     sum=$(sha256sum "$one/${pair#*=}" | cut -d ' ' -f 1)
@@ -145,7 +167,8 @@ web/barrier.html SHA-256 $(sha256sum <"$folder/web/barrier.html" | cut -d ' ' -f
     its module is that C, compiled by given
 $(sed -n 's/^delivery: file \([^ ]*\) /\1 SHA-256 /p' "$tmp/log")
 END
-[ "$(grep -c '^    logic=proved functions=' "$folder/PROOF.txt")" -eq $(($(echo "$crates" | wc -l) + 2)) ] || fail "PROOF.txt has not a verdict of each crate"
+[ "$(grep -c '^    logic=proved functions=' "$folder/PROOF.txt")" -eq 2 ] || fail "PROOF.txt has not the verdicts of the archive and the program"
+[ "$(grep -cE '^[a-z_0-9]+ [0-9a-f]{64}$' "$folder/PROOF.txt")" -eq "$(echo "$crates" | wc -l)" ] || fail "PROOF.txt has not a sum of each crate"
 if grep -nE '\([0-9]+ s\)|/a$' "$folder/PROOF.txt"; then fail "PROOF.txt has a time or a path"; fi
 echo "dist: $(wc -l <"$tmp/have") files, the same bytes twice, checksums hold, nothing untracked"
 
@@ -203,16 +226,20 @@ log "$one" "$tmp/log"
 sed '$s/0 failed/1 failed/' "$tmp/log" >"$tmp/other"
 refused 'does not end with what passed' "$two" "$tmp/other"
 sed '/^rt: queries proved/d' "$tmp/log" >"$tmp/other"
-refused 'no verdict of the crate queries' "$two" "$tmp/other"
+refused 'does not say that the crate queries is proved' "$two" "$tmp/other"
 sed 's/^rt: queries proved/rt: queries NOT PROVED/' "$tmp/log" >"$tmp/other"
-refused 'no verdict of the crate queries' "$two" "$tmp/other"
+refused 'does not say that the crate queries is proved' "$two" "$tmp/other"
+sed 's/^rt: number is kept: .*/rt: number is kept/' "$tmp/log" >"$tmp/other"
+refused 'does not say that the crate number is proved' "$two" "$tmp/other"
 sed '/^rt ci$/q' "$tmp/log" >"$tmp/other" && tail -n 1 "$tmp/log" >>"$tmp/other"
-refused 'no verdict of the crate' "$two" "$tmp/other"
+refused 'does not say that the crate' "$two" "$tmp/other"
+sed '/^delivery: archive logic=/d' "$tmp/log" >"$tmp/other"
+refused 'no verdict of the archive' "$two" "$tmp/other"
 sed '/^delivery: crate report/d' "$tmp/log" >"$tmp/other"
 refused 'no sum of the crate report' "$two" "$tmp/other"
-sed 's/^delivery: crate queries ./&0/' "$tmp/log" >"$tmp/other"
+sed 's/^delivery: mir queries ./&0/' "$tmp/log" >"$tmp/other"
 refused 'made from crate queries' "$two" "$tmp/other"
-sed '/^axioms libc/d' "$tmp/log" >"$tmp/other"
+sed '/^delivery: program axioms libc/d' "$tmp/log" >"$tmp/other"
 refused 'counts axioms' "$two" "$tmp/other"
 sed '/^portable: /d' "$tmp/log" >"$tmp/other"
 refused 'does not say that the C' "$two" "$tmp/other"
