@@ -1,4 +1,5 @@
-// The engine's C interface: numbers, slices as pointer and length, and replies as plain structs. include/barrier.h declares it.
+// The engine's C interface, as a library: numbers, slices as pointer and length, and replies as plain structs. include/barrier.h declares it, and crate
+// `barrier_engine_c` exports it.
 #![tactic(auto)]
 
 pub mod open; // the calls on an open job

@@ -1,6 +1,7 @@
 -- Tests over a list.
 -- Assumes nothing.
-use Rattle.std.specs.Prelude.{◌≡◌, Bool, true, false, ◌&&◌, ◌||◌, if◌then◌else◌}
+use Rattle.std.specs.Prelude.{◌≡◌, Bool, true, false, ◌&&◌, ◌||◌}
+use mathlib.Core.Bool.{cond}
 use mathlib.Core.List.{List, [], ◌∷◌, Memᴰ}
 
 module _ {ℓ} {A : Type ℓ} where
@@ -14,11 +15,10 @@ module _ {ℓ} {A : Type ℓ} where
   all_of p [] = true
   all_of p (x ∷ xs) = p x && all_of p xs
 
-module _ {A : Type 0} where
   -- the elements that pass the test
   unfoldable pub filter : (A → Bool) → List A → List A
   filter p [] = []
-  filter p (x ∷ xs) = let r = filter p xs in if p x then x ∷ r else r
+  filter p (x ∷ xs) = let r = filter p xs in cond (p x) (x ∷ r) r
 
 module _ {A : Type 0} where
   -- an element of a list that passes the test

@@ -17,6 +17,6 @@ pub record MultipleFrom (p x y : ℕ) : Type 0 where
 abbrev pub LeastMultiple : (p x y : ℕ) → Type 0
 LeastMultiple p x y = Least (MultipleFrom p x) y
 
--- The same, computed (law next-multiple).
+-- The same, computed (law next_multiple_lem).
 unfoldable pub next_multiple : (p x : ℕ) → ℕ
 next_multiple p x = (x + (p - 1)) / p * p

@@ -13,7 +13,7 @@ use planning::envelope::{adjacent_reach, adjacent_traffic, runout_length};
 // The adjacent approach length, the barrier at an offset that leaves the deflection free.
 fn length_at(header: Header, hazard: Hazard, offset: u64) -> u64
     requires clear { Clear header hazard }
-    requires deflection_bound { offset + header.deflection ≤ hazard.near }
+    requires stands_clear { offset + header.deflection ≤ hazard.near }
     ensures { result ≡ length_at header hazard offset }
 {
     let traffic = adjacent_traffic(header, hazard.side);

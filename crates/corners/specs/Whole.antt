@@ -9,6 +9,6 @@ below_zero (pos n) = false
 below_zero (negsuc n) = true
 
 -- x is finite, and has the sign and the size of z: no infinity, no NaN, and as 0 is not below 0, no negative zero. A float is at most one
--- whole number (law whole_one), and among the values of a format one alone is that number (law whole-is).
+-- whole number (law whole_one), and among the values of a format one alone is that number (law whole_is).
 pub record Whole (x : Float) (z : ℤ) : Type 0 where
   pub value : HasValue x (below_zero z) (nat_abs z) 1

@@ -33,7 +33,7 @@ pub struct Lengths {
 pub fn approach_lengths(header: Header, hazard: Hazard, traffic: Traffic) -> Lengths
     requires header_fits { HeaderFits header }
     requires hazard_fits { HazardFits header hazard }
-    requires deflection_bound { header.offset + header.deflection ≤ hazard.near }
+    requires stands_clear { header.offset + header.deflection ≤ hazard.near }
     requires traffic_adjacent { adjacent header hazard.side (traffic_of traffic) ≡ true }
     requires hazard_reached { reaches header hazard (traffic_of traffic) ≡ true }
     ensures { LengthsOf header hazard (traffic_of traffic) result }

@@ -36,7 +36,7 @@ pub fn next_hazard(s: &[u8], at: usize, header: Header, given: &[u64], index: us
     requires end_nonzero { 0 < header.end }
     requires index_bound { index < 256 }
     requires given_len { length given.now ≡ 3 * length (given_hazards given.now) }
-    requires s_len { 0 < length given.now → length s.now ≡ 0 }
+    requires no_bytes_if_given { 0 < length given.now → length s.now ≡ 0 }
     ensures { hazard_answer result ≡ next_hazard header (given_hazards given.now) index s.now at }
 {
     let usual = read_usual(s, at, header);

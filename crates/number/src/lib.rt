@@ -68,7 +68,7 @@ pub fn read_number(s: &[u8], at: usize) -> Read
 // The bytes of x from index at on, where there is room; the index behind them.
 pub fn put_number(out: &mut [u8], at: usize, x: u64) -> usize
     requires x_le_greatest_number { x ≤ greatest_number }
-    requires x_in_bounds { at + length (write_number x) ≤ length out.old }
+    requires number_fits { at + length (write_number x) ≤ length out.old }
     ensures value { result ≡ at + length (write_number x) }
     ensures out_after { out.new ≡ placed out.old at (write_number x) }
 {

@@ -65,7 +65,7 @@ better none b = b
 better (found o l) none = found o l
 better (found o l) (found p m) = if leb o p then found o l else found p m
 
--- The best of a list of layouts (laws best_first, best-none).
+-- The best of a list of layouts (laws best_first, best_none).
 unfoldable pub best : (lengths : List ℕ) (run : ℕ) (layouts : List (List ℕ)) → BestLayout
 best lengths run [] = none
 best lengths run (l ∷ ls) = better (if_covering lengths run l) (best lengths run ls)

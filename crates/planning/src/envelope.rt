@@ -88,7 +88,7 @@ pub fn adjacent_reach(header: Header, hazard: Hazard) -> u64
 fn lengthened_by(header: Header, hazard: Hazard, traffic: Traffic) -> u64
     requires header_fits { HeaderFits header }
     requires hazard_fits { HazardFits header hazard }
-    requires deflection_bound { header.offset + header.deflection ≤ hazard.near }
+    requires stands_clear { header.offset + header.deflection ≤ hazard.near }
     ensures { (result ≡ lengthening header hazard (traffic_of traffic)) × (result < 210000) }
 {
     let runout = runout_length(header, traffic);
@@ -117,7 +117,7 @@ fn lengthened_by(header: Header, hazard: Hazard, traffic: Traffic) -> u64
 fn cut_envelope(header: Header, hazard: Hazard) -> CutEnvelope
     requires header_fits { HeaderFits header }
     requires hazard_fits { HazardFits header hazard }
-    requires deflection_bound { header.offset + header.deflection ≤ hazard.near }
+    requires stands_clear { header.offset + header.deflection ≤ hazard.near }
     ensures { result ≡ record { stretch = cut_envelope header hazard; overhangs = overhang header hazard } }
 {
     let before = lengthened_by(header, hazard, Traffic::Forward);

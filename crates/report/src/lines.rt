@@ -19,7 +19,7 @@ fn put_run_line(text: &mut [u8], at: usize, word: &[u8], start: u64, end: u64, l
 // A line for each run.
 fn put_run_lines(text: &mut [u8], at: usize, word: &[u8], list: RunList) -> usize
     requires run_list { is_run_list (runs_of list) ≡ true }
-    requires list_in_bounds { at + length (run_lines word.now (runs_of list)) ≤ length text.old }
+    requires lines_fit { at + length (run_lines word.now (runs_of list)) ≤ length text.old }
     ensures { Written text.old at (run_lines word.now (runs_of list)) result text.new }
 {
     let count = list.count;

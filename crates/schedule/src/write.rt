@@ -43,7 +43,7 @@ pub fn schedule_length<'a>(
 // The record of a run from `at` on; the index behind it.
 fn put_record(out: &mut [u8], at: usize, end: u64, start: u64, stop: u64, level: u8) -> usize
     requires record_fits { RecordFits end start stop level }
-    requires level_in_bounds { at + length (write_record end (stretch start stop level)) ≤ length out.old }
+    requires record_fits { at + length (write_record end (stretch start stop level)) ≤ length out.old }
     ensures value { result ≡ at + length (write_record end (stretch start stop level)) }
     ensures out_after { out.new ≡ placed out.old at (write_record end (stretch start stop level)) }
 {
@@ -63,7 +63,7 @@ pub fn put_schedule<'a>(
     levels: &'a [u8; 512],
 ) -> usize
     requires run_list { is_run_list (runs_to starts.now ends.now levels.now count) ≡ true }
-    requires count_in_bounds { length (write_schedule (runs_to starts.now ends.now levels.now count)) ≤ length out.old }
+    requires schedule_fits { length (write_schedule (runs_to starts.now ends.now levels.now count)) ≤ length out.old }
     ensures value { result ≡ length (write_schedule (runs_to starts.now ends.now levels.now count)) }
     ensures out_after { out.new ≡ placed out.old 0 (write_schedule (runs_to starts.now ends.now levels.now count)) }
 {

@@ -53,7 +53,7 @@ fn has_station(end: u64, start: u64, continuity: u64, station: u64) -> bool
 
 // The highest level whose envelopes, with those of the levels above it, have the station or fill the gap that it lies in.
 fn highest_level(near: Nearest, continuity: u64, station: u64) -> u32
-    requires by_index { (v : ℕ) → v ≤ 6 → get_or near.ends v 0 ≤ last_station }
+    requires ends_bound { (v : ℕ) → v ≤ 6 → get_or near.ends v 0 ≤ last_station }
     requires continuity_bound { continuity ≤ 200000 }
     ensures { (es : List Stretch) → AllSound es → NearestOf es station near → result ≡ required_level es continuity station }
 {
