@@ -43,7 +43,7 @@ pub fn schedule_length<'a>(
 // The record of a run from `at` on; the index behind it.
 fn put_record(out: &mut [u8], at: usize, end: u64, start: u64, stop: u64, level: u8) -> usize
     requires record_fits { RecordFits end start stop level }
-    requires record_fits { at + length (write_record end (stretch start stop level)) ≤ length out.old }
+    requires room_for_record { at + length (write_record end (stretch start stop level)) ≤ length out.old }
     ensures value { result ≡ at + length (write_record end (stretch start stop level)) }
     ensures out_after { out.new ≡ placed out.old at (write_record end (stretch start stop level)) }
 {
