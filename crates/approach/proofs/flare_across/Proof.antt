@@ -1,5 +1,6 @@
 -- `approach::flare_across` meets its contract: no product leaves 64 bits in the domain.
 -- Assumes nothing.
+use Prim.Native.Nat.{◌-◌, ◌*◌}
 use native.Mathlib.Omega.{arith}
 use borrow.Author.Tests.{le-leb, lt-leb}
 use Rattle.approach.specs.Steps.{flare_across}
@@ -12,11 +13,11 @@ known c = sizes _ _ _ _ _ _ c.requires
 
 returns : tie.Need-returns-then-runout-reach
 unfolding flare_across
-returns c = rw (le-leb _ _ c.if-runout-reach.true)
+returns c = let a = c.before.args in rw (le-leb (a.runout * (a.reach - a.offset)) (a.straight * a.reach) (omega (arith, c.if-runout-reach.true)))
 
 returns-2 : tie.Need-returns-else-runout-reach
 unfolding flare_across
-returns-2 c = rw (lt-leb _ _ c.if-runout-reach.false)
+returns-2 c = let a = c.before.args in rw (lt-leb (a.runout * (a.reach - a.offset)) (a.straight * a.reach) (omega (arith, c.if-runout-reach.false)))
 
 pub flare_across_spec : {M : Type 1} → statement M
 flare_across_spec =
