@@ -3,7 +3,7 @@
 # make portable, make portable-mutants, make platforms (with the compilers and emulators that portable/platforms.sh names), for the page that plans in a
 # browser make web (with clang and lld) and make web-test (with the packages that tests/web/run.sh names), and for what is delivered
 # make dist [GATE=LOG] [WEB=no] and make dist-check [DIST=DELIVERY].
-.PHONY: run test promises proved engine hand fuzz bench bench-instructions portable portable-test portable-mutants platforms bench-portable web-test dist dist-check
+.PHONY: run test promises calls proved engine hand fuzz bench bench-instructions portable portable-test portable-mutants platforms bench-portable web-test dist dist-check
 
 SECONDS ?= 60
 # The tests are of the archive that is named to them.
@@ -17,13 +17,17 @@ run:
 
 # Everything. The toolchain's gate comes last: each crate proved, each must-fail edit refused, each program run.
 # Before it the log is told what was built and tested, which make dist reads there.
-test: promises hand vendor-test portable-test
+test: promises calls hand vendor-test portable-test
 	@python3 -B delivery/gate.py
 	@python3 -B tests/ci.py
 
 # The index of promises, which the prover reads, has every theorem that docs/PROMISES.md names.
 promises:
 	python3 -B tests/promises.py
+
+# The archive's calls are those of the library that the header and the C are compared with.
+calls:
+	python3 -B tests/calls.py
 
 # The archive and the program, proved.
 engine: target/staticlib/libbarrier_engine.a target/bin/barrier
@@ -43,7 +47,7 @@ $(VENDOR_OWN_ARCHIVE): proved
 
 # Here the program is always built, so its tests may not be left out.
 BARRIER = target/bin/barrier
-$(BARRIER): proved
+target/bin/barrier: proved
 	@mkdir -p $(@D)
 	cd crates/barrier && rt run --cpu $(CPU) <stdin >"$(CURDIR)/target/printed"
 	cmp target/printed crates/barrier/stdout

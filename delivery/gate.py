@@ -83,6 +83,9 @@ class Log:
         self.built = {what: [' '.join(words[1:]) for words in marked if words[0] == what] for what in BUILT}
         need('rt ci' in lines, 'the gate\'s log has no run of rt ci')
         at = len(lines) - 1 - lines[::-1].index('rt ci')
+        said = [found.group(1) for found in map(OK.match, lines[at + 1:]) if found]
+        need(len(said) == 1, 'the gate\'s log does not say that rt ci passed')
+        need(not re.search(r'\b[1-9][0-9]* bad\b', said[0]), 'the gate\'s log tells of bad must-fail edits: %s', said[0])
         proved = {found.group(1) for found in map(PROVED.match, lines[at + 1:]) if found}
         for crate in crates:
             need(crate in proved, 'the gate\'s log does not say that the crate %s is proved', crate)
@@ -94,6 +97,8 @@ class Log:
         self.c_line = said[-1]
 
 
+# What rt ci says where it passed; an edit that is bad shows nothing, and does not fail rt ci.
+OK = re.compile(r'rt: ok;.* must-fail edits: ([0-9]+ refused[^;]*)')
 # rt ci proves a crate anew where its files or those below it have changed since it last did so on the machine.
 PROVED = re.compile(r'rt: ([a-z0-9_]+) (?:proved$|is kept: an earlier run on this machine proved the same files over the same libraries$)')
 
@@ -107,7 +112,9 @@ def verdict(block):
 def axioms(block):
     """The prover's lines that name axioms; nothing where its verdict counts none."""
     named = [line for line in block if line.startswith('axioms ') and ': none reached of ' not in line]
-    need(bool(named) == (' axioms=' in verdict(block)), 'the gate\'s log counts axioms and does not name them, or the other way about: %s', verdict(block))
+    counted = sum(int(found.group(1)) for found in (re.search(r'\(([0-9]+) of the ', line) for line in named) if found)
+    told = re.search(r' axioms=([0-9]+)', verdict(block))
+    need(counted == int(told.group(1) if told else 0), 'the gate\'s log counts axioms and does not name them, or the other way about: %s', verdict(block))
     return named
 
 

@@ -4,7 +4,7 @@
 The prover reads the index (crates/promises), and with it every theorem that is in it; the program's own laws stand in crate barrier. In the document a name is a word in
 backticks. It is a theorem's where a lemma file of the crates (proofs/*.antt) declares it; BOTH has the words that a lemma or its field shares with a definition or with
 code, and that mean the latter in the document. Each theorem is in the index, where it stands under the heading that names it first; and a name of several words that nothing
-of all this has is a slip.
+of all this has is a slip. A name with a file of definitions or lemmas in brackets behind it is declared there, or in another file that stands in these brackets.
 
 A wrong edit is a name in backticks of words with underscores between them, in a cell under 'shuts out' or 'refused as', or behind the words
 'Shut out:'. Where a crate stands before it ('job: `header_number`, `hazard_index`; planning: ..'), it is that crate's; else any crate may have it.
@@ -18,6 +18,8 @@ import sys
 HOUSE = pathlib.Path(__file__).resolve().parent.parent
 NAME = re.compile(r"`([a-z][^\s`/.:]*[^\s`/.:_])`")
 EDIT = re.compile(r"(;)|(?:\b([a-z_]+): )?`([a-z0-9]+(?:_[a-z0-9]+)+)`")
+# `job_written`, `job_is_written` (`job/proofs/WritingLaws`, `RowLaws`): the second name, and the files.
+PLACED = re.compile(r"`([^\s`/.:]+)` \(`([a-z_]+/(?:proofs|specs))/(\w+)`([^()]*)\)")
 # In the document these are the definition's or the code's.
 BOTH = set("count in_range job number present reach road_top runs total".split())
 # What a line of antt declares for other files: `pub printed_formula : ..`.
@@ -80,6 +82,14 @@ def first_headings(promises):
     return first
 
 
+def misplaced(promises):
+    """Names that are not declared in the files that stand in brackets behind them."""
+    for name, folder, first, more in PLACED.findall(promises):
+        files = [first] + re.findall(r"`(\w+)`", more)
+        if name not in {word for file in files for word in declared(f"crates/{folder}/{file}.antt")}:
+            yield f"{name}: not in {folder}/{first}, as docs/PROMISES.md says"
+
+
 def edit_cells(promises):
     """The parts of a table's rows that name wrong edits."""
     columns = []
@@ -132,7 +142,8 @@ def main():
     faults += [f"{name}: in the index, not in docs/PROMISES.md" for name in sorted(set(index) - promised)]
     faults += [f"{name}: twice in the index" for name in sorted(set(index)) if index.count(name) > 1]
     faults += [f"{name}: in the index under '{heading}'" for name, heading in headings if heading != first.get(name, heading)]
-    faults += [f"{name}: in docs/PROMISES.md, and nothing has that name" for name in sorted(named - all_names) if re.search(r"[_→A-Z-]", name)]
+    faults += [f"{name}: in docs/PROMISES.md, and nothing has that name" for name in sorted(named - all_names) if re.search(r"[_→A-Z0-9-]", name)]
+    faults += misplaced(promises)
     if not promised:
         faults.append("docs/PROMISES.md names no theorem")
     faults += edit_faults(promises, set(index) | program)

@@ -1,6 +1,7 @@
 """examples.py [VECTORS [SEED]]: functions of the toolchain's own libraries through the translator. They were written by others, and for other things than the engine. Each function that the
 translator takes is called with made-up arguments, interpreted from its MIR (machine.py) and as usual and plain C: result and lent memory have to be the same. Arguments at which the interpreter is
 stuck are none that the function's contract allows, and are left out. A library's function with a construct that the engine does not use is refused, and the reasons are counted.
+Of each library that has a sum, a translator that writes a difference for it is noticed.
 """
 import collections
 import ctypes
@@ -13,6 +14,7 @@ import sys
 
 HERE = pathlib.Path(__file__).resolve().parent
 sys.path.insert(0, os.environ.get('TRANSLATOR', str(HERE.parent / 'translator')))
+import expressions  # noqa: E402
 from machine import Machine, Stuck  # noqa: E402
 from program import Program, read_crates, reached  # noqa: E402
 from random_mir import NOT_GENERIC, U64, at, copy, field, fn, int_, libraries, ref, repeat, seq  # noqa: E402
@@ -177,11 +179,32 @@ def entries(functions, name, vectors, seed):
     return found
 
 
+def others(whole, wanted, plain):
+    """(entry, compiler) wherever the C gives another number than the interpreter."""
+    text = Program(whole, {n: n for n in wanted}, plain=plain).write([], None)
+    for built, library in libraries(text):
+        for n, (number, _) in wanted.items():
+            call = getattr(library, n)
+            call.restype = ctypes.c_uint64
+            if call() != number:
+                yield n, built
+
+
+def wrong_sums_noticed(whole, wanted):
+    """Whether a translator that writes - for + is noticed."""
+    right = expressions.OPERATORS['Add']
+    expressions.OPERATORS['Add'] = '-'
+    try:
+        return any(True for _ in others(whole, wanted, False))
+    finally:
+        expressions.OPERATORS['Add'] = right
+
+
 def main():
     vectors, seed = (list(map(int, sys.argv[1:])) + [6, 1][len(sys.argv) - 1:])[:2]
     sys.setrecursionlimit(100000)
     kit = pathlib.Path(subprocess.run(['rt', 'doc'], stdout=subprocess.PIPE, universal_newlines=True, check=True).stdout.strip()).parent
-    done, calls, unmade, refused = collections.Counter(), 0, 0, collections.Counter()
+    done, calls, unmade, noticed, refused = collections.Counter(), 0, 0, 0, collections.Counter()
     for crate in CRATES:
         functions, whole, wanted = read_crates([kit / 'rlibs'], crate), {}, {}
         for name in list(functions.of(crate)):
@@ -199,17 +222,15 @@ def main():
             whole.update((m, functions[m]) for m in reached(functions, [n]))
         calls += len(wanted)
         for plain in (False, True) if wanted else ():
-            text = Program(whole, {n: n for n in wanted}, plain=plain).write([], None)
-            for built, library in libraries(text):
-                for n, (number, name) in wanted.items():
-                    call = getattr(library, n)
-                    call.restype = ctypes.c_uint64
-                    if call() != number:
-                        sys.exit('examples: %s: the %s C by %s gives another number than the interpreter: %s' % (name, 'plain' if plain else 'usual', built, json.dumps(whole[n])[:2000]))
+            for n, built in others(whole, wanted, plain):
+                sys.exit('examples: %s: the %s C by %s gives another number than the interpreter: %s' % (wanted[n][1], 'plain' if plain else 'usual', built, json.dumps(whole[n])[:2000]))
+        noticed += wanted != {} and wrong_sums_noticed(whole, wanted)
+    if noticed < 5:
+        sys.exit('examples: a translator with wrong sums is noticed in %d libraries only' % noticed)
     if sum(done.values()) < 300:
         sys.exit('examples: only %s functions were translated and run: %s' % (sum(done.values()), dict(done)))
-    print('examples: %d functions of the toolchain\'s own libraries (%s), %d calls: the same interpreted and as C, usual and plain; no arguments found for %d; refused %d, most for: %s' % (
-        sum(done.values()), ', '.join('%s %d' % pair for pair in done.items()), calls, unmade, sum(refused.values()), '; '.join('%s (%d)' % pair for pair in refused.most_common(5))))
+    print('examples: %d functions of the toolchain\'s own libraries (%s), %d calls: the same interpreted and as C, usual and plain; no arguments found for %d; wrong sums noticed in %d libraries; refused %d, most for: %s' % (
+        sum(done.values()), ', '.join('%s %d' % pair for pair in done.items()), calls, unmade, noticed, sum(refused.values()), '; '.join('%s (%d)' % pair for pair in refused.most_common(5))))
 
 
 if __name__ == '__main__':

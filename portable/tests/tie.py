@@ -8,7 +8,7 @@ the two are equal: types, locals and their homes, parameters and every construct
 there; of the toolchain's own library the kit has those that state a theorem, and not its proof. Then one number in each crate's mir.json is changed, and that has to be
 found.
 
-Of the checked modules it sees that they are there; it does not read them. That they hold what the records say, and that the prover reads them as they stand, is the
+Of the checked modules it sees that the file that holds them, `toolchain/checked.a`, reaches where they stand in it; it does not read them. That they hold what the records say, and that the prover reads them as they stand, is the
 toolchain's to see to, as every proof is.
 """
 import functools
@@ -29,7 +29,10 @@ class Records:
 
     def __init__(self, rlib):
         self.rlib, self.places = rlib, '\n' + (rlib / 'toolchain/made.json').read_text()
-        self.checked = set(re.findall(r'^\["([^"]*)"', (rlib / 'toolchain/checked.json').read_text(), re.M))
+        store = rlib / 'toolchain/checked.a'
+        size = store.stat().st_size if store.is_file() else 0
+        named = re.findall(r'^\["([^"]*)",(\d+),(\d+)\]$', (rlib / 'toolchain/checked.json').read_text(), re.M)
+        self.checked = {name for name, at, length in named if 0 < int(length) <= size - int(at)}
 
     def record(self, path):
         """The record of a module, or None."""

@@ -96,8 +96,8 @@ cat >"$tmp/bin/rt" <<'END'
 #!/bin/sh
 case "$*:$PWD" in
 version:*) echo a kit ;;
-"check --cpu x86-64:"*/barrier) printf '%s\n' 'fn barrier::main: proved' 'axioms libc: libc::read, libc::write (2 of the 50 declared)' 'axioms os: none reached of the 9 declared' \
-    'logic=proved functions=4 axioms=2 target=x sum=12 native=nat' ;;
+"check --cpu x86-64:"*/barrier) printf '%s\n' 'fn barrier::main: proved' 'axioms libc: libc::read, libc::write (2 of the 50 declared)' 'axioms os: os::c::errno (1 of the 9 declared)' \
+    'logic=proved functions=4 axioms=3 target=x sum=12 native=nat' ;;
 "check --cpu x86-64:"*/barrier_engine_c) printf '%s\n' 'axioms libc: none reached of the 50 declared' 'logic=proved functions=9 target=x sum=12 native=nat' ;;
 *) exit 1 ;;
 esac
@@ -160,9 +160,10 @@ commit: $(git -C "$one" rev-parse HEAD)
 toolchain: a kit
 gate: 25 passed, 0 failed
 $(sed -n 's/^delivery: crate //p' "$tmp/log")
+$(sed -n 's/^delivery: mir \([^ ]*\) /    the MIR of \1 /p' "$tmp/log")
     logic=proved functions=9 target=x sum=12 native=nat
     axioms: none
-    axioms libc: libc::read, libc::write (2 of the 50 declared)
+    axioms libc: libc::read, libc::write (2 of the 50 declared); axioms os: os::c::errno (1 of the 9 declared)
 web/barrier.html SHA-256 $(sha256sum <"$folder/web/barrier.html" | cut -d ' ' -f 1)
     its module is that C, compiled by given
 $(sed -n 's/^delivery: file \([^ ]*\) /\1 SHA-256 /p' "$tmp/log")
@@ -233,8 +234,14 @@ sed 's/^rt: number is kept: .*/rt: number is kept/' "$tmp/log" >"$tmp/other"
 refused 'does not say that the crate number is proved' "$two" "$tmp/other"
 sed '/^rt ci$/q' "$tmp/log" >"$tmp/other" && tail -n 1 "$tmp/log" >>"$tmp/other"
 refused 'does not say that the crate' "$two" "$tmp/other"
+sed 's/edits: 9 refused/&, 2 of them only by a limit, 3 bad/' "$tmp/log" >"$tmp/other"
+refused 'tells of bad must-fail edits' "$two" "$tmp/other"
+sed '/^rt: ok;/d' "$tmp/log" >"$tmp/other"
+refused 'does not say that rt ci passed' "$two" "$tmp/other"
 sed '/^delivery: archive logic=/d' "$tmp/log" >"$tmp/other"
 refused 'no verdict of the archive' "$two" "$tmp/other"
+sed '/^delivery: program logic=/d' "$tmp/log" >"$tmp/other"
+refused 'no verdict of the program' "$two" "$tmp/other"
 sed '/^delivery: crate report/d' "$tmp/log" >"$tmp/other"
 refused 'no sum of the crate report' "$two" "$tmp/other"
 sed 's/^delivery: mir queries ./&0/' "$tmp/log" >"$tmp/other"
