@@ -83,13 +83,13 @@ class Log:
         self.built = {what: [' '.join(words[1:]) for words in marked if words[0] == what] for what in BUILT}
         need('rt ci' in lines, 'the gate\'s log has no run of rt ci')
         at = len(lines) - 1 - lines[::-1].index('rt ci')
-        said = [found.group(1) for found in map(OK.match, lines[at + 1:]) if found]
-        need(len(said) == 1, 'the gate\'s log does not say that rt ci passed')
-        need(not re.search(r'\b[1-9][0-9]* bad\b', said[0]), 'the gate\'s log tells of bad must-fail edits: %s', said[0])
         proved = {found.group(1) for found in map(PROVED.match, lines[at + 1:]) if found}
         for crate in crates:
             need(crate in proved, 'the gate\'s log does not say that the crate %s is proved', crate)
             need(crate in self.sums, 'the gate\'s log has no sum of the crate %s', crate)
+        said = [found.group(1) for found in map(OK.match, lines[at + 1:]) if found]
+        need(len(said) == 1, 'the gate\'s log does not say that rt ci passed')
+        need(not re.search(r'\b[1-9][0-9]* bad\b', said[0]), 'the gate\'s log tells of bad must-fail edits: %s', said[0])
         for what in BUILT:
             need(verdict(self.built[what]), 'the gate\'s log has no verdict of the %s', what)
         said = [line for line in lines if line.startswith('portable: barrier_engine.c is ')]

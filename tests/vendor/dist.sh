@@ -35,8 +35,8 @@ mkdir -p "$tmp/target/staticlib" "$tmp/target/bin" "$tmp/crates/barrier" "$tmp/c
 python3 -B - "$tmp/crates" portable/barrier_engine.c "$tmp/barrier_engine.c" <<'END'
 import hashlib, pathlib, re, sys
 crates, text = pathlib.Path(sys.argv[1]), pathlib.Path(sys.argv[2]).read_text()
-at = text.index('*/')
-head, named = text[:at], []
+at, crates_at = text.index('*/'), text.index('Crates, ')
+head, named = text[crates_at:at], []
 def with_sum(found):
     named.append(found.group(1))
     mir = crates / found.group(1) / 'out/rlib' / (found.group(1) + '.rlib') / 'toolchain/mir.json'
@@ -45,7 +45,7 @@ def with_sum(found):
     return found.group(1) + found.group(2) + hashlib.sha256(mir.read_bytes()).hexdigest()[:16]
 head = re.sub(r'\b([a-z_0-9]+)((?: |\n \* ))[0-9a-f]{16}\b(?=[,.])', with_sum, head)
 assert 'queries' in named, head
-pathlib.Path(sys.argv[3]).write_text(head + text[at:])
+pathlib.Path(sys.argv[3]).write_text(text[:crates_at] + head + text[at:])
 END
 cp "$LIBDIR/libbarrier_engine.a" "$tmp/target/staticlib"
 # The page, with a stand-in for its module: clang need not be here.
