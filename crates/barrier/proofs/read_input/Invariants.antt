@@ -1,3 +1,4 @@
+-- `barrier::read_input` stays within the memory: what is read so far is in it, and its length does not change. Assumes nothing.
 use Rattle.std.proofs.Common.{length, ◌-◌, ◌≡◌, ◌≤◌}
 use Rattle.barrier.proofs.read_input.Given as goal
 
