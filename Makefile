@@ -66,9 +66,10 @@ portable: proved
 portable-test: engine
 	sh portable/test.sh
 
-# The toolchain's own libraries through the translator; wrong translators, each of which has to be found.
+# The toolchain's own libraries and today's forms through the translator; wrong translators, each of which has to be found.
 portable-mutants: proved
 	python3 -B portable/tests/examples.py
+	python3 -B portable/tests/forms.py
 	python3 -B portable/tests/mutants.py
 
 platforms: engine

@@ -21,7 +21,7 @@ EDIT = re.compile(r"(;)|(?:\b([a-z_]+): )?`([a-z0-9]+(?:_[a-z0-9]+)+)`")
 # `job_written`, `job_is_written` (`job/proofs/WritingLaws`, `RowLaws`): the second name, and the files.
 PLACED = re.compile(r"`([^\s`/.:]+)` \(`([a-z_]+/(?:proofs|specs))/(\w+)`([^()]*)\)")
 # In the document these are the definition's or the code's.
-BOTH = set("count in_range job number present reach road_top runs total".split())
+BOTH = set("count covers in_range job number passed_on present reach road_top run runs total".split())
 # What a line of antt declares for other files: `pub printed_formula : ..`.
 PUBLIC = re.compile(r"^\s*(?:(?:abbrev|unfoldable)\s+)*pub\s+(?:(?:abbrev|unfoldable|record|data)\s+)*([^\s:({]+)", re.M)
 # What a line of antt declares: `pub printed_formula : ..`, `  read write : ..`, `record Job : ..`.

@@ -16,7 +16,7 @@ HERE = pathlib.Path(__file__).resolve().parent
 sys.path.insert(0, os.environ.get('TRANSLATOR', str(HERE.parent / 'translator')))
 import expressions  # noqa: E402
 from machine import Machine, Stuck  # noqa: E402
-from program import Program, read_crates, reached  # noqa: E402
+from program import Program, read_crates, origins  # noqa: E402
 from random_mir import NOT_GENERIC, U64, at, copy, field, fn, int_, libraries, ref, repeat, seq  # noqa: E402
 from refused import Refused  # noqa: E402
 
@@ -167,7 +167,7 @@ def taken(functions, name):
 def entries(functions, name, vectors, seed):
     """(entry, the number that it has to give) of some calls of a function."""
     found, mir = [], functions[name]
-    needed = {n: functions[n] for n in reached(functions, [name])}
+    needed = {n: functions[n] for n in origins(functions, [name])}
     for k in range(vectors):
         try:
             entry = Entry(random.Random('%s %d %d' % (name, seed, k)), name, mir).mir
@@ -219,7 +219,7 @@ def main():
                 wanted['entry%d' % len(wanted)] = number, name
                 whole['entry%d' % len(whole)] = entry
         for n in [n for _, n in wanted.values()]:
-            whole.update((m, functions[m]) for m in reached(functions, [n]))
+            whole.update((m, functions[m]) for m in origins(functions, [n]))
         calls += len(wanted)
         for plain in (False, True) if wanted else ():
             for n, built in others(whole, wanted, plain):

@@ -10,7 +10,7 @@ HERE = pathlib.Path(__file__).resolve().parent
 sys.path.insert(0, os.environ.get('TRANSLATOR', str(HERE.parent / 'translator')))
 from machine import Machine, Stuck  # noqa: E402
 from program import Program  # noqa: E402
-from random_mir import A, S, SHAPES as PLAIN_SHAPES, T, U16, U64, copy, declared, field, fn, int_, libraries, named, ref, repeat, slice_of  # noqa: E402
+from random_mir import A, A_TYPE, NOT_GENERIC, S, SHAPES as PLAIN_SHAPES, T, U16, U64, copy, declared, field, fn, int_, libraries, named, ref, repeat, slice_of  # noqa: E402
 from refusals import assign, function, op, place  # noqa: E402
 
 EMPTY = {'Array': [U64, {'Lit': 0}]}
@@ -85,6 +85,27 @@ CALLEES = {
     'r::fill': function(['Unit', slice_of('Mut'), U64, 'Ptr'], 2, [assign(place(3), {'Op2': ['Offset', copy(place(1, field(0))), int_(8)]}), assign(place(3, {'Deref': U64}), opd(place(2)))], SHAPES),
     'r::read': function([U64, slice_of('Imm'), 'Ptr'], 1, [assign(place(2), {'Op2': ['Offset', copy(place(1, field(0))), int_(8)]}), assign(RES, opd(place(2, {'Deref': U64})))], SHAPES),
 }
+
+
+def impl(name, *types):
+    return {'Impl': ['r::' + name, list(types), []]}
+
+
+def call_at(callee, dictionaries, types, given, to):
+    """A call at types and dictionaries: of a function, or of the first method of an impl."""
+    at = {'types': types, 'dicts': dictionaries}
+    return [{'Call': [{'Fn': [callee, at]} if isinstance(callee, str) else {'Method': [callee, 0, at]}, given, to]}]
+
+
+# `through` calls the method of whatever impl it is given; `sizes` is the method of an impl with a type of its own, and takes one more.
+IMPLS = [{'name': 'r::' + name, 'methods': ['r::' + method]} for name, method in (('Adds', 'plus'), ('Takes', 'less'), ('Sizes', 'sizes'))]
+CALLEES.update({
+    'r::plus': function([U64, U64], 1, [assign(RES, {'Op2': ['WrapAdd', a, int_(3)]})]),
+    'r::less': function([U64, U64], 1, [assign(RES, {'Op2': ['WrapSub', a, int_(3)]})]),
+    'r::through': dict(function([U64, U64], 1, [call_at({'Given': 0}, [], [], [a], RES)]), generics=dict(NOT_GENERIC, bounds=[{}], impls=IMPLS)),
+    'r::sizes': dict(function([U64, U64], 0, [assign(place(1), op('Mul', {'SizeOf': {'Param': 0}}, int_(100))), assign(RES, op('Add', copy(place(1)), {'SizeOf': {'Param': 1}}))]),
+                     generics=dict(NOT_GENERIC, types=[A_TYPE, A_TYPE])),
+})
 m = ('memory', T)
 ma = ('memory', A)
 
@@ -113,8 +134,37 @@ def parts_piece():
         assign(place(14), {'AddrOf': values}), assign(place(15), {'Op2': ['Offset', copy(place(14)), int_(16)]}), assign(RES, opd(place(15, {'Deref': U64})))])
 
 
+def turns(first, last, inside, name='Lt', step=1, between=(), otherwise=(), k=U64, more=()):
+    """for k in first..last { inside }: k is V, last W, the test X3, and Y3 what is counted; with the next three locals, k and what was counted are the answer."""
+    return entry([k, U64, 'Bool', U64, U64] + list(more), [assign(Y3, {'Opd': a}), assign(V, {'Opd': int_(first)}), assign(W, {'Opd': int_(last)}), *between,
+                 loop([assign(X3, op(name, copy(V), copy(W))), if_(copy(X3), [], [*otherwise, [{'Exit': 1}]]), *inside, assign(V, op('Add', copy(V), int_(step)))]),
+                 if_(copy(X3), [assign(Y3, xor(copy(Y3), b))]), assign(Z3, {'Op2': ['WrapMul', copy(Y3), int_(9)]}), assign(RES, xor(copy(Z3), copy(V)))])
+
+
+count = [assign(Y3, {'Op2': ['WrapMul', copy(Y3), int_(3)]}), assign(Y3, xor(copy(Y3), copy(V)))]
+ninth = place(9)
 lend = assign(W, {'AddrOf': V})
 PIECES = {
+    'a loop of three turns': turns(1, 4, count),
+    'a loop that reads its test': turns(1, 4, count + [if_(copy(X3), [assign(Y3, {'Op2': ['WrapAdd', copy(Y3), int_(7)]})])]),
+    'a loop of no turns': turns(5, 2, count),
+    'a loop that writes its number': turns(0, 6, count + [assign(V, op('Add', copy(V), int_(1)))]),
+    'a loop that writes its end': turns(0, 6, count + [assign(W, {'Opd': int_(2)})]),
+    'a loop that ends with its test\'s other branch': turns(0, 3, count, otherwise=[assign(Y3, xor(copy(Y3), int_(5)))]),
+    'a loop to its end and with it': turns(0, 3, count, name='Le'),
+    'a loop with every second number': turns(0, 6, count, step=2),
+    'a loop whose end a branch writes': turns(0, 6, count, between=[assign(X3, op('Lt', a, b)), if_(copy(X3), [assign(W, {'Opd': int_(2)})])]),
+    'a loop whose end is a call\'s': turns(0, 6, count, between=[assign(ninth, op('Rem', a, int_(4))), call('r::plus', [copy(ninth)], W)], more=[U64, U64]),
+    'a loop that is left': turns(0, 6, count + [assign(X3, op('Le', int_(2), copy(V))), if_(copy(X3), [[{'Exit': 1}]])]),
+    'a loop that goes on': turns(0, 6, [assign(V, op('Add', copy(V), int_(1)))] + count + [assign(X3, op('Le', int_(2), copy(V))), if_(copy(X3), [[{'Exit': 0}]])], step=0),
+    'a loop whose number is lent': turns(0, 6, count + [assign(place(8), {'AddrOf': V}), assign(place(8, {'Deref': U64}), op('Add', copy(V), int_(1)))], k=('memory', U64), more=[ref(U64)]),
+    'a branch that is never taken': entry(['Bool', U64, U64], [assign(V, op('Lt', a, a)), if_(copy(V), [['Unreachable']], [assign(W, xor(a, b))]), if_(copy(V), [assign(X3, xor(a, a))], [assign(X3, xor(b, int_(9)))]),
+                                                              assign(V, op('Le', a, a)), if_(copy(V), [assign(W, xor(copy(W), copy(X3)))], [['Unreachable']]), assign(RES, opd(W))]),
+    'an arm that is never taken': entry([U64, U64], [assign(V, op('Rem', a, int_(3))), assign(V, op('Add', copy(V), int_(1))),
+                                                     [{'Switch': [copy(V), [[0], [1]], True]}] + ['Unreachable'] + assign(W, opd(a)) + assign(W, xor(a, b)), assign(RES, opd(W))]),
+    'an end that is never reached': entry(['Bool'], [assign(V, op('Lt', a, b)), if_(copy(V), [assign(RES, opd(a)), ['Return']], [assign(RES, xor(a, b)), ['Return']]), ['Unreachable']]),
+    'one function with two impls': entry([U64, U64], [call_at('r::through', [impl('Adds')], [], [a], V), call_at('r::through', [impl('Takes')], [], [b], W), assign(RES, xor(copy(V), copy(W)))]),
+    'a method at a type of its impl and one of its own': entry([U64], [call_at(impl('Sizes', U16), [], [U64], [], V), assign(RES, xor(copy(V), a))]),
     'a value that a lent call changes after': entry([m, ref(T), U64, U64], [struct_t(V, a), assign(X3, opd(place(3, field(0)))), lend, call('r::bump', [copy(W)], Y3), assign(RES, opd(X3))]),
     'a call that writes is made where it stands': entry([m, ref(T), U64, U64, U64, U64], [struct_t(V, a), lend, call('r::bump', [copy(W)], Y3), assign(X3, opd(place(3, field(0)))), assign(Z3, op('Div', copy(X3), int_(3))),
                                                         assign(place(8), xor(copy(X3), copy(Y3))), assign(RES, xor(copy(place(8)), copy(Z3)))]),

@@ -1,4 +1,4 @@
-"""An interpreter of the MIR, written from the toolchain's logic (logic/Prog/Machine.antt, logic/Prog/Memory.antt, logic/Mir/Val.antt) and not from the translator.
+"""An interpreter of the MIR, written from the toolchain's logic (logic/Prog/Machine.antt, logic/Prog/Memory.antt, logic/Mir/Val.antt, logic/Mir/Inst.antt) and not from the translator.
 
 A value is its bytes, little-endian, and for each byte whether it was ever written; every local is a block of its own; a pointer is a block's number and an
 offset. What the machine calls stuck (a sum that does not fit, an index outside its block, a misaligned access, a read of what was never written, of a struct too
@@ -22,14 +22,39 @@ def functions_of(crates):
     return {name: f for path in crates for name, f in json.loads((pathlib.Path(path) / 'toolchain/mir.json').read_text())}
 
 
+def filled(x, types, dicts):
+    """A piece of MIR with these arguments for its parameters, wherever they stand in it."""
+    if isinstance(x, list):
+        return [filled(y, types, dicts) for y in x]
+    if not isinstance(x, dict):
+        return x
+    for word, given in (('Param', types), ('Given', dicts)):
+        if list(x) == [word]:
+            if x[word] >= len(given):
+                raise Stuck('nothing is put in for a parameter')
+            return given[x[word]]
+    return {k: filled(y, types, dicts) for k, y in x.items()}
+
+
 class Machine:
     def __init__(self, functions):
-        self.functions, self.shapes, self.blocks, self.calls, self.next = functions, {}, {}, {}, 0
-        self.sizes, self.rowed, self.tags, self.trees, self.masks = {}, {}, {}, {}, {}
+        self.functions, self.shapes, self.impls, self.blocks, self.calls, self.next = functions, {}, {}, {}, {}, 0
+        self.sizes, self.rowed, self.tags, self.instances, self.masks, self.shaped = {}, {}, {}, {}, {}, {}
         for name, f in functions.items():
             for t in f['types']:
                 self.shapes[t['name']] = t['shape']
-            self.trees[name] = self.tree(iter(f['body']))
+            for impl in f['generics']['impls']:
+                self.impls[impl['name']] = impl['methods']
+
+    def instance(self, name, types=(), dicts=()):
+        """(the function, its locals' types and its body, with these arguments put in)"""
+        key = json.dumps([name, types, dicts])
+        if key not in self.instances:
+            f = self.functions[name]
+            if len(types) != len(f['generics']['types']) or len(dicts) != len(f['generics']['bounds']):
+                raise Stuck('a call at other arguments than %s takes' % name)
+            self.instances[key] = f, [filled(l['ty'], types, dicts) for l in f['locals']], self.tree(iter(filled(f['body'], types, dicts)))
+        return self.instances[key]
 
     def tree(self, tokens):
         """The body's tokens stand in prefix order."""
@@ -57,7 +82,7 @@ class Machine:
             return 8, 8
         if kind == 'Array':
             size, align = self.layout(v[0])
-            return size * v[1]['Lit'], align
+            return size * self.length(v[1]), align
         start, rows = self.rows(t)
         end = max(self.offsets(r, start)[1] for r in rows)
         align = max([self.layout(x)[1] for r in rows for x in r] + [1])
@@ -68,8 +93,18 @@ class Machine:
         (kind, v), = t.items()
         if kind == 'Struct':
             return 0, [v[1]]
-        shape = self.shapes[v[0]['name']]
-        return (0, [shape['Fields']]) if 'Fields' in shape else (1, shape['Variants'])
+        if id(t) not in self.shaped:
+            shape = filled(self.shapes[v[0]['name']], v[1], ())
+            self.shaped[id(t)] = (0, [shape['Fields']]) if 'Fields' in shape else (1, shape['Variants'])
+        return self.shaped[id(t)]
+
+    @staticmethod
+    def length(n):
+        """Of an array, or how often something is repeated: written there, or put in for a parameter."""
+        (kind, v), = n.items()
+        if kind not in ('Lit', 'Const'):
+            raise Stuck('a length that is no number')
+        return v
 
     def offsets(self, ts, end):
         """(each field's offset, the end)"""
@@ -130,7 +165,9 @@ class Machine:
         if 'Struct' in a and 'Struct' in b:
             return len(a['Struct'][1]) == len(b['Struct'][1]) and all(map(self.alike, a['Struct'][1], b['Struct'][1]))
         if 'Array' in a and 'Array' in b:
-            return a['Array'][1] == b['Array'][1] and self.alike(a['Array'][0], b['Array'][0])
+            return self.length(a['Array'][1]) == self.length(b['Array'][1]) and self.alike(a['Array'][0], b['Array'][0])
+        if 'Named' in a and 'Named' in b:
+            return a['Named'][0]['name'] == b['Named'][0]['name'] and len(a['Named'][1]) == len(b['Named'][1]) and all(map(self.alike, a['Named'][1], b['Named'][1]))
         return a is b or a == b
 
     # ---- dec of Memory.antt: every leaf of the type was written, and a bool is 0 or 1. What lies between the leaves does not matter.
@@ -161,7 +198,7 @@ class Machine:
             return b'\1' * size, (b'\376' if kind == 'Bool' else b'\0') * size
         if kind == 'Array':
             inner = self.mask_bytes(t['Array'][0])
-            return inner and tuple(x * t['Array'][1]['Lit'] for x in inner)
+            return inner and tuple(x * self.length(t['Array'][1]) for x in inner)
         start, rows = self.rows(t)
         out = bytearray(size), bytearray(size)
         for u, o in zip(rows[0], self.offsets(rows[0], 0)[0]) if not start else ():
@@ -175,7 +212,7 @@ class Machine:
     def pieces(self, t, data, known):
         """(type, offset) of each part of a value with an enum inside."""
         if 'Array' in t:
-            u, n = t['Array'][0], t['Array'][1]['Lit']
+            u, n = t['Array'][0], self.length(t['Array'][1])
             return [(u, k * self.layout(u)[0]) for k in range(n)]
         start, rows = self.rows(t)
         if start and (not known[0] or data[0] >= len(rows)):
@@ -216,6 +253,10 @@ class Machine:
             return INT[v['width']], self.whole(v['value'].to_bytes(v['width'] // 8, 'little'))
         if kind == 'Float':
             return FLOAT, self.whole(v['bits'].to_bytes(v['width'] // 8, 'little'))
+        if kind == 'SizeOf':
+            return INT[64], self.whole(self.layout(v)[0].to_bytes(8, 'little'))
+        if kind == 'NumOf' and 'Const' in v[1]:
+            return INT[v[0]], self.whole(v[1]['Const'].to_bytes(v[0] // 8, 'little'))
         raise Stuck(kind)
 
     def number(self, frame, x):
@@ -231,14 +272,14 @@ class Machine:
             _, b, o = self.spot(frame, v)
             return 'Ptr', self.whole((b << 32 | o).to_bytes(8, 'little'))
         if kind == 'Repeat':
-            of, (data, known) = self.operand(frame, v[0])
-            return {'Array': [of, v[1]]}, (data * v[1]['Lit'], known * v[1]['Lit'])
+            (of, (data, known)), n = self.operand(frame, v[0]), self.length(v[1])
+            return {'Array': [of, {'Lit': n}]}, (data * n, known * n)
         if kind == 'Aggregate':
             return t, self.aggregate([self.operand(frame, x) for x in v], t)
         return self.op1(frame, v, t) if kind == 'Op1' else self.op2(frame, v, t)
 
     def aggregate(self, given, t):
-        start, rows = (0, [[t['Array'][0]] * t['Array'][1]['Lit']]) if 'Array' in t else self.rows(t)
+        start, rows = (0, [[t['Array'][0]] * self.length(t['Array'][1])]) if 'Array' in t else self.rows(t)
         parts = [value for _, value in given]
         if start and (not given or given[0][0] != INT[8] or parts[0][0][0] >= len(rows)):
             raise Stuck('an aggregate without a tag')
@@ -293,7 +334,7 @@ class Machine:
         limit = 1 << 8 * self.layout(of)[0]
         n = {'Add': lambda: a + b, 'Sub': lambda: a - b, 'Mul': lambda: a * b, 'Div': lambda: a // b, 'Rem': lambda: a % b, 'Shr': lambda: a >> b,
              'Shl': lambda: (a << b) % limit, 'And': lambda: a & b, 'Or': lambda: a | b, 'Xor': lambda: a ^ b,
-             'WrapAdd': lambda: (a + b) % limit, 'WrapSub': lambda: (a - b) % limit,
+             'WrapAdd': lambda: (a + b) % limit, 'WrapSub': lambda: (a - b) % limit, 'WrapMul': lambda: a * b % limit,
              'Eq': lambda: a == b, 'Ne': lambda: a != b, 'Lt': lambda: a < b, 'Le': lambda: a <= b}[name]()
         if n >= limit:
             raise Stuck('%s does not fit' % name)
@@ -312,9 +353,7 @@ class Machine:
         if kind in ('Assign', 'Call'):
             return self.put(frame, kind, v)
         if kind == 'LendStatic':
-            data = self.constant(v[2])
-            if len(data) != self.layout(v[1])[0]:
-                raise Stuck('a constant of another size')
+            data = self.constant(v[2], v[1])
             t, b, o = self.spot(frame, v[0])
             self.store(t, b, o, self.whole((self.new(len(data), data) << 32).to_bytes(8, 'little')), 'Ptr')
             return 'next'
@@ -322,6 +361,8 @@ class Machine:
             return 'next'
         if kind == 'Return':
             return 'return'
+        if kind == 'Unreachable':
+            raise Stuck('what is never reached')
         if kind == 'Exit':
             return v
         if kind == 'Block':
@@ -347,16 +388,31 @@ class Machine:
             raise Stuck('no arm')
         return self.run(frame, subs[-1])
 
-    def constant(self, c):
-        """The bytes of a constant of integers."""
+    def constant(self, c, t):
+        """The bytes of a constant of this type: of numbers, bools, and arrays, structs and enums of such."""
         (kind, v), = c.items()
-        if kind == 'Ints':
-            return b''.join(n.to_bytes(v['width'] // 8, 'little') for n in v['values'])
+        if kind in ('Int', 'Bool') and t == ({kind: v['width']} if kind == 'Int' else 'Bool'):
+            return int(v['value'] if kind == 'Int' else v).to_bytes(self.layout(t)[0], 'little')
         if kind == 'Repeat':
-            return self.constant(v[0]) * v[1]
-        if kind == 'Int':
-            return v['value'].to_bytes(v['width'] // 8, 'little')
-        raise Stuck('a constant %s' % kind)
+            kind, v = 'Parts', v[:1] * v[1]
+        if kind == 'Ints':
+            kind, v = 'Parts', [{'Int': {'width': v['width'], 'value': n}} for n in v['values']]
+        if kind != 'Parts' or not isinstance(t, dict) or not ('Array' in t or 'Named' in t):
+            raise Stuck('a constant %s' % kind)
+        out = bytearray(self.layout(t)[0])
+        if 'Array' in t:
+            row = t['Array'][:1] * self.length(t['Array'][1])
+            at = [k * self.layout(t['Array'][0])[0] for k in range(len(row))]
+        else:
+            enum, rows = self.rows(t)
+            row = self.tagged(rows[v[0]['Int']['value']]) if enum else rows[0]
+            at = self.offsets(row, 0)[0]
+        if len(v) != len(row):
+            raise Stuck('a constant of another size')
+        for x, u, o in zip(v, row, at):
+            made = self.constant(x, u)
+            out[o:o + len(made)] = made
+        return bytes(out)
 
     def put(self, frame, kind, v):
         dest = v[0] if kind == 'Assign' else v[2]
@@ -364,26 +420,35 @@ class Machine:
             of, value = self.rvalue(frame, v[1], self.spot(frame, dest)[0])
         else:
             given = [self.operand(frame, x) for x in v[1]]
-            (callee, args), = v[0].values()
-            if 'Fn' not in v[0] or args['types'] or args['dicts']:
-                raise Stuck('a call of another kind')
-            value = self.call(callee, [value for _, value in given], [of for of, _ in given])
-            of = self.functions[callee]['locals'][0]['ty']
+            named = self.named(v[0])
+            value = self.call(named[0], [value for _, value in given], [of for of, _ in given], named[1:])
+            of = self.instance(*named)[1][0]
         t, b, o = self.spot(frame, dest)
         self.store(t, b, o, value, of)
         return 'next'
 
-    def call(self, name, args, types=None):
-        """types: those of the arguments; from outside they are the parameters'."""
+    def named(self, callee):
+        """(function, types, dictionaries) of what a call names: a method of an impl takes the impl's and then its own (Inst.antt: key_of, args_of)"""
+        (kind, v), = callee.items()
+        if kind == 'Method' and 'Impl' in v[0]:
+            impl, types, dicts = v[0]['Impl']
+            if v[1] < len(self.impls.get(impl, ())):
+                return self.impls[impl][v[1]], types + v[2]['types'], dicts + v[2]['dicts']
+        if kind != 'Fn':
+            raise Stuck('a call of another kind')
+        return v[0], v[1]['types'], v[1]['dicts']
+
+    def call(self, name, args, types=None, arguments=((), ())):
+        """types: those of the arguments; from outside they are the parameters'. arguments: what is put in for the function's type parameters and dictionaries."""
         self.calls[name] = self.calls.get(name, 0) + 1
-        f = self.functions[name]
+        f, locals_, tree = self.instance(name, *arguments)
         frame = []
-        for l in f['locals']:
-            size, align = self.layout(l['ty'])
-            frame.append((l['ty'], self.new(size, align=align)))
+        for t in locals_:
+            size, align = self.layout(t)
+            frame.append((t, self.new(size, align=align)))
         for (t, b), value, of in zip(frame[1:], args, types or [None] * len(args)):
             self.store(t, b, 0, value, of)
-        if len(args) != f['params'] or self.run(frame, self.trees[name]) != 'return':
+        if len(args) != f['params'] or self.run(frame, tree) != 'return':
             raise Stuck('a call of %s' % name)
         result = self.load(frame[0][0], frame[0][1], 0)
         for _, b in frame:

@@ -1,5 +1,5 @@
 """mutants.py [WORD]: wrong translators, each the translator with one text replaced (with WORD, only those with it in their name). Each has to be found: by MIR that has to be refused
-(refusals.py), by a piece for its guard (guards.py), by the engine's C (refused, warned of, or with another digest), or by random programs (random_mir.py). Where the text is not there, or a wrong translator is not found, this fails.
+(refusals.py), by a piece for its guard (guards.py), by the engine's C (refused, warned of, or with another digest), by random programs (random_mir.py), or by crates in today's forms (forms.py). Where the text is not there, or a wrong translator is not found, this fails.
 """
 import os
 import pathlib
@@ -10,7 +10,7 @@ import tempfile
 
 HERE = pathlib.Path(__file__).resolve().parent
 ROOT = HERE.parent.parent
-MUTANTS = [     # (name, module, text, wrong text)
+MUTANTS = [     # (name, module, text, wrong text, crates of forms/ that show it)
     ('sum for difference', 'expressions', "'Sub': '-'", "'Sub': '+'"),
     ('quotient for remainder', 'expressions', "'Rem': '%'", "'Rem': '/'"),
     ('< for <=', 'expressions', "'Le': '<='", "'Le': '<'"),
@@ -40,7 +40,7 @@ MUTANTS = [     # (name, module, text, wrong text)
     ('leading zeros: one too many', 'program', "return n - (uint32_t)x;", "return n;"),
     ('the size of an element is taken for 8', 'addresses', "self.types.size(t), known)", "8, known)"),
     ('a constant index is one too great', 'addresses', "count[2] // size)", "count[2] // size + 1)"),
-    ('the index is the count of bytes', 'addresses', "            return count[2]\n", "            return count\n"),
+    ('the index is the count of bytes', 'addresses', "            return product[2]\n", "            return count\n"),
     ('an address outlives what it was made from', 'addresses', "if i not in written and not reads(self.f, e) & written}", "if i not in written}"),
     ('an address outlives its local', 'addresses', "if i not in written and not", "if not"),
     ('break for continue', 'statements', "'break;' if s[1] else 'continue;'", "'continue;' if s[1] else 'break;'"),
@@ -69,6 +69,20 @@ MUTANTS = [     # (name, module, text, wrong text)
     ('a copy of what is lent to write', 'copies', "        count[i] += 2\n", "        pass\n"),
     ('a parameter is changed in the caller', 'by_pointer', "and (plain or i in written)}", "and plain}"),
     ('an argument that the call writes to', 'by_pointer', "e[0] == 'load' and not (lending and 'memory' in reads(f, e))", "e[0] == 'load'"),
+    ('written out, a turn too few', 'written_out', "for i in range(*values):", "for i in range(values[0], values[1] - 1):"),
+    ('written out, another number', 'written_out', "('assign', k[1], ('int', 64, i))", "('assign', k[1], ('int', 64, i + 1))"),
+    ('written out, the number stays', 'written_out', "[('assign', k[1], ('int', 64, values[1])), ", "["),
+    ('written out, the test stays true', 'written_out', ", ('assign', test[1], ('bool', 0))]", "]"),
+    ('written out, the test is never true', 'written_out', "('assign', test[1], ('bool', 1))", "('assign', test[1], ('bool', 0))"),
+    ('written out, backwards', 'written_out', "values[1] - values[0] not in range(1, TURNS + 1)", "values[1] - values[0] > TURNS"),
+    ('written out, the number is written', 'written_out', "target(x) in fixed[:2] for x", "target(x) in fixed[1:2] for x"),
+    ('written out, the end is written', 'written_out', "target(x) in fixed[:2] for x", "target(x) in fixed[:1] for x"),
+    ('written out, though it is left', 'written_out', "x[0] in ('loop', 'block', 'exit', 'leave')", "x[0] in ('loop', 'block', 'leave')"),
+    ('written out, whatever ends it', 'written_out', "left != ('if', ('load', test[1]), [], [('exit', 1)])", "left[:3] != ('if', ('load', test[1]), [])"),
+    ('written out, whatever its test', 'written_out', "test[2][:2] != ('op2', 'Lt')", "test[2][0] != 'op2'"),
+    ('written out, whatever its step', 'written_out', "('op2', 'Add', k, ('int', 64, 1), ('int', 64))):", "('op2', 'Add', k) + step[2][3:]):"),
+    ('written out, a number from before a branch', 'written_out', "        if s[0] != 'assign':\n            return None\n", ""),
+    ('written out, a number that is lent', 'written_out', "place[0] != 'var' or f.memory[place[1]] for", "place[0] != 'var' for"),
     ('in place, whatever stands behind', 'in_place', "                if target(s) != ('var', 0) or run[at + 1:at + 2] != [('return',)]:\n                    return False\n", ""),
     ('in place, two locals in one place', 'in_place', "return homes if len(set(homes.values())) == len(homes) else {}", "return homes"),
     ('in place, a part beside the whole', 'in_place', "    if ('var', 0) in homes.values():\n        homes = {i: place for i, place in homes.items() if place == ('var', 0)}\n", ""),
@@ -95,12 +109,56 @@ MUTANTS = [     # (name, module, text, wrong text)
     ('parts of any type', 'typed', "len(of) == len(wanted) and all(map(fits, of, wanted))", "True"),
     ('a repeat is zero', 'statements', "elif e[0] == 'repeat' and self.is_zero(e[1]):", "elif e[0] == 'repeat':"),
     ('half of an array is copied', 'statements', "self.emit('%s(%s, %s, %s);' % (copy, to,", "self.emit('%s(%s, %s, %s / 2);' % (copy, to,"),
-    ('the first field is lost', 'statements', "                if not same:\n                    self.assign(('field', place, k), x)", "                if not same and k:\n                    self.assign(('field', place, k), x)"),
+    ('the first field is lost', 'statements', "                elif not same and not self.types.empty(", "                elif not same and k and not self.types.empty("),
     ('a variant\'s fields begin at the tag', 'expressions', "fields[x[2] - 1]))", "fields[x[2] - 2]))"),
     ('the tag of another variant', 'expressions', "        k = given[0][2]\n", "        k = given[0][2] ^ 1\n"),
     ('the header\'s members in another order', 'header', "            found[path] = member\n", "            found[path] = {'along': 'across', 'across': 'along'}.get(member, member)\n"),
-    ('a kept state is another', 'header', "'%s[%d]' % (n, i), None)", "'%s[%d]' % (n, i ^ 1), None)"),
     ('a slice\'s length is one too great', 'statements', "'%s %s = { %s_ptr, %s_len };'", "'%s %s = { %s_ptr, %s_len + 1 };'"),
+    # Of generic MIR and of what today's forms bring.
+    ('a type for another parameter', 'instantiate', "        return types[v]\n", "        return types[v - 1]\n", 'generics'),
+    ('a dictionary for another bound', 'instantiate', "            return self.dicts[v]\n", "            return self.dicts[0]\n", 'traits'),
+    ('another method of an impl', 'instantiate', "name = methods[v[1]]", "name = methods[0]", 'traits'),
+    ('a method\'s own types before the impl\'s', 'instantiate', "types + [put(t, self.types) for t in own['types']]", "[put(t, self.types) for t in own['types']] + types"),
+    ('an impl\'s dictionaries are lost', 'instantiate', "[self.dictionary(x) for x in v[2]]]}", "[]]}", 'traits'),
+    ('any size of a type', 'instantiate', "'value': self.instances.types.size_of(self.type(v))", "'value': 8", 'slices'),
+    ('another number for a parameter', 'instantiate', "        return t['Const']\n", "        return t['Const'] + 1\n", 'generics'),
+    ('an array\'s length is another', 'instantiate', "{'Lit': types[n['Param']]['Const']}", "{'Lit': types[n['Param']]['Const'] + 1}", 'generics'),
+    ('a struct\'s types change places', 'instantiate', "shape = [self.plain(put(t, arguments))", "shape = [self.plain(put(t, arguments[::-1]))", 'generics'),
+    ('a variant\'s types change places', 'instantiate', "[[self.plain(put(t, arguments)) for t in ts]", "[[self.plain(put(t, arguments[::-1])) for t in ts]", 'more'),
+    ('an instance for all dictionaries', 'instantiate', "(name, types, dicts)) != (name, types, dicts):", "(name, types, dicts))[:2] != (name, types):"),
+    ('any dictionaries', 'instantiate', "        need(len(dicts) == len(g['bounds']),", "        need(True,"),
+    ('an exit leaves one block more', 'mir', "at = len(levels) - 1 - v\n", "at = max(0, len(levels) - 2 - v)\n", 'more'),
+    ('an exit through two loops is a break', 'mir', "if at == loop or at == loop - 1 and", "if at == loop or at <= loop - 1 and", 'newer'),
+    ('every block is a loop\'s', 'mir', "if label.startswith('next')]", "]", 'more'),
+    ('a label stands before its block', 'statements', "        self.body(s[2])\n        self.lines.append('%s%s: ;' % ('    ' * (self.depth - 1), s[1]))\n",
+     "        self.lines.append('%s%s: ;' % ('    ' * (self.depth - 1), s[1]))\n        self.body(s[2])\n", 'more'),
+    ('a constant\'s numbers in another order', 'mir', "for x in v['values']]", "for x in v['values'][::-1]]", 'more'),
+    ('a constant of any variant', 'mir', "need(given and 'Int' in given[0] and given[0]['Int']['value'] < len(wanted),", "need(True,"),
+    ('a constant is true', 'mir', "return ('bool', int(v))", "return ('bool', 1)", 'newer'),
+    ('a constant\'s fields change places', 'expressions', "(n, text) for n, (x, text) in zip(names, given)", "(n, text) for n, (x, text) in zip(names[::-1], given)", 'newer'),
+    ('a constant of the first variant', 'expressions', "return '{ .tag = %s%s }' % (self.tag(t, e[1][0][2]),", "return '{ .tag = %s%s }' % (self.tag(t, 0),", 'newer'),
+    ('a constant as anything', 'typed', "            self.need(e[2] == ('ref', False, of(e[1])), 'a constant as %s' % (e[2],))\n", ""),
+    ('a &mut is copied from behind a &', 'typed', "        if e[0] == 'load' and self.types.lends(t):", "        if False:"),
+    ('a &mut is copied from behind a &, whole', 'typed', "        self.copied(source(s), self.f.type_of(place))\n", ""),
+    ('a &mut is copied from behind a & to a part', 'typed', "        for x, u in zip(given, wanted):\n            self.copied(x, u)\n", ""),
+    ('a &mut is copied from behind a & to a slice', 'typed', "            self.copied(given[0], ('ref',) + t[1:])\n", ""),
+    ('a &mut is copied from behind a & to an array', 'typed', "            self.copied(e[1], e[3][1])\n", ""),
+    ('a &mut is copied from behind a & to a callee', 'typed', "            for x, t in zip(e[2], callee.types[1:]):\n                self.copied(x, t)\n", ""),
+    ('an empty array that is given back is a local', 'mir', "if of[0] == 'array' and of[2] == 0 and self.outlives():", "if False:"),
+    ('what a result refers to ends with the call', 'mir', "return self.refers(self.types[0], 1) or any(", "return any("),
+    ('a raw pointer that is kept is never assigned', 'addresses', "                    out.append(self.variable(self.kept[place[1]], e))\n", "                    self.variable(self.kept[place[1]], e)\n", 'memory'),
+    ('a raw pointer that is kept, and assigned twice', 'addresses', "for s in statements(f.body)) == 1,", "for s in statements(f.body)) >= 1,"),
+    ('a raw pointer that is kept, of an offset', 'addresses', "        need(e[0] == 'addr', '%s: a pointer that is kept', self.f.name)\n", "        e = e[1] if e[0] == 'offset' else e\n"),
+    ('a raw pointer that is kept may always write', 'addresses', "('ref', self.writable(e[1]), self.f.type_of(e[1]))", "('ref', True, self.f.type_of(e[1]))"),
+    ('a raw pointer that is kept may never write', 'addresses', "('ref', self.writable(e[1]), self.f.type_of(e[1]))", "('ref', False, self.f.type_of(e[1]))"),
+    ('what is repeated is made in a literal', 'statements', "if e[0] == 'repeat' and (self.types.in_parts(", "if False and (self.types.in_parts(", 'memory'),
+    ('an array\'s parts all go to its first', 'statements', "self.assign(('index', place, ('int', 64, k), t[1]), x)", "self.assign(('index', place, ('int', 64, 0), t[1]), x)", 'newer'),
+    ('what holds something is left out', 'layout', "and all(map(self.empty, self.fields(t)))", "and any(map(self.empty, self.fields(t)))", 'walks'),
+    ('a struct that holds a &mut lends nothing', 'layout', "or t[0] == 'named' and any(map(self.lends, self.parts(t)))", "or False", 'slices more pairs memory newer'),
+    ('the branch that is taken is left out', 'unreached', "else yes if no is None else no", "else no if no is None else yes", 'more'),
+    ('what is behind a return is never entered', 'unreached', "            return out if left else None\n", "            return None\n", 'more'),
+    ('the last arm that is left, whatever it is, has no test', 'unreached', "rest[0][1] if len(rest) == 1 else", "rest[0][1] if rest else", 'more'),
+    ('what is never reached is the end', 'unreached', "    if s[0] == 'unreachable' or s[0] == 'call' and s[1][1] in never:\n        return None\n", "    if s[0] == 'unreachable' or s[0] == 'call' and s[1][1] in never:\n        return []\n", 'more'),
 ]
 JOBS, PROGRAMS = '25', '40'
 WARNINGS = '-std=c99 -Wall -Wextra -Wpedantic -Wconversion -Wshadow -Wcast-qual -Werror -Iinclude'.split()
@@ -132,15 +190,20 @@ def digest(c, folder):
     return got.stdout.strip().split('\n')[-1] if got.returncode == 0 else 'crash'
 
 
-def passes(translator, *test):
+def passes(translator, *test, seconds=180):
     try:
-        return run(sys.executable, '-B', *test, env=dict(os.environ, TRANSLATOR=str(translator)), timeout=180).returncode == 0
+        return run(sys.executable, '-B', *test, env=dict(os.environ, TRANSLATOR=str(translator), QUICK='yes'), timeout=seconds).returncode == 0
     except subprocess.TimeoutExpired:
         return False
 
 
 def by_random(translator):
     return passes(translator, HERE / 'random_mir.py', PROGRAMS, '1')
+
+
+def by_forms(translator, crates):
+    """The right translator has proved the crates."""
+    return passes(translator, HERE / 'forms.py', '12', '1', ROOT / 'target/forms', *crates, seconds=600)
 
 
 def by_engine(translator, folder, right, want):
@@ -161,9 +224,9 @@ def main():
         right = engine(HERE.parent / 'translator')
         want = digest(right, folder)
         itself = HERE.parent / 'translator'
-        if not (passes(itself, HERE / 'refusals.py') and passes(itself, HERE / 'guards.py') and by_random(itself)):
+        if not (passes(itself, HERE / 'refusals.py') and passes(itself, HERE / 'guards.py') and by_random(itself) and (wanted or passes(itself, HERE / 'forms.py', seconds=3600))):
             sys.exit('mutants: the right translator is found wrong')
-        for name, module, old, new in [m for m in MUTANTS if wanted in m[0]]:
+        for name, module, old, new, *crates in [m for m in MUTANTS if wanted in m[0]]:
             tried += 1
             translator = pathlib.Path(folder) / 'translator'
             shutil.rmtree(str(translator), ignore_errors=True)
@@ -176,6 +239,7 @@ def main():
             how = how or (None if passes(translator, HERE / 'guards.py') else 'a piece for its guard')
             how = how or by_engine(translator, folder, right, want)
             how = how or (None if by_random(translator) else 'random programs')
+            how = how or (None if not crates or by_forms(translator, crates[0].split()) else 'today\'s forms')
             print('%s: %s' % (name, how or 'NOT FOUND'), flush=True)
             missed += [name] if how is None else []
     if missed:

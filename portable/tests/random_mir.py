@@ -32,6 +32,7 @@ def declared(name, shape):
     return {'name': name, 'lifetimes': 0, 'bounds': [], 'type_params': 0, 'const_params': [], 'type_bounds': [], 'owns': False, 'is_cell': False, 'shape': shape, 'is_tuple': False}
 
 
+A_TYPE, A_NUMBER = ({'is_copy': False, 'is_kept': False, 'const_bits': bits} for bits in (None, 64))
 NOT_GENERIC = {'types': [], 'outlives': [], 'bounds': [], 'method_of': None, 'trait_lifetimes': 0, 'impls': []}
 
 

@@ -20,8 +20,7 @@ import sys
 import tempfile
 
 sys.path.insert(0, str(pathlib.Path(__file__).resolve().parent.parent / 'translator'))
-from mir import called  # noqa: E402
-from program import read_crates, reached  # noqa: E402
+from program import read_crates, origins  # noqa: E402
 
 
 class Records:
@@ -65,7 +64,12 @@ def symbol(rlibs, module):
 
 
 def with_symbols(rlibs, body):
-    return [{'Call': [{'Fn': [symbol(rlibs, called(x['Call'])), x['Call'][0]['Fn'][1]]}] + x['Call'][1:]} if isinstance(x, dict) and 'Call' in x else x for x in body]
+    """A method of a bound is named by its place among the bounds, in both."""
+    return [{'Call': [{'Fn': [symbol(rlibs, x['Call'][0]['Fn'][0]), x['Call'][0]['Fn'][1]]}] + x['Call'][1:]} if isinstance(x, dict) and 'Call' in x and 'Fn' in x['Call'][0] else x
+            for x in body]
+
+
+NOTHING = ['Seq', 'Seq', 'Skip', {'Assign': [{'local': 0, 'steps': []}, {'Opd': 'Unit'}]}, 'Return']
 
 
 def theorem(rlibs, name):
@@ -74,21 +78,28 @@ def theorem(rlibs, name):
     of, inner = records_of(rlibs, crate), '/'.join(path)
     read = {part: of.record('proofs/%s/%s' % (inner, part)) for part in ('Code/Mir', 'Code', 'Statement', 'Met', 'Named')}
     key = of.record('specs/contracts/%s/Key' % inner)
-    if not (read['Code/Mir'] and key and key['Key']['symbol'] == name and all(read[part] and read[part][part]['symbol'] == name for part in ('Code', 'Statement', 'Met'))):
+    if not (read['Code/Mir'] and read['Code'] and key and key['Key']['symbol'] == read['Code']['Code']['symbol'] == name):
         return None
     f = read['Code/Mir']['Mir']['function']
-    if f['types'] != (read['Named']['Named']['table'] if read['Named'] else []):
+    # To drop what holds nothing is to do nothing, of which there is no theorem.
+    if not read['Statement'] and f['body'] == NOTHING:
+        return f
+    if not all(read[part] and read[part][part]['symbol'] == name for part in ('Statement', 'Met')):
+        return None
+    # The types that the theorem names: those of the body, and those that it has behind references alone.
+    types = read['Named']['Named']['table'] if read['Named'] else []
+    if f['types'] != [t for t in types if t in f['types']]:
         return None
     module = 'Rattle-%s-proofs.%s' % (crate, '.'.join(path))
     whole = all('%s.%s' % (module, part) in of.checked for part in ('Code.Mir', 'Code', 'Statement', 'Proof', 'Met'))
-    stated = crate == 'core' and all('part/%s.%s' % (module, part) in of.checked for part in ('Code', 'Statement', 'Met'))
-    return dict(f, body=with_symbols(rlibs, f['body'])) if whole or stated else None
+    # Of the toolchain's own functions that are not public it has the code alone; their statements are part of those that call them.
+    stated = crate == 'core' and 'part/%s.Code' % module in of.checked
+    return dict(f, types=types, body=with_symbols(rlibs, f['body'])) if whole or stated else None
 
 
-def untied(functions, crate):
-    """(how many functions a crate's functions reach, the first whose translated body is not the one recorded for its theorem)"""
-    names = reached(functions, functions.of(crate))
-    return len(names), next((n for n in names if theorem(functions.rlibs, n) != functions[n]), None)
+def untied(functions, names):
+    """The first of these functions whose body is not the one recorded for its theorem, or None."""
+    return next((n for n in names if theorem(functions.rlibs, n) != functions[n]), None)
 
 
 # ---- the test of this test
@@ -131,10 +142,10 @@ def main():
     top = words.pop() if words[-2] == '--crate' else 'barrier_engine'
     folders = [pathlib.Path(p) for p in words if p != '--crate']
     functions = read_crates(folders, top)
-    count, wrong = untied(functions, top)
+    names = origins(functions, functions.of(top))
+    wrong = untied(functions, names)
     if wrong:
         sys.exit('tie: %s: the translated body is not the one recorded for its theorem' % wrong)
-    names = set(reached(functions, functions.of(top)))
     own = [rlib for rlib in functions.rlibs.values() if rlib.parent != folders[-1]]
     tried = [rlib for crate, rlib in sorted(functions.rlibs.items()) if rlib in own and crate in functions.sums]
     found = 0
@@ -144,10 +155,10 @@ def main():
             for other in own:
                 if other != rlib:
                     (pathlib.Path(d) / other.name).symlink_to(other.resolve())
-            found += untied(with_read(read_crates([pathlib.Path(d), folders[-1]], top), functions), top)[1] == name
+            found += untied(with_read(read_crates([pathlib.Path(d), folders[-1]], top), functions), names) == name
     if found != len(tried):
         sys.exit('tie: %d of %d changed numbers were not found' % (len(tried) - found, len(tried)))
-    print('tie: the %d translated bodies are those that the toolchain records for their theorems, types and all; %d of %d changes of a number were found' % (count, found, len(tried)))
+    print('tie: the %d translated bodies are those that the toolchain records for their theorems, types and all; %d of %d changes of a number were found' % (len(names), found, len(tried)))
 
 
 if __name__ == '__main__':

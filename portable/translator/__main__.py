@@ -20,7 +20,7 @@ def main():
     parser.add_argument('--header', required=True)
     parser.add_argument('--sources', help='the crates\' sources, for names and comments alone')
     parser.add_argument('--toolchain', default='', help='what rt version prints, for the head')
-    parser.add_argument('--plain', action='store_true', help='without the rules in_place, copies, inline and by_pointer')
+    parser.add_argument('--plain', action='store_true', help='without the rules written_out, in_place, copies, inline and by_pointer')
     args = parser.parse_args()
     header = pathlib.Path(args.header)
     try:

@@ -36,4 +36,4 @@ def may_stand_in_call(f, types, e, t, lending):
     """Whether the expression e, of type t, may be written as an argument."""
     if not by_pointer(types, t, False):
         return True
-    return e[0] == 'agg' and not types.has_array(t) or may_be_pointed_to(f, e, lending) and not is_view(f, types, e[1])
+    return e[0] == 'agg' and not types.in_parts(f, e) or may_be_pointed_to(f, e, lending) and not is_view(f, types, e[1])

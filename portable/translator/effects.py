@@ -16,6 +16,8 @@ def reads(f, x):
         return (of_local(f, root(x[1])) if root(x[1]) is not None else {'memory'}) | address_reads(f, x[1])
     if x[0] == 'addr':
         return address_reads(f, x[1])
+    if x[0] == 'constant':
+        return set()
     found = {'memory'} if x[0] == 'call' else set()
     for y in x[2] if x[0] in ('call',) else x[1] if x[0] == 'agg' else x[1:]:
         if isinstance(y, tuple):
@@ -46,12 +48,13 @@ def may_be_one(f, a, b):
     if root(a) is None and root(b) is None:
         return True
     local, behind = (a, b) if root(a) is not None else (b, a)
-    given = pointer(behind) <= f.params and not any(target(s) is not None and root(target(s)) == pointer(behind) for s in statements(f.body))
+    by = pointer(behind)
+    given = by is not None and by <= f.params and not any(target(s) is not None and root(target(s)) == by for s in statements(f.body))
     return 'memory' in of_place(f, local) and not given
 
 
 def pointer(place):
-    """The local that holds the pointer through which a place is reached."""
+    """The local that holds the pointer through which a place is reached, or None where that pointer is reached through another."""
     while place[0] in ('field', 'variant') or place[0] == 'index' and place[1][0] != 'load':
         place = place[1]
     return root(place[1][1])

@@ -10,7 +10,7 @@ from refused import need
 from views import is_view, viewed
 
 OPERATORS = {'Add': '+', 'Sub': '-', 'Mul': '*', 'Div': '/', 'Rem': '%', 'Shr': '>>', 'Shl': '<<', 'Lt': '<', 'Le': '<=', 'Eq': '==', 'Ne': '!=',
-             'And': '&', 'Or': '|', 'Xor': '^', 'WrapAdd': '+', 'WrapSub': '-', 'FloatAdd': '+', 'FloatSub': '-'}
+             'And': '&', 'Or': '|', 'Xor': '^', 'WrapAdd': '+', 'WrapSub': '-', 'WrapMul': '*', 'FloatAdd': '+', 'FloatSub': '-'}
 OPPOSITE = {'<': '>=', '<=': '>', '==': '!=', '!=': '=='}
 
 
@@ -18,7 +18,7 @@ class Expressions:
     def __init__(self, program, f, names, pointed):
         """names: those of the locals. pointed: the parameters that are pointers to their value."""
         self.program, self.types, self.f, self.names, self.pointed = program, program.types, f, names, pointed
-        self.used = set()
+        self.used, self.constants = set(), []
 
     # ---- places
     def place(self, x):
@@ -75,6 +75,8 @@ class Expressions:
             return self.address(e[1])
         if kind == 'call':
             return self.call(e)
+        if kind == 'constant':
+            return self.constant(e)
         if kind == 'agg':
             return self.literal(e)
         if kind == 'op1':
@@ -87,6 +89,31 @@ class Expressions:
     def float_text(bits):
         x = struct.unpack('<d', bits.to_bytes(8, 'little'))[0]
         return '%d.0' % x if x == int(x) and abs(x) < 1 << 53 and (x or not bits) else x.hex()
+
+    def constant(self, e):
+        """The address of what is made before the program runs, and what nothing writes. C has no array of no elements."""
+        name, t = 'constant%d' % len(self.constants), e[2][2]
+        if t[0] == 'array' and t[2] == 0:
+            t = t[:2] + (1,)
+            value = '{ 0 }'
+        else:
+            value = self.initializer(e[1], t)
+        self.constants.append('static const %s = %s;' % (self.types.declared(t, name), value))
+        return name if t[0] == 'array' else '&' + name
+
+    def initializer(self, e, t):
+        """A value as C has it before the program runs."""
+        if e[0] != 'agg':
+            return self.text(e, True)
+        given = [(x, self.initializer(x, self.f.type_of(x))) for x in e[1]]
+        if t[0] == 'array':
+            return '{ %s }' % ', '.join(text for _, text in given)
+        kind, names = self.types.shapes[t[1]][0], self.types.names[t[1]]
+        if kind == 'Fields':
+            return '{ %s }' % ', '.join('.%s = %s' % (n, text) for n, (x, text) in zip(names, given) if not self.types.empty(self.f.type_of(x)))
+        variant, fields = names[e[1][0][2]]
+        inner = ', '.join('.%s = %s' % (n, text) for n, (x, text) in zip(fields, given[1:]) if not self.types.empty(self.f.type_of(x)))
+        return '{ .tag = %s%s }' % (self.tag(t, e[1][0][2]), ', .as.%s = { %s }' % (variant, inner) if inner else '')
 
     def op1(self, e):
         _, name, a, t = e
@@ -129,8 +156,14 @@ class Expressions:
         need(t[0] == 'named' and not self.types.has_array(t), 'a literal of %s', t)
         kind, parts = self.types.shapes[t[1]]
         if kind == 'Fields':
-            return '(%s){ %s }' % (c, ', '.join('.%s = %s' % (n, self.text(x, True)) for n, x in zip(self.types.names[t[1]], given)))
+            return '(%s){ %s }' % (c, self.members(self.types.names[t[1]], given))
         k = given[0][2]
         variant, fields = self.types.names[t[1]][k]
-        inner = ', '.join('.%s = %s' % (n, self.text(x, True)) for n, x in zip(fields, given[1:]))
-        return '(%s){ .tag = %s_%s%s }' % (c, c, variant, ', .as.%s = { %s }' % (variant, inner) if inner else '')
+        inner = self.members(fields, given[1:])
+        return '(%s){ .tag = %s%s }' % (c, self.tag(t, k), ', .as.%s = { %s }' % (variant, inner) if inner else '')
+
+    def tag(self, t, k):
+        return '%s_%s' % (self.types.c(t), self.types.names[t[1]][k][0])
+
+    def members(self, names, given):
+        return ', '.join('.%s = %s' % (n, self.text(x, True)) for n, x in zip(names, given) if not self.types.empty(self.f.type_of(x)))

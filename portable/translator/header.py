@@ -83,23 +83,20 @@ class Header:
         types.header[t[1]] = c
 
     def leaves(self, types, t, c):
-        """{path of field numbers in the MIR's struct: the header's member}, in one order. A short array of the header may be fields of the MIR's."""
-        rest = []
-        for mc, n, count in self.structs[c]:
-            rest += [(mc, '%s[%d]' % (n, i), None) for i in range(count)] if count and count <= 16 else [(mc, n, count)]
-        found = {}
+        """{path of field numbers in the MIR's struct: the header's member}, in one order. An array of structs of the header may be fields of the MIR's."""
+        rest, found = list(self.structs[c]), {}
 
         def walk(field, path, name):
             need(rest, '%s has more than %s', t[1], c)
             mc, member, n = rest[0]
-            if field[0] == 'named' and (mc not in self.structs or n is not None):
+            if field[0] == 'named' and mc not in self.structs:
                 need(types.fields(field) is not None, '%s has no place for %s', c, field)
                 for k, inner in enumerate(types.fields(field)):
                     walk(inner, path + (k,), types.names[field[1]][k])
                 return
             need((n is None) == (field[0] != 'array') and (n is None or n == field[2]), '%s has no place for %s', c, field)
             self.match(types, field[1] if n is not None else field, mc)
-            self.match_name(c, re.sub(r'\[(\d+)\]', r'\1', member), name)       # kept[3] is the field kept3
+            self.match_name(c, member, name)
             found[path] = member
             rest.pop(0)
         for k, field in enumerate(types.fields(t)):

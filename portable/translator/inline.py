@@ -42,7 +42,7 @@ class Inline:
     def __init__(self, f, types, keeps):
         """keeps: locals that stay variables. So do results of arithmetic in u8 and u16, which C does as int: compilers warn of longer ones."""
         self.f, self.types = f, types
-        keeps = keeps | {s[1][1] for s in statements(f.body) if s[0] == 'assign' and s[1][0] == 'var' and s[2][0] == 'op2' and s[2][4] in (('int', 8), ('int', 16))}
+        keeps = keeps | {s[1][1] for s in statements(f.body) if s[0] == 'assign' and s[1][0] == 'var' and (s[2][0] == 'op2' and s[2][4] in (('int', 8), ('int', 16)) or s[2][0] == 'constant')}
         self.once = [ok and i not in keeps and not f.memory[i] for i, ok in enumerate(read_once(f))]
 
     def run(self, body):
@@ -125,7 +125,7 @@ class Inline:
     def leave(self, pending, out):
         t = self.f.types[0]
         e = pending.pop(0, None)
-        if e is not None and (t[0] == 'array' or self.types.has_array(t) and e[0] in ('agg', 'repeat')):
+        if e is not None and (t[0] == 'array' or self.types.in_parts(self.f, e)):
             out.append(('assign', ('var', 0), e))
             e = None
         return ('return', e) if e is not None else ('return',)

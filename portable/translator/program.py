@@ -10,13 +10,16 @@ from copies import without_copies
 from header import Header
 from in_place import in_place
 from inline import inlined
-from layout import Types, c_word
-from mir import Function, called, statements
+from instantiate import Instances
+from layout import Types
+from mir import Function, called, parts, statements
 from refused import Refused, need
 from statements import Writer
 from typed import typed
+from unreached import without_unreached
 from unread import without_unread
 from views import Views
+from written_out import written_out
 
 LIMITS = '''#include <float.h>
 #include <limits.h>
@@ -43,6 +46,17 @@ static uint32_t leading_zeros_64(uint64_t x)
     if (x >> 1) { n -= 1; x >>= 1; }
     return n - (uint32_t)x;
 }
+'''.split('\n')
+
+
+# What the sources' hints are in C. Without one a function is `inline` all the same: it is often smaller than the call, and gcc -O2 else takes only the smallest.
+INLINE = '''#ifdef __GNUC__
+#define COMPILED_IN inline __attribute__((always_inline))
+#define COMPILED_APART __attribute__((noinline))
+#else
+#define COMPILED_IN inline
+#define COMPILED_APART
+#endif
 '''.split('\n')
 
 
@@ -114,6 +128,12 @@ def reached(functions, starts):
     return order
 
 
+def origins(functions, starts):
+    """The functions of the MIR that these reach, at whatever types and dictionaries."""
+    instances = Instances(functions, Types())
+    return list(dict.fromkeys(instances.origin(name) for name in reached(instances, starts)))
+
+
 class Program:
     def __init__(self, functions, exports, header_text=None, sources=None, plain=False):
         """functions: name -> MIR. exports: name -> its name in C; with a header these are its calls, and stand in its order."""
@@ -121,47 +141,59 @@ class Program:
         if header:
             exports = header.ordered(exports)
         self.types, self.plain, self.exports, self.uses_leading_zeros = Types(), plain, exports, False
-        self.order = reached(functions, exports)
-        self.functions = {}
-        for name in self.order:
-            for row in functions[name]['types']:
-                self.types.declare(row)
-            self.functions[name] = Function(name, functions[name], self.types.shapes)
+        self.instances = Instances(functions, self.types)
+        self.order = reached(self.instances, exports)
+        self.functions = {name: Function(name, self.instances[name], self.types.shapes) for name in self.order}
         self.sources = names.read_sources(sources, self.types) if sources else {}
         names.complete(self.types)
+        self.c_names = names.in_c(self)
         self.views = Views(self.types)
         if header:
             header.match_calls(self.types, self.functions, exports, self.sources)
-        need(len(set(map(self.c_name, self.order))) == len(self.order), 'two functions have one name in C')
-        need(all(c_word(self.c_name(name)) for name in self.order), 'a function has no name in C')
 
     def c_name(self, name):
-        return self.exports.get(name) or name.replace('::', '_')
+        return self.c_names[name]
 
-    def passes(self, f, keeps):
-        """The rules, in their order. f is changed. keeps: the locals that carry a name of the source and stay variables."""
-        with_places(f, self.types)
-        typed(f, self.types, self.functions)
-        without_unread(f, self.types)
-        if self.plain:
-            return
+    def source(self, name):
+        return self.sources.get(self.instances.origin(name), ('', [], [], ''))
+
+    def translated(self):
+        """name -> the function behind the rules, in their order, and what its locals are called. What nothing calls any more is left out."""
+        made, never = {}, set()
+        for name in self.order:
+            f = copy.copy(self.functions[name])
+            f.types, f.memory = list(f.types), list(f.memory)
+            made[name] = f, names.of_locals(f, self.source(name))
+            with_places(f, self.types)
+            names.of_new_locals(f, made[name][1][0])
+            typed(f, self.types, self.functions)
+            without_unreached(f, never)
+            without_unread(f, self.types)
+        need(not never & set(self.exports), 'a call that is never reached')
+        for f, (_, count) in made.values() if not self.plain else ():
+            self.rules(f, {i for i in range(1, count) if f.types[i] == 'bool' or f.types[i][0] in ('int', 'float')})
+        calls = {name: {x[1] for s in statements(f.body) for e in s if isinstance(e, tuple) for x in parts(e) if x[0] == 'call'} for name, (f, _) in made.items()}
+        called, todo = set(), list(self.exports)
+        while todo:
+            name = todo.pop()
+            if name not in called:
+                called.add(name)
+                todo += calls[name]
+        return {name: f for name, f in made.items() if name in called}
+
+    def rules(self, f, keeps):
+        """keeps: the locals that carry a name of the source and stay variables."""
+        written_out(f)
         in_place(f, self.types)
         without_copies(f, self.types)
         without_unread(f, self.types)
         inlined(f, self.types, keeps)
 
-    def function(self, name):
-        f, source = copy.copy(self.functions[name]), self.sources.get(name, ('', [], []))
-        f.types, f.memory = list(f.types), list(f.memory)
-        local, count = names.of_locals(f, source)
-        self.passes(f, {i for i in range(1, count) if f.types[i] == 'bool' or f.types[i][0] in ('int', 'float')})
-        return Writer(self, f, local, source[0], name in self.exports).write()
-
     def write(self, head, include):
-        bodies = [self.function(name) for name in self.order]
+        bodies = [Writer(self, f, local, *self.source(name)[::3], name in self.exports).write() for name, (f, (local, _)) in self.translated().items()]
+        bodies = [line for lines in list(self.views.made.values()) + bodies for line in lines]
         out = head + LIMITS + ['#include <stddef.h>', '#include <stdint.h>', '#include <string.h>', ''] + (['#include "%s"' % include, ''] if include else [])
-        out += self.types.definitions([t for name in self.order for t in self.functions[name].types])
+        out += INLINE
+        out += self.types.definitions([t for name in self.order for t in self.functions[name].types], '\n'.join(bodies))
         out += LEADING_ZEROS if self.uses_leading_zeros else []
-        for lines in list(self.views.made.values()) + bodies:
-            out += lines
-        return '\n'.join(out)
+        return '\n'.join(out + bodies)

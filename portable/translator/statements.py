@@ -5,19 +5,21 @@ import textwrap
 from by_pointer import by_pointer, may_be_pointed_to, owned
 from effects import address_reads, lends, may_be_one, of_place, reads
 from expressions import Expressions
-from mir import root
+from mir import parts, root
 from refused import need
 from views import is_view, viewed
 
 WIDTH = 132
+HINTS = {'always': 'static COMPILED_IN ', 'never': 'static COMPILED_APART ', '': 'static inline '}
 
 
 class Writer(Expressions):
-    def __init__(self, program, f, names, comment, exported):
+    def __init__(self, program, f, names, comment, hint, exported):
         self.owned = owned(f, program.types, program.plain)
         pointed = {i for i in range(1, f.params + 1) if by_pointer(program.types, f.types[i], program.plain) and not exported} - self.owned
         super().__init__(program, f, names, pointed)
         self.comment, self.exported, self.lines, self.depth = comment, exported, [], 1
+        self.hint = HINTS[hint]
 
     def emit(self, text):
         self.lines += textwrap.wrap(text, WIDTH, initial_indent='    ' * self.depth, subsequent_indent='    ' * (self.depth + 1),
@@ -28,8 +30,10 @@ class Writer(Expressions):
         """result: where a callee puts an array that it returns."""
         _, name, given, _ = e
         callee = self.program.functions[name]
+        need(name not in self.program.exports or not any(t[0] == 'slice' or by_pointer(self.types, t, self.program.plain) for t in callee.types[1:callee.params + 1]),
+             '%s: a call from outside that is called from inside', name)
         lending = lends(self.f, self.types, e)
-        texts = [self.argument(x, t, lending) for x, t in zip(given, callee.types[1:])]
+        texts = [self.argument(x, t, lending) for x, t in zip(given, callee.types[1:]) if not self.types.empty(t)]
         return '%s(%s)' % (self.program.c_name(name), ', '.join(([result] if result else []) + texts))
 
     def argument(self, e, t, lending):
@@ -46,7 +50,7 @@ class Writer(Expressions):
 
     # ---- assignment
     def assign(self, place, e):
-        """C has no array values: an array, and a struct that is made with one, is written part by part."""
+        """C has no array values: an array, and what is made with one, is written part by part."""
         t = self.f.type_of(place)
         if e == ('load', place):
             return
@@ -59,15 +63,20 @@ class Writer(Expressions):
             pointer, name, path = viewed(self.f, self.types, place)
             self.emit('%s(%s, %s);' % (self.program.views.name('store', name, path, t), self.text(pointer), self.address(e[1])))
             return
-        if t[0] == 'array' or self.types.has_array(t) and e[0] == 'agg':
+        if t[0] == 'array' or self.types.in_parts(self.f, e):
             self.assign_parts(place, t, e)
         else:
             self.emit('%s = %s;' % (self.place(place), self.text(e, True)))
 
     def assign_parts(self, place, t, e):
         """No part may read what an earlier part has written, nor may the place's address: such a value is made beside it first."""
+        if e[0] == 'repeat' and (self.types.in_parts(self.f, e[1]) and not self.is_zero(e[1]) or any(x[0] == 'call' for x in parts(e[1]))):      # it is made once
+            beside = self.beside(t[1])
+            self.assign(beside, e[1])
+            e = ('repeat', ('load', beside)) + e[2:]
         given = e[1] if e[0] == 'agg' else e[1:2] if e[0] == 'repeat' else (e,) if e[0] == 'call' else ()
-        kept = [x == ('load', ('field', place, k)) for k, x in enumerate(given)]
+        inside = place if t[0] != 'named' or self.types.fields(t) else ('variant', place, given[0][2])
+        kept = [x == ('load', ('field', inside, k)) for k, x in enumerate(given)]
         moved = e[0] != 'load' and address_reads(self.f, place) & of_place(self.f, place)
         if moved or any(reads(self.f, x) & of_place(self.f, place) for x, same in zip(given, kept) if not same):
             beside = self.beside(t)
@@ -76,8 +85,10 @@ class Writer(Expressions):
             return
         if t[0] != 'array':
             for k, (x, same) in enumerate(zip(given, kept)):
-                if not same:
-                    self.assign(('field', place, k), x)
+                if inside != place and k == 0:
+                    self.emit('%s = %s;' % (self.place(('field', inside, 0)), self.tag(t, x[2])))
+                elif not same and not self.types.empty(self.f.type_of(x)):
+                    self.assign(('field', inside, k), x)
             return
         to, size = self.place(place), 'sizeof(%s[%d])' % (self.types.c(t[1]), t[2])
         if e[0] == 'load':
@@ -91,7 +102,10 @@ class Writer(Expressions):
             self.emit('    %s[each] = %s;' % (to, self.text(e[1], True)))
         elif e[0] == 'agg':
             for k, x in enumerate(given):
-                self.emit('%s[%d] = %s;' % (to, k, self.text(x, True)))
+                if self.types.in_parts(self.f, x):
+                    self.assign(('index', place, ('int', 64, k), t[1]), x)
+                else:
+                    self.emit('%s[%d] = %s;' % (to, k, self.text(x, True)))
         else:
             need(e[0] == 'call', 'an array from %s', e[0])
             self.emit(self.call(e, to) + ';')
@@ -129,9 +143,16 @@ class Writer(Expressions):
     def exit_statement(self, s):
         self.emit('break;' if s[1] else 'continue;')
 
+    def leave_statement(self, s):
+        self.emit('goto %s;' % s[1])
+
+    def block_statement(self, s):
+        self.body(s[2])
+        self.lines.append('%s%s: ;' % ('    ' * (self.depth - 1), s[1]))
+
     def return_statement(self, s):
         t = self.f.types[0]
-        if t == 'unit' or t[0] == 'array':
+        if self.types.empty(t) or t[0] == 'array':
             self.emit('return;')
         else:
             self.emit('return %s;' % (self.text(s[1], True) if len(s) > 1 else self.place(('var', 0))))
@@ -162,7 +183,7 @@ class Writer(Expressions):
              '%s: a switch that lacks a number', self.f.name)
 
         def key(k):
-            return '%s_%s' % (self.types.c(enum), self.types.names[enum[1]][k][0]) if tag else '%du' % k
+            return self.tag(enum, k) if tag else '%du' % k
         subject = self.place(e[1])
         every = list(arms) + ([(None, default)] if default is not None else [])
         for n, (keys, body) in enumerate(every):
@@ -190,23 +211,27 @@ class Writer(Expressions):
         return '%s && %s' % (self.text(body[0][1]), second if '&&' in second else self.text(body[0][2][0][1])) if second else None
 
     # ---- the whole function
+    def given(self):
+        """The parameters that C has."""
+        return [i for i in range(1, self.f.params + 1) if not self.types.empty(self.f.types[i])]
+
     def parameters(self):
         rows, entry = [], []
         need(not self.exported or not any(t[0] == 'array' for t in self.f.types[:self.f.params + 1]), '%s: an array by value at a call from outside', self.f.name)
-        for i in range(1, self.f.params + 1):
+        for i in self.given():
             t, name = self.f.types[i], self.names[i]
             if self.exported and t[0] == 'slice':
                 rows += [self.types.declared(('ref', t[1], t[2]), name + '_ptr'), 'size_t %s_len' % name]
                 entry.append('%s %s = { %s_ptr, %s_len };' % (self.types.c(t), name, name, name))
             elif i in self.pointed or i in self.owned and not self.exported:
                 incoming = name + '_in' if i in self.owned else name
-                rows.append('const %s *%s' % (self.types.c(t[1] if t[0] == 'array' else t), incoming))
+                rows.append(self.types.declared(('ref', False, t), incoming))
                 if i in self.owned:
                     entry.append('%s;' % self.types.declared(t, name))
                     entry.append('memcpy(%s, %s, sizeof %s);' % (name, incoming, name) if t[0] == 'array' else '%s = *%s;' % (name, incoming))
             else:
                 rows.append(self.types.declared(t, name))
-        made = {re.search(r'\w+$', row).group() for row in rows} - set(self.names[1:1 + self.f.params])
+        made = {re.search(r'\w+$', row).group() for row in rows} - {self.names[i] for i in self.given()}
         need(not made & set(self.names), '%s: two variables have one name', self.f.name)
         return rows, entry
 
@@ -219,10 +244,11 @@ class Writer(Expressions):
         if t[0] == 'array':
             rows.insert(0, '%s *result' % self.types.c(t[1]))
         text = '\n'.join(self.lines + entry)
-        unused = [n for n in self.names[1:1 + f.params] if not re.search(r'\b%s\b' % n, text)]
+        unused = [self.names[i] for i in self.given() if not re.search(r'\b%s\b' % self.names[i], text)]
         variables = [i for i in sorted(self.used) if i > f.params or i == 0 and t[0] != 'array']
-        head = '%s%s %s(%s)' % ('' if self.exported else 'static ', 'void' if t[0] == 'array' else self.types.c(t), self.program.c_name(f.name), ', '.join(rows) or 'void')
+        head = '%s%s(%s)' % ('' if self.exported else self.hint, self.types.declared('unit' if t[0] == 'array' or self.types.empty(t) else t, self.program.c_name(f.name)), ', '.join(rows) or 'void')
         comment = textwrap.wrap('/* %s%s */' % (f.name, ': ' + self.comment if self.comment else ''), WIDTH, subsequent_indent='   ', break_long_words=False, break_on_hyphens=False)
         head = textwrap.wrap(head, WIDTH, subsequent_indent='    ', break_long_words=False)
-        return comment + head + ['{'] + ['    ' + x for x in entry] + ['    %s;' % self.types.declared(f.types[i], self.names[i]) for i in variables] + \
+        constants = [line for x in self.constants for line in textwrap.wrap(x, WIDTH, initial_indent='    ', subsequent_indent='        ', break_long_words=False)]
+        return comment + head + ['{'] + constants + ['    ' + x for x in entry] + ['    %s;' % self.types.declared(f.types[i], self.names[i]) for i in variables] + \
             ['    (void)%s;' % n for n in unused] + self.lines + ['}', '']

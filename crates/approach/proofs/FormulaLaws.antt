@@ -1,8 +1,10 @@
 -- The formula: the least whole number not below its quotient; with flare it is a weighted mean of the length without flare and of T.
 -- Assumes nothing.
+use Rattle.std.specs.Int.{div_ceil}
+use Rattle.std.proofs.lemmas.Grind.{div_ceil_times}
 use Prim.Native.Nat.{ℕ, suc, ◌+◌, ◌-◌, ◌*◌, ◌≤◌, ◌<◌}
 use native.Mathlib.Omega.{arith}
-use native.Mathlib.Nat.{lt-div-mul-add, div-lt_iff_lt-mul, mul-le-mul_left, mul-le-mul_right, lt_of_not-le}
+use native.Mathlib.Nat.{lt-div-mul-add, div-lt_iff_lt-mul, mul-le-mul_left, mul-le-mul_right, lt_of_not-le, lt_of_mul-lt-mul_right}
 use native.Mathlib.Decide.{dec_le}
 use mathlib.Core.Path.{◌≡◌, ap, ◌∙◌}
 use mathlib.Core.Logic.{◌↔◌}
@@ -20,6 +22,12 @@ ceil_least x y n h l = let a = (div-lt_iff_lt-mul {k = y} {x = x + (y - 1)} {y =
 
 pub ceil_exactly : (x y n : ℕ) → 0 < y → (ceil_div x y ≤ n) ↔ (x ≤ n * y)
 ceil_exactly x y n h = (λ l. omega (arith, ceil_covers x y h, mul-le-mul_right y l), ceil_least x y n h)
+
+-- The quotient, and one more where there is a rest.
+pub ceil_same : (x y : ℕ) → 0 < y → div_ceil x y ≡ ceil_div x y
+ceil_same x y h =
+    let t = div_ceil_times x y h in
+    omega (arith, ceil_least x y (div_ceil x y) h t.0, lt_of_mul-lt-mul_right y (let e : div_ceil x y * y < (ceil_div x y + 1) * y = omega (arith, t.1, ceil_covers x y h) in e))
 
 -- The formula.
 -- With no division: the numbers n from its length on are those with L × (a × R + b × T − a × m) ≤ n × (b × L + a × R).

@@ -9,7 +9,7 @@ use mathlib.Core.List.{List, [], ◌∷◌, ◌++◌}
 use lib.ListN.{length, get_or}
 use borrow.Author.Tests.{le-leb}
 use Rattle.base.specs.Answer.{accepted}
-use Rattle.base.proofs.TestLaws.{and_intro}
+use Rattle.std.proofs.lemmas.Bool.{and_from}
 use Rattle.base.proofs.ListLaws.{cons_each}
 use Rattle.job.specs.declared.Header.{Header}
 use Rattle.job.specs.declared.Hazard.{Hazard}
@@ -45,13 +45,13 @@ ranges_wider a b wider got [] e = refl
 ranges_wider a b wider got (x ∷ xs) e =
     let here = ranges_cons a got x xs e in
     let c = wider got in
-    and_intro (and_intro (le-leb (b got).low x (omega (arith, within_low (a got) x here.0, c.0)))
+    and_from _ _ (and_from _ _ (le-leb (b got).low x (omega (arith, within_low (a got) x here.0, c.0)))
     (le-leb x (b got).high (omega (arith, within_high (a got) x here.0, c.1))))
     (ranges_wider a b wider (got ++ x ∷ []) xs here.1)
 
 header_fits : (h : Header) → HeaderBefore h → HeaderFits h
 unfolding header_in_range
-header_fits h b = and_intro (ranges_wider next_before next_in_header header_contains [] (header_numbers h) b.numbers) b.panel
+header_fits h b = and_from _ _ (ranges_wider next_before next_in_header header_contains [] (header_numbers h) b.numbers) b.panel
 
 -- The road ended by 2,000,000,000.
 pub road_before : (h : Header) → HeaderBefore h → h.end ≤ 2000000000

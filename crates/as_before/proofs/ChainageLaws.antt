@@ -12,7 +12,7 @@ use lib.ListN.{length, length-append}
 use lib.Dec.{leb, ltb}
 use borrow.Author.Tests.{le-leb, lt-leb, leb-true, lt-ltb, le-ltb, ltb-true}
 use Rattle.base.specs.Answer.{accepted}
-use Rattle.base.proofs.TestLaws.{and_intro}
+use Rattle.std.proofs.lemmas.Bool.{and_from}
 use Rattle.number.specs.Number.{write_in, write_number}
 use Rattle.number.proofs.WriteLaws.{write_five}
 use Rattle.job.specs.Job.{Job, made_from}
@@ -77,7 +77,7 @@ jobs_before_11 s j b =
       replies = record {
         plans = job_planned s j is road;
         levels = λ side t. rw is;
-        corners = λ index x y h k. rw (and_intro (le-leb x sheet_top (omega arith)) (le-leb y sheet_top (omega arith)), is);
+        corners = λ index x y h k. rw (and_from _ _ (le-leb x sheet_top (omega arith)) (le-leb y sheet_top (omega arith)), is);
         off_sheet = λ index x y h. rw (off x y h);
         offsets = λ index longest. rw is;
         opens = opening_accepted s j is;

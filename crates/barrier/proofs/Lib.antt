@@ -1,1 +1,2 @@
+mod KnownLaws
 pub mod ProgramLaws

@@ -3,7 +3,6 @@
 use mathlib.Core.Path.{◌≡◌, refl}
 use Rattle.base.specs.Answer.{Answer, accepted, refused, ◌>>=◌}
 use Rattle.base.specs.Stored.{accepted_or}
-use Rattle.base.proofs.TestLaws.{impossible}
 
 -- Of an answer with a second part that was accepted, both parts were.
 pub record Bound {A B : Type 0} (m : Answer A) (f : A → Answer B) (b : B) : Type 0 where
@@ -13,7 +12,7 @@ pub record Bound {A B : Type 0} (m : Answer A) (f : A → Answer B) (b : B) : Ty
 
 pub bound : {A B : Type 0} (m : Answer A) (f : A → Answer B) (b : B) → m >>= f ≡ accepted b → Bound m f b
 bound (accepted a) f b e = record { first = a; taken = refl; rest = e }
-bound (refused k v) f b e = impossible cc
+bound (refused k v) f b e = cc
 
 -- What follows an answer, and what follows that.
 pub bind_assoc : {A B C : Type 0} (m : Answer A) (f : A → Answer B) (g : B → Answer C) → (m >>= f) >>= g ≡ (m >>= λ a. f a >>= g)

@@ -1,53 +1,14 @@
 -- Tests as facts: `&&`, `||`, `some_of` and `filter`.
 -- Assumes nothing.
 use Rattle.std.specs.Prelude.{if◌then◌else◌}
-use Prim.Native.Nat.{ℕ}
-use native.Mathlib.Omega.{arith}
-use mathlib.Core.Path.{◌≡◌, refl, sym, subst, ap, ◌∙◌}
+use mathlib.Core.Path.{◌≡◌, refl, sym, subst, ap}
 use mathlib.Core.Logic.{◌⊎◌, inl, inr}
-use mathlib.Core.Bool.{Bool, true, false, ◌&&◌, ◌||◌, not, false≢true}
+use mathlib.Core.Bool.{Bool, true, false, ◌&&◌, not, false≢true}
 use borrow.Author.Tests.{not-true}
 use mathlib.Core.List.Memᴰ
 use mathlib.Core.List.{List, [], ◌∷◌, ◌++◌, Memᴰ}
+use Rattle.std.proofs.lemmas.Bool.{or_cases, or_left, or_right}
 use Rattle.base.specs.Choice.{some_of, filter, Passing}
-
--- Facts that contradict each other, of whatever data: `cc` finds 0 ≡ 1 in them.
-pub impossible : {C : Type 0} → ◌≡◌ {A = ℕ} 0 1 → C
-impossible e = absurd (omega arith)
-
-pub and_left : (a b : Bool) → a && b ≡ true → a ≡ true
-and_left true b e = refl
-and_left false b e = e
-
-pub and_right : (a b : Bool) → a && b ≡ true → b ≡ true
-and_right true b e = e
-and_right false b e = absurd (false≢true e)
-
-pub and_intro : {a b : Bool} → a ≡ true → b ≡ true → a && b ≡ true
-and_intro {a} {b} p q = rw (p, q)
-
-pub or_cases : (a b : Bool) → a || b ≡ true → (a ≡ true) ⊎ (b ≡ true)
-or_cases true b e = inl refl
-or_cases false b e = inr e
-
-pub or_left : {a : Bool} (b : Bool) → a ≡ true → a || b ≡ true
-or_left b p = rw p
-
-pub or_right : (a : Bool) {b : Bool} → b ≡ true → a || b ≡ true
-or_right true p = refl
-or_right false p = p
-
-pub or_false : (a b : Bool) → a || b ≡ false → (a ≡ false) × (b ≡ false)
-or_false true b e = absurd (false≢true (sym e))
-or_false false b e = (refl, e)
-
--- a test is true or false
-pub decided : (b : Bool) → (b ≡ true) ⊎ (b ≡ false)
-decided true = inl refl
-decided false = inr refl
-
-pub not_both : {b : Bool} → b ≡ true → b ≡ false → ⊥
-not_both p q = false≢true (sym q ∙ p)
 
 -- two tests that pass together
 pub same_test : (a b : Bool) → (a ≡ true → b ≡ true) → (b ≡ true → a ≡ true) → a ≡ b
@@ -76,8 +37,8 @@ module _ {A : Type 0} where
 
   pub any_intro : (p : A → Bool) {x : A} {l : List A} → Memᴰ x l → p x ≡ true → some_of p l ≡ true
   unfolding some_of
-  any_intro p (Memᴰ.head {x = y} {xs = ys} e) h = or_left (some_of p ys) (subst (λ (z : A). p z ≡ true) e h)
-  any_intro p (Memᴰ.tail {x = y} m) h = or_right (p y) (any_intro p m h)
+  any_intro p (Memᴰ.head {x = y} {xs = ys} e) h = or_left _ (some_of p ys) (subst (λ (z : A). p z ≡ true) e h)
+  any_intro p (Memᴰ.tail {x = y} m) h = or_right (p y) _ (any_intro p m h)
 
   pub filter_elim : (p : A → Bool) {x : A} (l : List A) → Memᴰ x (filter p l) → Memᴰ x l × (p x ≡ true)
   unfolding filter

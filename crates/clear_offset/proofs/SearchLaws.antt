@@ -11,7 +11,7 @@ use mathlib.Core.Bool.{Bool, true, false}
 use lib.Dec.{leb}
 use borrow.Author.Tests.{leb-true, le-leb}
 use Rattle.base.specs.Least.{Least}
-use Rattle.base.proofs.TestLaws.{and_left, and_right, and_intro, not_both}
+use Rattle.std.proofs.lemmas.Bool.{and_from, and_parts, both_ways}
 use Rattle.job.specs.declared.Header.{Header}
 use Rattle.job.specs.declared.Hazard.{Hazard}
 use Rattle.clear_offset.specs.Offset.{length_at, Allowed, Smallest, offset, none, least_of, is_allowed, hazard_offset}
@@ -50,7 +50,7 @@ least_says test (suc n) M = go (test M) refl (least_of test n (M + 1)) (least_sa
     later {k} f w = go (ℕ_discrete k M)
       where
         go : Dec (k ≡ M) → Passes test n (M + 1) k
-        go (yes e) = absurd (not_both (ap test (sym e) ∙ w.passed) f)
+        go (yes e) = absurd (both_ways _ f (ap test (sym e) ∙ w.passed))
         go (no e) = record { from = omega (arith, w.from); below = omega (arith, w.below); passed = w.passed }
 
     sooner : {k : ℕ} → Passes test n (M + 1) k → Passes test (suc n) M k
@@ -73,12 +73,12 @@ module _ (h : Header) (z : Hazard) (longest : ℕ) where
       to k w =
           record {
             range = omega (arith, w.below);
-            clear = leb-true _ _ (and_left _ _ w.passed);
-            no_longer = leb-true _ _ (and_right (leb (k + h.deflection) z.near) _ w.passed);
+            clear = leb-true _ _ ((and_parts _ _ w.passed).0);
+            no_longer = leb-true _ _ ((and_parts (leb (k + h.deflection) z.near) _ w.passed).1);
           }
 
       from : (k : ℕ) → Allowed h z longest k → Passes (is_allowed h z longest) 20001 0 k
-      from k w = record { from = omega arith; below = omega (arith, w.range); passed = and_intro (le-leb _ _ w.clear) (le-leb _ _ w.no_longer) }
+      from k w = record { from = omega arith; below = omega (arith, w.range); passed = and_from _ _ (le-leb _ _ w.clear) (le-leb _ _ w.no_longer) }
 
   -- "The smallest M", exactly.
   pub least_exactly : (M : ℕ) → (hazard_offset h z longest ≡ offset M) ↔ Least (Allowed h z longest) M

@@ -1,14 +1,14 @@
 -- The call smallest offset: its complete reply. Document 02, request 10.
 -- Assumes nothing.
-use Rattle.std.specs.Prelude.{ℕ, zero, suc, ◌+◌, ◌≤◌, Bool, ◌&&◌, List, leb, if◌then◌else◌}
+use Rattle.std.specs.Prelude.{ℕ, zero, suc, ◌+◌, ◌≤◌, Bool, ◌&&◌, List, leb, Option, Some, None, Result, if◌then◌else◌}
 use Rattle.base.specs.Answer.{Answer, accepted, ◌>>=◌}
-use Rattle.refusal.specs.Refusal.{refusal}
+use Rattle.refusal.specs.Refusal.{answer_of}
+use Rattle.refusal.specs.declared.Refusal.{Refusal}
 use Rattle.job.specs.declared.Header.{Header}
 use Rattle.job.specs.declared.Hazard.{Hazard}
 use Rattle.job.specs.Job.{with_offset}
 use Rattle.planning.specs.Envelope.{adjacent_traffic, lengthening, accept_job}
 use Rattle.planning.specs.Approached.{approached_hazard}
-use Rattle.clear_offset.specs.declared.reply.Offset.{Offset}
 
 -- The paper's words
 
@@ -52,7 +52,10 @@ smallest_offset s index longest =
     approached_hazard j index >>= λ z.
     accepted (hazard_offset j.header z longest)
 
-abbrev pub offset_reply : Offset → Answer Smallest
-offset_reply (Offset.Smallest M) = accepted (offset M)
-offset_reply Offset.Nothing = accepted none
-offset_reply (Offset.Refused r) = refusal r
+-- What the code returns, in these words.
+abbrev pub given : Option ℕ → Smallest
+given (Some M) = offset M
+given None = none
+
+abbrev pub offset_reply : Result (Option ℕ) Refusal → Answer Smallest
+offset_reply r = answer_of r >>= λ o. accepted (given o)

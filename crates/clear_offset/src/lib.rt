@@ -2,5 +2,4 @@
 #![tactic(auto)]
 
 pub mod offset; // the call
-pub mod reply;
 mod search; // the smallest offset of a hazard, by binary search

@@ -8,7 +8,7 @@ use mathlib.Core.List.{List}
 use lib.Dec.{ltb, leb}
 use borrow.Author.Tests.{ltb-true, lt-leb, le-leb, ltb-false}
 use Rattle.base.specs.Answer.{accepted, refused, ◌>>=◌}
-use Rattle.base.proofs.TestLaws.{or_cases, or_false}
+use Rattle.std.proofs.lemmas.Bool.{or_cases, or_parts}
 use Rattle.job.specs.declared.Header.{Header}
 use Rattle.job.specs.declared.Hazard.{Hazard}
 use Rattle.planning.specs.Envelope.{accept_job}
@@ -24,7 +24,7 @@ module _ (x y : ℕ) where
   off_tested e = ⊎_elim (λ t. inl (ltb-true sheet_top x t)) (λ t. inr (ltb-true sheet_top y t)) (or_cases (ltb sheet_top x) (ltb sheet_top y) e)
 
   pub on_tested : (ltb sheet_top x || ltb sheet_top y) ≡ false → (x ≤ sheet_top) × (y ≤ sheet_top)
-  on_tested e = let w = or_false (ltb sheet_top x) (ltb sheet_top y) e in (ltb-false sheet_top x w.0, ltb-false sheet_top y w.1)
+  on_tested e = let w = or_parts (ltb sheet_top x) (ltb sheet_top y) e in (ltb-false sheet_top x w.0, ltb-false sheet_top y w.1)
 
   module _ (s : List ℕ) (i : ℕ) where
     pub off_sheet : (sheet_top < x) ⊎ (sheet_top < y) → corners_of s i x y ≡ refused 8 0

@@ -9,10 +9,7 @@ use mathlib.Core.Bool.{Bool, true, ◌&&◌}
 use lib.Dec.{ltb}
 use lib.IntN.{pos, nat_abs}
 use borrow.Author.Tests.{ltb-true}
-use Rattle.base.specs.Answer.{accepted}
-use Rattle.refusal.specs.Refusal.{outcome}
-use Rattle.refusal.specs.declared.Outcome.TheVariants.{Done}
-use Rattle.base.proofs.TestLaws.{and_right}
+use Rattle.std.proofs.lemmas.Bool.{and_parts}
 use Rattle.corners.proofs.WholeLaws.{difference_size}
 use Rattle.approach.specs.Approach.{approach_length, Domain}
 use Rattle.approach.specs.Panel.{raised_length}
@@ -25,7 +22,7 @@ use Rattle.planning.proofs.ReachLaws.{reaches_adjacent, reaching_domain, reachin
 use Rattle.corners.specs.declared.points.Lengths.{Lengths}
 use Rattle.corners.specs.declared.reply.Corners.{Corners}
 use Rattle.corners.specs.Corners.{upstream_by, length_before, flare_entered, upstream_offset, Point, point_at, approach_points}
-use Rattle.corners.specs.Reply.{corner_of, corners_replied, corners_reply}
+use Rattle.corners.specs.Reply.{corner_of, corners_as}
 use Rattle.corners.specs.Steps.{LengthsOf}
 
 -- Adjacent traffic that reaches a hazard, which stands clear of the barrier, asks for its lengths with the hazard's own offsets.
@@ -51,11 +48,11 @@ pub raised_past_straight : (h : Header) (z : Hazard) (t : Traffic) → HeaderFit
     → h.straight < lengthening h z t
 unfolding flare_entered length_before
 raised_past_straight h z t hf zf clear reach e =
-    omega (arith, ltb-true h.straight _ (and_right (ltb 0 h.across) _ e), (reaching_raised h z hf zf clear t reach).holds.not_smaller)
+    omega (arith, ltb-true h.straight _ ((and_parts (ltb 0 h.across) _ e).1), (reaching_raised h z hf zf clear t reach).holds.not_smaller)
 
 pub lengths_past_straight : {h : Header} {z : Hazard} {t : Traffic} {l : Lengths} → LengthsOf h z t l
     → (ltb 0 h.across && ltb h.straight l.before) ≡ true → h.straight < l.raised
-lengths_past_straight {h} {l = l} is e = omega (arith, ltb-true h.straight l.before (and_right (ltb 0 h.across) _ e), is.not_smaller)
+lengths_past_straight {h} {l = l} is e = omega (arith, ltb-true h.straight l.before ((and_parts (ltb 0 h.across) _ e).1), is.not_smaller)
 
 -- The numbers of an approach fit.
 
@@ -77,12 +74,11 @@ end_point x y h z t n entered = point_at x y (upstream_by t z n) (if entered the
 -- The reply, by whether the flare is entered.
 module _ (x y : ℕ) (h : Header) (z : Hazard) (t : Traffic) (l : Lengths) (is : LengthsOf h z t l) (entered : Bool)
     (test : (ltb 0 h.across && ltb h.straight l.before) ≡ entered) (r : Corners) where
-  pub approach_reply : r.outcome ≡ Done
-      → r.upstream ≡ corner_of (end_point x y h z t l.raised entered)
+  pub approach_reply : r.upstream ≡ corner_of (end_point x y h z t l.raised entered)
       → r.flare ≡ corner_of (if entered then point_at x y (upstream_by t z h.straight) h.offset else end_point x y h z t l.raised entered)
       → r.hazard ≡ corner_of (point_at x y (upstream_by t z 0) h.offset)
-      → corners_reply r ≡ corners_replied (accepted (approach_points x y h z t))
-  unfolding approach_points upstream_offset flare_entered corners_replied
-  approach_reply done upstream flare hazard =
+      → r ≡ corners_as (approach_points x y h z t)
+  unfolding approach_points upstream_offset flare_entered
+  approach_reply upstream flare hazard =
       let e : (ltb 0 h.across && ltb h.straight (length_before h z t)) ≡ entered = rw is.before at test in
-      rw (e, ← is.raised) (λ i. record { answer = outcome (done i) tt; upstream = upstream i; flare = flare i; hazard = hazard i })
+      rw (e, ← is.raised) (λ i. record { upstream = upstream i; flare = flare i; hazard = hazard i })

@@ -4,7 +4,6 @@ use Rattle.std.specs.Prelude.{pos}
 use Rattle.std.specs.Float.{binary64}
 use Rattle.std.specs.Float.Ieee.{of_int}
 use Rattle.base.specs.Answer.{Answer, accepted, ◌>>=◌}
-use Rattle.refusal.specs.Refusal.{outcome}
 use Rattle.base.specs.Stored.{accepted_or}
 use Rattle.corners.specs.declared.reply.Corner.{Corner}
 use Rattle.corners.specs.declared.reply.Corners.{Corners}
@@ -13,6 +12,13 @@ use Rattle.corners.specs.Corners.{Point, Points}
 -- "Each corner is a pair of floats, station and offset": the whole numbers of a point, as 64-bit floats.
 abbrev pub corner_of : Point → Corner
 corner_of p = record { station = of_int binary64 p.station; offset = of_int binary64 p.offset }
+
+abbrev pub corners_as : Points → Corners
+corners_as p = record { upstream = corner_of p.upstream; flare = corner_of p.flare; hazard = corner_of p.hazard }
+
+-- The corners, or the refusal.
+unfoldable pub corners_answer : Answer Points → Answer Corners
+corners_answer a = a >>= λ p. accepted (corners_as p)
 
 -- Zeros, beside a refusal.
 abbrev pub no_points : Points
@@ -29,6 +35,3 @@ unfoldable pub corners_replied : Answer Points → CornersReplied
 corners_replied a =
     let p = accepted_or no_points a in
     record { answer = a >>= λ _. accepted tt; upstream = corner_of p.upstream; flare = corner_of p.flare; hazard = corner_of p.hazard }
-
-abbrev pub corners_reply : Corners → CornersReplied
-corners_reply r = record { answer = outcome r.outcome tt; upstream = r.upstream; flare = r.flare; hazard = r.hazard }

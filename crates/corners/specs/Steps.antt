@@ -4,7 +4,6 @@ use Rattle.std.specs.Prelude.{ℕ, ◌≤◌, ◌<◌, ◌≡◌}
 use Rattle.job.specs.declared.Header.{Header}
 use Rattle.job.specs.declared.Hazard.{Hazard}
 use Rattle.planning.specs.Envelope.{Traffic, adjacent_traffic, lengthening}
-use Rattle.corners.specs.declared.points.Sheet.{Sheet}
 use Rattle.corners.specs.declared.points.Lengths.{Lengths}
 use Rattle.corners.specs.Corners.{length_before, Points, approach_points, sheet_top}
 
@@ -13,9 +12,9 @@ abbrev pub hazard_corners : (x y : ℕ) → Header → Hazard → Points
 hazard_corners x y h z = approach_points x y h z (adjacent_traffic h z.side)
 
 -- A sheet corner in its range.
-pub record OnSheet (sheet : Sheet) : Type 0 where
-  pub station : sheet.station ≤ sheet_top
-  pub offset : sheet.offset ≤ sheet_top
+pub record OnSheet (station offset : ℕ) : Type 0 where
+  pub station_top : station ≤ sheet_top
+  pub offset_top : offset ≤ sheet_top
 
 -- A hazard and a distance upstream of it whose numbers are far below 2 ^ 53, so that floats have them exactly.
 pub record StationFits (z : Hazard) (distance : ℕ) : Type 0 where

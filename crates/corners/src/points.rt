@@ -1,25 +1,24 @@
 // The corners of an approach: the arithmetic is done in floats and loses nothing.
-ghost use Rattle.std.specs.Prelude.{◌≡◌, true, ◌+◌, ◌≤◌};
+ghost use Rattle.std.specs.Prelude.{◌≡◌, true, ◌≤◌};
 ghost use Rattle.std.specs.Float.{binary64};
 ghost use Rattle.std.specs.Float.Ieee.{of_int};
-ghost use Rattle.base.specs.Answer.{accepted};
-ghost use Rattle.job.specs.Fits.{HeaderFits, HazardFits};
 ghost use Rattle.planning.specs.Envelope.{adjacent, reaches};
 ghost use Rattle.planning.specs.Reply.{traffic_of};
 ghost use Rattle.corners.specs.Corners.{upstream_by, point_at, approach_points};
-ghost use Rattle.corners.specs.Reply.{corner_of, corners_replied, corners_reply};
+ghost use Rattle.corners.specs.Reply.{corner_of, corners_as};
 ghost use Rattle.corners.specs.Steps.{OnSheet, StationFits, LengthsOf};
 
 use super::reply::{Corner, Corners};
-use job::{Hazard, Header};
-use planning::envelope::{Traffic, adjacent_reach, runout_length};
-use refusal::Outcome;
+use job::Hazard;
+use planning::envelope::{Traffic, adjacent_reach, approach_of};
+use planning::tested::Tested;
 
-// The sheet corner.
+// A sheet corner in its range.
 #[derive(Clone, Copy)]
 pub struct Sheet {
     pub station: u64,
     pub offset: u64,
+    ghost on_sheet: { OnSheet station offset },
 }
 
 // The lengths of an approach: before it is raised to panels, and raised.
@@ -30,33 +29,16 @@ pub struct Lengths {
 }
 
 // The lengths of the approach of adjacent traffic that reaches the hazard.
-pub fn approach_lengths(header: Header, hazard: Hazard, traffic: Traffic) -> Lengths
-    requires header_fits { HeaderFits header }
-    requires hazard_fits { HazardFits header hazard }
-    requires stands_clear { header.offset + header.deflection ≤ hazard.near }
-    requires traffic_adjacent { adjacent header hazard.side (traffic_of traffic) ≡ true }
-    requires hazard_reached { reaches header hazard (traffic_of traffic) ≡ true }
-    ensures { LengthsOf header hazard (traffic_of traffic) result }
+pub fn approach_lengths(tested: Tested, traffic: Traffic) -> Lengths
+    requires traffic_adjacent { adjacent tested.header.now tested.hazard.side (traffic_of traffic) ≡ true }
+    requires hazard_reached { reaches tested.header.now tested.hazard (traffic_of traffic) ≡ true }
+    ensures { LengthsOf tested.entry.header.now tested.entry.hazard (traffic_of traffic) result }
 {
-    let runout = runout_length(header, traffic);
-    let reach = adjacent_reach(header, hazard);
-    let before = approach::approach_length(
-        header.along,
-        header.across,
-        header.straight,
-        runout,
-        reach,
-        header.offset,
-    );
-    let raised = approach::raised_length(
-        header.panel,
-        header.along,
-        header.across,
-        header.straight,
-        runout,
-        reach,
-        header.offset,
-    );
+    let header = tested.header;
+    let reach = adjacent_reach(*header, tested.hazard);
+    let approach = approach_of(header, traffic, reach, header.offset);
+    let before = approach.length();
+    let raised = approach.raised_length(header.panel);
     Lengths { before, raised }
 }
 
@@ -75,7 +57,6 @@ fn station_upstream(traffic: Traffic, hazard: Hazard, distance: u64) -> f64
 fn corner_at(traffic: Traffic, hazard: Hazard, distance: u64, offset: u64, sheet: Sheet) -> Corner
     requires station_fits { StationFits hazard distance }
     requires offset_bound { offset ≤ 2120000 }
-    requires on_sheet { OnSheet sheet }
     ensures { result ≡ corner_of (point_at sheet.station sheet.offset (upstream_by (traffic_of traffic) hazard distance) offset) }
 {
     let station = station_upstream(traffic, hazard, distance);
@@ -86,26 +67,18 @@ fn corner_at(traffic: Traffic, hazard: Hazard, distance: u64, offset: u64, sheet
 }
 
 // The three corners of an approach with these lengths.
-pub fn approach_corners(
-    header: Header,
-    hazard: Hazard,
-    traffic: Traffic,
-    lengths: Lengths,
-    sheet: Sheet,
-) -> Corners
-    requires header_fits { HeaderFits header }
-    requires hazard_fits { HazardFits header hazard }
-    requires lengths_of { LengthsOf header hazard (traffic_of traffic) lengths }
-    requires on_sheet { OnSheet sheet }
-    ensures { corners_reply result ≡ corners_replied (accepted (approach_points sheet.station sheet.offset header hazard (traffic_of traffic))) }
+pub fn approach_corners(tested: Tested, traffic: Traffic, lengths: Lengths, sheet: Sheet) -> Corners
+    requires { LengthsOf tested.header.now tested.hazard (traffic_of traffic) lengths }
+    ensures { result ≡ corners_as (approach_points sheet.station sheet.offset tested.entry.header.now tested.entry.hazard (traffic_of traffic)) }
 {
+    let header = tested.header;
+    let hazard = tested.hazard;
     let offset = header.offset;
     let straight = header.straight;
     let end = corner_at(traffic, hazard, 0, offset, sheet);
     if (0 < header.across) & (straight < lengths.before) {
         let away = header.across * (lengths.raised - straight) / header.along;
         return Corners {
-            outcome: Outcome::Done,
             upstream: corner_at(traffic, hazard, lengths.raised, offset + away, sheet),
             flare: corner_at(traffic, hazard, straight, offset, sheet),
             hazard: end,
@@ -113,7 +86,6 @@ pub fn approach_corners(
     }
     let upstream = corner_at(traffic, hazard, lengths.raised, offset, sheet);
     Corners {
-        outcome: Outcome::Done,
         upstream,
         flare: upstream,
         hazard: end,

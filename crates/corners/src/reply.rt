@@ -1,5 +1,6 @@
 // The call's reply.
-use refusal::Outcome;
+ghost use Rattle.std.specs.Prelude.{◌≡◌};
+ghost use Rattle.corners.specs.Reply.{no_points, corners_as};
 
 // Millimetres from the sheet corner, whole numbers all of them.
 #[repr(C)]
@@ -9,12 +10,27 @@ pub struct Corner {
     pub offset: f64,
 }
 
-// The outcome, and beside it the corners where it is Done, else zeros: the upstream end, the flare's beginning, the hazard's end on that
-// side.
+// The upstream end, the flare's beginning, the hazard's end on that side.
 #[derive(Clone, Copy)]
 pub struct Corners {
-    pub outcome: Outcome,
     pub upstream: Corner,
     pub flare: Corner,
     pub hazard: Corner,
+}
+
+impl Corners {
+    // Zeros, for a reply that has no corners.
+    pub fn none() -> Corners
+        ensures { result ≡ corners_as no_points }
+    {
+        let none = Corner {
+            station: 0.0,
+            offset: 0.0,
+        };
+        Corners {
+            upstream: none,
+            flare: none,
+            hazard: none,
+        }
+    }
 }

@@ -18,7 +18,6 @@ use Rattle.schedule.proofs.ScheduleLaws.{schedule_runs}
 use Rattle.demands.proofs.QueryLaws.{schedule_ten, query_eight, query_eleven, query_ten, query_given, not_within, quantity_counts}
 use Rattle.queries.proofs.RangeLaws.{places_count, places_in, places_behind}
 use Rattle.queries.proofs.QuantitiesLaws.{priced, counted, priced_at, all_ranged, quantities_accepted, quantities_argument, quantities_many, quantities_none}
-use Rattle.base.proofs.TestLaws.{impossible}
 use Rattle.demands.specs.Contract.{Given, QuantitiesEight, QuantitiesEleven, QuantitiesTen, QuantitiesGiven, QuantitiesDone, QuantitiesRefused}
 
 module _ (s : List ℕ) (v : ℕ) (l : List ℕ) (b : Bytes s) where
@@ -73,7 +72,7 @@ module _ (s : List ℕ) (v : ℕ) (l : List ℕ) (b : Bytes s) where
           let g = query_given s (λ rs. counted rs v (ranges_of l)) b (leb 1 v && leb v 6 && are_ranges l) few c e in
           subst (λ (x : Counted). Given s v l (quantities_replied (accepted x))) g.4
           (finish ((all_ranged v l).0 g.0) (leb-true (length (ranges_of l)) most_ranges g.1) g.2 g.3)
-      go (refused k n) e h = impossible cc
+      go (refused k n) e h = cc
 
   by_done : ((quantities_replied (quantities s v l)).answer ≡ accepted tt) ↔ (AllRanged v l × (length (ranges_of l) ≤ most_ranges) × IsSchedule s)
   unfolding quantities_replied

@@ -15,7 +15,6 @@ use borrow.Author.Tests.{ltb-true}
 use Rattle.base.specs.Choice.{some_of, filter}
 use Rattle.base.specs.Answer.{Answer, accepted, refused}
 use Rattle.base.specs.Stored.{accepted_or}
-use Rattle.base.proofs.TestLaws.{impossible}
 use Rattle.corners.proofs.WholeLaws.{cast_exact, difference_size}
 use Rattle.number.specs.Number.{write_in, write_number, scan, read_number, number_at}
 use Rattle.approach.specs.Approach.{ceil_div, formula_length, approach_length}
@@ -159,7 +158,7 @@ corners_lie s j i x y p accept e = go (sheet s i x y)
         (approached_lie s j i x y (rw same at a))
 
     go : Sheet s i x y → Lie
-    go (outside q w) = impossible cc
+    go (outside q w) = cc
     go (within k l) =
         let w = told_given (drawn x y) s i p (sym (told_on_sheet s i x y k l) ∙ e) in
         let taken = w.1.job in
@@ -226,7 +225,7 @@ corners_exact s i x y = go (corners_of s i x y) refl (sheet s i x y)
 
     go : (a : Answer Points) → corners_of s i x y ≡ a → Sheet s i x y → CornersExact (corners_replied a) (accepted_or no_points a)
     go (refused n v) e b = record { upstream = zero_exact; flare = zero_exact; hazard = zero_exact }
-    go (accepted p) e (outside q w) = impossible cc
+    go (accepted p) e (outside q w) = cc
     go (accepted p) e (within k l) =
         let (j, a, q) = told_given (drawn x y) s i p (sym (told_on_sheet s i x y k l) ∙ e) in
         subst (λ (r : Points). CornersExact (corners_replied (accepted r)) r) q

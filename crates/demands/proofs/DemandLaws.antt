@@ -46,7 +46,6 @@ use Rattle.planning.proofs.RoadLaws.{level_off_road}
 use Rattle.demands.specs.Demands.{CoversHazards, NoShortGapOnRoad, LeastCovering, Demand2, Demand1, ShowsLevel, Demand2Lookup, Demand3Writing}
 use Rattle.demands.specs.Demands.{Demand3Planned, Demand3Equal, Demand3OffRoad, Alike, Demand3Growth, RisingStations, last_of, lots_total}
 use Rattle.demands.specs.Demands.{Demand3Quantities, PlannedJob, PlanAccepted}
-use Rattle.base.proofs.TestLaws.{impossible}
 
 pub demand3_planned : Demand3Planned
 demand3_planned s j side a h = planned_writing s j side a h
@@ -219,7 +218,7 @@ demand1 s side out = record { planned = written (plan s side (length out)); refu
     written : (a : Answer PlannedSide) (w : List ℕ) → (a >>= λ p. accepted p.schedule) ≡ accepted w
         → (take (length w) (output_after a out) ≡ w) × (drop (length w) (output_after a out) ≡ drop (length w) out)
     written (accepted p) w e = let same : p.schedule ≡ w = cc in rw same (take-append_seam w (drop (length w) out), drop-append_seam w (drop (length w) out))
-    written (refused k v) w e = impossible cc
+    written (refused k v) w e = cc
 
 pub demand2_lookup : Demand2Lookup
 demand2_lookup s j side right left a h p t =

@@ -9,7 +9,6 @@ use mathlib.Core.Bool.{Bool, true, false}
 use mathlib.Core.List.{List}
 use lib.ListN.{length}
 use Rattle.base.specs.Answer.{Answer, accepted, refused, ◌>>=◌}
-use Rattle.base.proofs.TestLaws.{impossible}
 use Rattle.job.specs.declared.Hazard.{Hazard}
 use Rattle.job.specs.Job.{Job}
 use Rattle.planning.specs.Envelope.{accept_job}
@@ -56,8 +55,8 @@ module _ {A : Type 0} (tell : Job → Hazard → A) (s : List ℕ) (i : ℕ) whe
   told_given a e = go hazard_verdict
     where
       go : HazardVerdict → (j : Job) × Approached s j i × (tell j (hazard_at j i) ≡ a)
-      go (unaccepted k v p l q) = impossible cc
-      go (unapproached n q) = impossible cc
+      go (unaccepted k v p l q) = cc
+      go (unapproached n q) = cc
       go (approached_so j w q) = (j, w, cc)
 
   -- "14, no such hazard or adjacent traffic doesn't reach it": exactly then, of an accepted job.
@@ -67,7 +66,7 @@ module _ {A : Type 0} (tell : Job → Hazard → A) (s : List ℕ) (i : ℕ) whe
       to : told ≡ refused 14 v → HazardVerdict → (v ≡ 0) × NoApproach s i
       to e (unaccepted k w p l q) = absurd (let z : k ≡ 14 = cc in omega arith)
       to e (unapproached n q) = ((cc), n)
-      to e (approached_so j a q) = impossible cc
+      to e (approached_so j a q) = cc
 
   -- "Refusals are plan's without 9; then 14": number and value, on either side of plan and whatever the room of its output is.
   pub told_refusals : (side room k v : ℕ) → side ≤ 1 → ((told ≡ refused k v) × (k ≢ 14)) ↔ ((plan s side room ≡ refused k v) × (k ≢ 9))
@@ -76,7 +75,7 @@ module _ {A : Type 0} (tell : Job → Hazard → A) (s : List ℕ) (i : ℕ) whe
       to : told ≡ refused k v → k ≢ 14 → HazardVerdict → accept_job s ≡ refused k v
       to e n (unaccepted m w a l q) = let number : m ≡ k = cc in let value : w ≡ v = cc in a ∙ ap₂ refused number value
       to e n (unapproached w q) = absurd (n (cc))
-      to e n (approached_so j a q) = impossible cc
+      to e n (approached_so j a q) = cc
 
       from : accept_job s ≡ refused k v → (told ≡ refused k v) × (k ≢ 14)
       from e = (rw e, λ q. let few : k ≤ 7 = (rw e at (accept_refusals s)).1 in omega arith)
@@ -88,4 +87,4 @@ module _ {A : Type 0} (tell : Job → Hazard → A) (s : List ℕ) (i : ℕ) whe
       go : HazardVerdict → ⊥
       go (unaccepted k w p l q) = let z : k ≡ 8 = cc in omega arith
       go (unapproached n q) = let z : ◌≡◌ {A = ℕ} 14 8 = cc in omega arith
-      go (approached_so j a q) = impossible cc
+      go (approached_so j a q) = cc

@@ -14,7 +14,7 @@ use lib.Seq.{take-append_seam}
 use lib.Dec.{ltb, leb}
 use borrow.Author.Tests.{ltb-true, ltb-false, lt-ltb, leb-true, leb-false, le-leb}
 use Rattle.base.proofs.ListLaws.{drop_after}
-use Rattle.base.proofs.TestLaws.{and_intro, not_both, impossible}
+use Rattle.std.proofs.lemmas.Bool.{and_from, both_ways}
 use Rattle.number.specs.Number.{write_number}
 use Rattle.runs.specs.declared.Stretch.{Stretch}
 use Rattle.runs.specs.Level.{Has, has}
@@ -31,7 +31,7 @@ part_of_split s i w rest e = rw e (take-append_seam w rest)
 find_found : (s : List ℕ) (e v i : ℕ) (rs : List Stretch) (rest : List ℕ) (t : ℕ) (p : Part) → Rising e v rs → drop i s ≡ write_records e rs ++ rest
     → find_record e i rs t ≡ found p → FoundRun s e i rs t p
 unfolding find_record write_records
-find_found s e v i [] rest t p up q f = impossible cc
+find_found s e v i [] rest t p up q f = cc
 find_found s e v i (r ∷ rs) rest t p up q f =
     go (leb r.start t) refl (ltb t r.end) refl f (find_found s r.end r.level (i + length (write_record e r)) rs rest t p up.1 later)
   where
@@ -86,8 +86,8 @@ find_none e i (x ∷ rs) t q r m h = go (has x t) refl q (Memᴰ.cases_cons m) (
     go : (a : Bool) → has x t ≡ a → (if a then found (record { at = i; len = length (write_record e x) }) else find_record x.end (i + length (write_record e x))
         rs t) ≡ nowhere
         → (r ≡ x) ⊎ Memᴰ r rs → (find_record x.end (i + length (write_record e x)) rs t ≡ nowhere → Memᴰ r rs → ⊥) → ⊥
-    go true p c w rec = impossible cc
-    go false p c (inl s) rec = let k : Has x t = subst (λ (y : Stretch). Has y t) s h in not_both (and_intro (le-leb _ _ k.0) (lt-ltb _ _ k.1)) p
+    go true p c w rec = cc
+    go false p c (inl s) rec = let k : Has x t = subst (λ (y : Stretch). Has y t) s h in both_ways _ p (and_from _ _ (le-leb _ _ k.0) (lt-ltb _ _ k.1))
     go false p c (inr k) rec = rec c k
 
 -- The level 0 is shown where no run has the millimetre.

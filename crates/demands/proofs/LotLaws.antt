@@ -8,7 +8,7 @@ use mathlib.Core.List.{List, [], ◌∷◌, ◌++◌, map}
 use lib.ListN.{length, replicate}
 use borrow.Author.Tests.{le-leb}
 use Rattle.base.specs.Answer.{Answer, accepted}
-use Rattle.base.proofs.TestLaws.{and_intro}
+use Rattle.std.proofs.lemmas.Bool.{and_from}
 use Rattle.runs.specs.declared.Stretch.{Stretch}
 use Rattle.planning.specs.Required.{job_level, job_runs}
 use Rattle.schedule.specs.Schedule.{read_schedule}
@@ -38,7 +38,7 @@ added_places l = omega (arith, added_append l (replicate (most_ranges - length l
 lots_are : (p : ℕ) (qs : List ℕ) → RisingStations p qs → are_ranges (lots_of p qs) ≡ true
 unfolding are_ranges lots_of
 lots_are p [] r = refl
-lots_are p (q ∷ qs) r = and_intro (le-leb p q r.0) (lots_are q qs r.1)
+lots_are p (q ∷ qs) r = and_from _ _ (le-leb p q r.0) (lots_are q qs r.1)
 
 lots_count : (p : ℕ) (qs : List ℕ) → length (ranges_of (lots_of p qs)) ≡ length qs
 unfolding ranges_of lots_of

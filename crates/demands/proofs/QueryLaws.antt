@@ -25,7 +25,6 @@ use Rattle.queries.specs.Lookup.{asked, lookup, Found, find_record, place_in}
 use Rattle.schedule.proofs.ScheduleLaws.{schedule_runs, refused_ten, schedule_read}
 use Rattle.queries.proofs.QuantityLaws.{ranged}
 use Rattle.demands.proofs.DemandLaws.{millimetres_add}
-use Rattle.base.proofs.TestLaws.{impossible}
 use Rattle.demands.specs.Queries.{Counts, QuantityCounts, QuantityAdd, QuantityEight, QuantityTen, LookupEight, LookupTen}
 
 -- Schedules
@@ -40,14 +39,14 @@ verdict s b = go (read_schedule s) refl
   where
     go : (a : Answer (List Stretch)) → read_schedule s ≡ a → Verdict s
     go (accepted rs) e = let w = schedule_read s rs b e in reads (record { runs = rs; run_list = w.0; writes = w.1 }) e
-    go (refused k v) e = other (λ w. let p = schedule_runs s w in impossible cc) (refused_ten s k v e)
+    go (refused k v) e = other (λ w. let p = schedule_runs s w in cc) (refused_ten s k v e)
 
 -- "A schedule that isn't the writing of a run list", and no other.
 pub schedule_ten : (s : List ℕ) → Bytes s → (read_schedule s ≡ refused 10 0) ↔ (IsSchedule s → ⊥)
 schedule_ten s b = go (verdict s b)
   where
     go : Verdict s → (read_schedule s ≡ refused 10 0) ↔ (IsSchedule s → ⊥)
-    go (reads w e) = (λ t i. impossible cc, λ n. absurd (n w))
+    go (reads w e) = (λ t i. cc, λ n. absurd (n w))
     go (other n e) = (λ t. n, λ m. e)
 
 -- A call on a schedule: 8 where its first test fails, 11 where its second does, then 10, and then what the runs come to.
@@ -60,7 +59,7 @@ module _ {A : Type 0} (w : List ℕ) (f : List Stretch → A) (b : Bytes w) wher
   read_refused k = go (verdict w b)
     where
       go : Verdict w → query w f true true ≡ refused k 0 → (k ≡ 10) × (IsSchedule w → ⊥)
-      go (reads i r) e = let q = rw r at e in impossible cc
+      go (reads i r) e = let q = rw r at e in cc
       go (other n r) e = let q = rw r at e in (let z : k ≡ 10 = cc in z, n)
 
   read_ten : (IsSchedule w → ⊥) → query w f true true ≡ refused 10 0

@@ -11,7 +11,7 @@ use lib.ListN.{length}
 use borrow.Author.Tests.{lt-ltb, le-ltb}
 use Rattle.base.specs.Answer.{Answer, accepted, refused}
 use Rattle.base.proofs.ListLaws.{get_d_member}
-use Rattle.base.proofs.TestLaws.{decided, impossible}
+use Rattle.std.proofs.lemmas.Bool.{cases_Bool}
 use Rattle.job.specs.declared.Header.{Header}
 use Rattle.job.specs.declared.Hazard.{Hazard}
 use Rattle.job.specs.Job.{Job, hazard_of}
@@ -47,7 +47,7 @@ module _ (h : Header) (z : Hazard) where
   told_unreached e = rw e
 
   pub own_side : (hazard_reach h z).side ≡ z.side
-  own_side = go (decided (reached h z))
+  own_side = go (cases_Bool (reached h z))
     where
       go : (reached h z ≡ true) ⊎ (reached h z ≡ false) → (hazard_reach h z).side ≡ z.side
       go (inl e) = ap (λ (r : Reach). r.side) (told_reached e)
@@ -107,7 +107,7 @@ module _ (j : Job) (fits : AcceptedFits j) (z : Hazard) (m : Memᴰ z j.hazards)
 -- A hazard has an empty stretch only where nobody reaches it.
 pub untouched_side : (h : Header) (z : Hazard) (r : Reach) → Says h z r → (side : ℕ) → UntouchedSide r side → Unaltered h z side
 untouched_side h z r says side (inr off) = withdrawal.other_side (λ e. off (e ∙ sym says.its_side))
-untouched_side h z r says side (inl empty) = go (decided (reached h z))
+untouched_side h z r says side (inl empty) = go (cases_Bool (reached h z))
   where
     go : (reached h z ≡ true) ⊎ (reached h z ≡ false) → Unaltered h z side
     go (inl e) = let a = (says.reached_so e).around in absurd (omega (arith, a.from_start, a.long, a.end_to))
@@ -118,7 +118,7 @@ module _ (h : Header) (z : Hazard) (f g : (side t : ℕ) → ℕ) (off-f : (side
     (off-g : (side t : ℕ) → (OnRoad h t → ⊥) → g side t ≡ 0) (same : SameLevels (Beyond h z) f g) where
   pub untouched_levels : SameLevels (Untouched (hazard_reach h z)) f g
   untouched_levels side t (other_side off) = same side t (unaltered (withdrawal.other_side (λ e. off (e ∙ sym (own_side h z)))))
-  untouched_levels side t (outside out) = go (decided (reached h z))
+  untouched_levels side t (outside out) = go (cases_Bool (reached h z))
     where
       road : (¬ InStretch (envelope_reach h z) t) → Dec (h.begin ≤ t) → Dec (t < h.end) → g side t ≡ f side t
       road away (yes a) (yes b) = same side t (withdrawal.outside (λ k. away ((stretch_has h z t).1 ((a, b), k))))
@@ -133,7 +133,7 @@ module _ (h : Header) (z : Hazard) (f g : (side t : ℕ) → ℕ) (off-f : (side
 pub covers_envelope : (h : Header) (z : Hazard) (f : ℕ → ℕ)
     → (reached h z ≡ true → (t : ℕ) → OnRoad h t → Has (envelope h z) t → z.level ≤ f t)
     → (t : ℕ) → InEnvelope (hazard_reach h z) t → z.level ≤ f t
-covers_envelope h z f covers t inside = go (decided (reached h z))
+covers_envelope h z f covers t inside = go (cases_Bool (reached h z))
   where
     go : (reached h z ≡ true) ⊎ (reached h z ≡ false) → z.level ≤ f t
     go (inl e) = let k = (cut_has h z t).0 (subst (λ (r : Reach). InEnvelope r t) (told_reached h z e) inside) in covers e t k.0 k.1
@@ -222,7 +222,7 @@ reach_fourteen s i v = (λ e. to e (reach_verdict s i), λ w. told_none s i w.1 
     to : reach s i ≡ refused 14 v → ReachVerdict s i → (v ≡ 0) × NoHazard s i
     to e (unaccepted k w p l q) = absurd (let z : k ≡ 14 = cc in omega arith)
     to e (no_such n q) = ((cc), n)
-    to e (given r q) = impossible cc
+    to e (given r q) = cc
 
 pub reach_refusals : ReachRefusals
 reach_refusals s i side room k v h = let plans = plan_refuses s side room h k v in
@@ -231,7 +231,7 @@ reach_refusals s i side room k v h = let plans = plan_refuses s side room h k v 
     to : reach s i ≡ refused k v → k ≢ 14 → ReachVerdict s i → accept_job s ≡ refused k v
     to e n (unaccepted m w a l q) = let number : m ≡ k = cc in let value : w ≡ v = cc in a ∙ ap₂ refused number value
     to e n (no_such w q) = absurd (n (cc))
-    to e n (given r q) = impossible cc
+    to e n (given r q) = cc
 
     from : accept_job s ≡ refused k v → (reach s i ≡ refused k v) × (k ≢ 14)
     from e = (told_refused s i k v e, λ q. let few : k ≤ 7 = (rw e at (accept_refusals s)).1 in omega arith)

@@ -13,9 +13,8 @@ use borrow.Author.Tests.{le-leb}
 use Rattle.base.specs.Answer.{Answer, accepted, refused, ◌>>=◌}
 use Rattle.refusal.specs.Refusal.{unless_refuse, number_of, value_of, refusal}
 use Rattle.refusal.specs.declared.Refusal.TheVariants as Row
-use Rattle.number.specs.declared.Read.{Read}
-use Rattle.number.specs.declared.Read.TheVariants.{Number, Ended, Malformed}
-use Rattle.number.specs.Number.{read_number, reading_of, number_at}
+use Rattle.number.specs.Number.{number_at}
+use Rattle.number.proofs.ReadLaws.{Reads, a_number, ended_there, malformed_there, reads}
 use Rattle.job.specs.declared.Header.{Header}
 use Rattle.job.specs.declared.Hazard.{Hazard}
 use Rattle.job.specs.declared.Bounds.{Bounds}
@@ -29,7 +28,6 @@ use Rattle.schedule.proofs.PlanLaws.{plan_bad_side}
 use Rattle.demands.specs.Road.{Overhanging, PlanOverhangs, PlanSix}
 use Rattle.refusal.specs.declared.Refusal.{Refusal}
 use Rattle.refusal.proofs.RowLaws.{some_number, no_six, same_row}
-use Rattle.base.proofs.TestLaws.{impossible}
 use Rattle.demands.specs.PlanTable.{side_schedule, side_planned, PlanRow, bad_side, of_job, no_room, PlanExactly, Fits, PlanWritten, PlanAnswer}
 use Rattle.demands.specs.PlanTable.{refused_by, schedule_written, PlanAnswers}
 use Rattle.number.specs.Form.{Bytes}
@@ -52,12 +50,12 @@ test false r h = (some_number r, h, no_six r, (r, refl, refl))
 
 number_refusals : (s : List ℕ) (at : ℕ) → OneToSeven (number_at s at)
 unfolding number_at
-number_refusals s at = go (read_number s at)
+number_refusals s at = go (reads s at)
   where
-    go : (r : Read) → OneToSeven (reading_of at r)
-    go (Number value next) = tt
-    go Ended = (omega arith, omega arith, omega arith, (Row.Ended at, refl, refl))
-    go Malformed = (omega arith, omega arith, omega arith, (Row.Malformed at, refl, refl))
+    go : Reads s at → OneToSeven (number_at s at)
+    go (a_number r e) = rw e tt
+    go (ended_there e) = rw e (omega arith, omega arith, omega arith, (Row.Ended at, refl, refl))
+    go (malformed_there e) = rw e (omega arith, omega arith, omega arith, (Row.Malformed at, refl, refl))
 
 fields_refusals : (range_of : List ℕ → Bounds) (outside : List ℕ → Refusal) (k : ℕ) (got s : List ℕ) (at : ℕ) → ((l : List ℕ) → number_of (outside l) ≤ 7)
     → OneToSeven (read_fields range_of outside k got s at)
@@ -141,7 +139,7 @@ module _ (s : List ℕ) (side room : ℕ) where
       go e n (wrong_side b p) = absurd (omega arith)
       go e n (bad_job b i w a l u x p) = let number : i ≡ k = cc in let value : w ≡ v = cc in a ∙ ap₂ refused number value
       go e n (short_room b j a l p) = absurd (n (let number : 9 ≡ k = cc in sym number))
-      go e n (written b j a l p) = impossible cc
+      go e n (written b j a l p) = cc
 
   -- So are those of a call that answers for each accepted job.
   pub answer_refuses : {A : Type 0} (tell : Job → A) → side ≤ 1 → (k v : ℕ)
@@ -149,7 +147,7 @@ module _ (s : List ℕ) (side room : ℕ) where
   answer_refuses {A} tell h k v = let plans = plan_refuses h k v in (λ e. plans.0 ((alike (accept_job s)).0 e), λ w. (alike (accept_job s)).1 (plans.1 w))
     where
       alike : (a : Answer Job) → ((a >>= λ j. accepted (tell j)) ≡ refused k v) ↔ (a ≡ refused k v)
-      alike (accepted j) = (λ e. impossible cc, λ e. impossible cc)
+      alike (accepted j) = (λ e. cc, λ e. cc)
       alike (refused i w) = (
         λ e. let number : i ≡ k = cc in let value : w ≡ v = cc in ap₂ refused number value,
         λ e. let number : i ≡ k = cc in let value : w ≡ v = cc in ap₂ refused number value,
@@ -167,7 +165,7 @@ module _ (s : List ℕ) (side room : ℕ) where
           let needed = length (side_schedule j side) in
           no_room needed (same_row r (Row.Room needed) (let z : number_of r ≡ 9 = cc in z) (let z : value_of r ≡ needed = cc in z))
           (record { good_side = h; job = j; taken = a; needed = refl; short = l })
-      to e (written h j a l p) = impossible cc
+      to e (written h j a l p) = cc
 
       from : PlanRow r s side room → plan s side room ≡ refusal r
       from (bad_side e h) = plan_bad_side s side room h ∙ ap refusal (sym e)
@@ -186,9 +184,9 @@ module _ (s : List ℕ) (side room : ℕ) where
   )
     where
       go : plan s side room ≡ accepted p → PlanVerdict → Fits s side room p
-      go e (wrong_side h q) = impossible cc
-      go e (bad_job h k v a l u n q) = impossible cc
-      go e (short_room h j a l q) = impossible cc
+      go e (wrong_side h q) = cc
+      go e (bad_job h k v a l u n q) = cc
+      go e (short_room h j a l q) = cc
       go e (written h j a l q) =
           let same : side_planned j side ≡ p = cc in
           record { good_side = h; job = j; taken = a; is = same; room_enough = subst (λ (x : PlannedSide). length x.schedule ≤ room) same l }
@@ -223,7 +221,7 @@ plan_six s side room k v e = go (plan_verdict s side room)
     go (wrong_side h p) six = let z : 8 ≡ k = cc in omega arith
     go (bad_job h i w a l u n p) six = let z : i ≡ k = cc in n (omega arith)
     go (short_room h j a l p) six = let z : 9 ≡ k = cc in omega arith
-    go (written h j a l p) six = impossible cc
+    go (written h j a l p) six = cc
 
 pub plan_overhangs : PlanOverhangs
 plan_overhangs s j side room p a e =

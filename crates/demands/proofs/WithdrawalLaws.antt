@@ -12,7 +12,7 @@ use mathlib.Core.List.{List, [], ◌∷◌, Memᴰ}
 use lib.ListN.{length, get_or}
 use Rattle.base.specs.Answer.{accepted}
 use Rattle.base.proofs.ListLaws.{get_d_member}
-use Rattle.base.proofs.TestLaws.{decided, not_both}
+use Rattle.std.proofs.lemmas.Bool.{both_ways, cases_Bool}
 use Rattle.job.specs.declared.Header.{Header}
 use Rattle.job.specs.declared.Hazard.{Hazard}
 use Rattle.job.specs.Job.{Job, hazard_of}
@@ -87,7 +87,7 @@ module _ (j k : Job) (to : Alike j.header k.header) (back : Alike k.header j.hea
     (fewer : (x : Hazard) → Memᴰ x k.hazards → Memᴰ x j.hazards) where
   -- Where that hazard gives the side no envelope, both have the same.
   not_its : (side : ℕ) → Unaltered j.header z side → SideHazard j side z → ⊥
-  not_its side (without_envelope r) s = not_both s.reach r
+  not_its side (without_envelope r) s = both_ways _ r s.reach
   not_its side (other_side n) s = n (sym s.on_side)
 
   others : (side : ℕ) → Unaltered j.header z side → (x : Hazard) → SideHazard j side x → Memᴰ x k.hazards
@@ -127,7 +127,7 @@ module _ (j k : Job) (to : Alike j.header k.header) (back : Alike k.header j.hea
 
     pub same_beyond : SameLevels (Beyond j.header z) (job_level j) (job_level k)
     same_beyond side t (unaltered u) = side_levels side u t
-    same_beyond side t (outside n) = go (ℕ_discrete side z.side) (decided (reached j.header z))
+    same_beyond side t (outside n) = go (ℕ_discrete side z.side) (cases_Bool (reached j.header z))
       where
         go : Dec (side ≡ z.side) → (reached j.header z ≡ true) ⊎ (reached j.header z ≡ false) → job_level k side t ≡ job_level j side t
         go (yes on) (inl r) = outside_levels side (record { member = own; on_side = sym on; reach = r }) t (outside_reach j.header z t n)

@@ -9,13 +9,13 @@ use mathlib.Core.List.{List, []}
 use lib.ListN.{length, get_or, set, take, length-set}
 use lib.Seq.{get_or-set_same, get_or-set_other, take_all}
 use Rattle.base.specs.Answer.{accepted}
-use Rattle.refusal.specs.Refusal.{refusal}
+use Rattle.refusal.specs.Refusal.{refusal, answer_of}
 use Rattle.refusal.specs.declared.Refusal.{Refusal}
-use Rattle.job.specs.declared.field.Reading.{Reading}
-use Rattle.job.specs.declared.field.Field.{Field}
+use Rattle.std.specs.Prelude.{Result, Ok, Err}
+use Rattle.number.specs.declared.Reading.{Reading}
 use Rattle.job.specs.declared.Bounds.{Bounds}
 use Rattle.job.specs.Job.{read_fields}
-use Rattle.job.specs.Reply.{field_at, field_answer}
+use Rattle.job.specs.Reply.{field_at}
 use Rattle.job.proofs.FieldLaws.{take_stored, field_within, fields_more, fields_refused}
 use Rattle.job.proofs.RangeLaws.{within_high}
 
@@ -34,9 +34,9 @@ module _ {range_of : List ℕ → Bounds} {outside : List ℕ → Refusal} {size
 
   module _ {numbers : List ℕ} {at k : ℕ} (left : NumbersLeft range_of outside size top s first numbers at k) where
     -- The next number, which is `f`, was read for its range.
-    module _ (more : k < size) {range : Bounds} {value : Refusal} (f : Field) (its : range ≡ range_of (take k numbers)) (own : outside (take k numbers) ≡ value)
-        (read : field_answer f ≡ field_at range value s at) where
-      read_next : field_answer f ≡ field_at (range_of (take k numbers)) value s at
+    module _ (more : k < size) {range : Bounds} {value : Refusal} (f : Result Reading Refusal) (its : range ≡ range_of (take k numbers)) (own : outside (take k numbers) ≡ value)
+        (read : answer_of f ≡ field_at range value s at) where
+      read_next : answer_of f ≡ field_at (range_of (take k numbers)) value s at
       read_next = rw (sym its) read
 
       left_next : read_fields range_of outside size [] s first ≡ read_fields range_of outside (suc (size - (k + 1))) (take k numbers) s at
@@ -44,7 +44,7 @@ module _ {range_of : List ℕ → Bounds} {outside : List ℕ → Refusal} {size
           let count : size - k ≡ suc (size - (k + 1)) = omega arith in
           left.same ∙ ap (λ (m : ℕ). read_fields range_of outside m (take k numbers) s at) count
 
-      second_kept : (k ≡ 1 → range.high ≤ top) → (n : Reading) → f ≡ Field.Number n → get_or (set numbers k n.value) 1 0 ≤ top
+      second_kept : (k ≡ 1 → range.high ≤ top) → (n : Reading) → f ≡ Ok n → get_or (set numbers k n.value) 1 0 ≤ top
       second_kept within n e = go (ℕ_discrete 1 k)
         where
           go : Dec (1 ≡ k) → get_or (set numbers k n.value) 1 0 ≤ top
@@ -53,7 +53,7 @@ module _ {range_of : List ℕ → Bounds} {outside : List ℕ → Refusal} {size
               (omega (arith, within (sym same), within_high range n.value (field_within range value s at f n read e)))
           go (no other) = rw (get_or-set_other numbers k 1 n.value 0 other) left.second
 
-      pub one_less : (k ≡ 1 → range.high ≤ top) → {n : Reading} → f ≡ Field.Number n
+      pub one_less : (k ≡ 1 → range.high ≤ top) → {n : Reading} → f ≡ Ok n
           → NumbersLeft range_of outside size top s first (set numbers k n.value) n.next (k + 1)
       one_less within {n} e =
           record {
@@ -65,7 +65,7 @@ module _ {range_of : List ℕ → Bounds} {outside : List ℕ → Refusal} {size
                 (left_next ∙ fields_more range_of outside value (size - (k + 1)) (take k numbers) s at f own read_next n e);
           }
 
-      pub next_refused : {r : Refusal} → f ≡ Field.Refused r → read_fields range_of outside size [] s first ≡ refusal r
+      pub next_refused : {r : Refusal} → f ≡ Err r → read_fields range_of outside size [] s first ≡ refusal r
       next_refused {r} e = left_next ∙ fields_refused range_of outside value (size - (k + 1)) (take k numbers) s at f own read_next r e
 
     pub all_read : size ≤ k → read_fields range_of outside size [] s first ≡ accepted (record { numbers = numbers; next = at })

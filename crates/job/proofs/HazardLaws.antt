@@ -7,19 +7,18 @@ use mathlib.Core.List.{List, [], ◌∷◌, map}
 use lib.ListN.{length, get_or, set, take, get_or-map}
 use lib.Seq.{length-take-le, get_or-take}
 use Rattle.base.specs.Answer.{accepted}
-use Rattle.refusal.specs.Refusal.{refusal}
+use Rattle.refusal.specs.Refusal.{refusal, answer_of}
 use Rattle.refusal.specs.declared.Refusal.{Refusal}
 use Rattle.refusal.specs.declared.Refusal.TheVariants.{HazardRange}
 use Rattle.job.specs.declared.Header.{Header}
 use Rattle.job.specs.declared.Hazard.{Hazard}
-use Rattle.number.specs.Number.{read_number}
-use Rattle.number.specs.declared.Read.TheVariants.{Number}
-use Rattle.job.specs.declared.field.Reading.{Reading}
-use Rattle.job.specs.declared.field.Field.{Field}
+use Rattle.number.specs.declared.Reading.{Reading}
+use Rattle.number.specs.Number.{number, read_number}
+use Rattle.std.specs.Prelude.{Result, Ok, Err}
 use Rattle.job.specs.declared.Bounds.{Bounds}
 use Rattle.job.specs.Job.{◌to◌, hazard_ranges, hazard_of, next_in_hazard, read_fields, outside_hazard}
 use Rattle.job.specs.Fits.{HazardFits}
-use Rattle.job.specs.Reply.{field_at, field_answer, read_hazard_at}
+use Rattle.job.specs.Reply.{field_at, read_hazard_at}
 use Rattle.job.proofs.FieldLaws.{fields_next}
 use Rattle.job.proofs.ArrayLaws.{NumbersLeft, one_less, next_refused, all_read}
 use Rattle.job.proofs.RangeLaws.{HazardBounds, hazard_bounds}
@@ -50,8 +49,8 @@ HazardLeft h index s first = NumbersLeft (next_in_hazard h) (outside_hazard inde
 
 module _ (h : Header) {index : ℕ} {s : List ℕ} {first : ℕ} {numbers : List ℕ} {at k : ℕ} (left : HazardLeft h index s first numbers at k) where
   -- The next number, which is `f`, was read for its range.
-  module _ (more : k < 6) {range : Bounds} (f : Field) (its : range ≡ get_or (hazard_ranges h.begin h.end (get_or numbers 1 0) (get_or numbers 3 0)) k (0 to 0))
-      (read : field_answer f ≡ field_at range (HazardRange index) s at) where
+  module _ (more : k < 6) {range : Bounds} (f : Result Reading Refusal) (its : range ≡ get_or (hazard_ranges h.begin h.end (get_or numbers 1 0) (get_or numbers 3 0)) k (0 to 0))
+      (read : answer_of f ≡ field_at range (HazardRange index) s at) where
     its_next : range ≡ next_in_hazard h (take k numbers)
     its_next = its ∙ sym (next_in_hazard_lem h numbers k (omega (arith, left.room)))
 
@@ -59,10 +58,10 @@ module _ (h : Header) {index : ℕ} {s : List ℕ} {first : ℕ} {numbers : List
     unfolding hazard_ranges
     start_top e = rw (its, e) (omega arith)
 
-    pub hazard_number : {n : Reading} → f ≡ Field.Number n → HazardLeft h index s first (set numbers k n.value) n.next (k + 1)
+    pub hazard_number : {n : Reading} → f ≡ Ok n → HazardLeft h index s first (set numbers k n.value) n.next (k + 1)
     hazard_number e = one_less left more f its_next refl read start_top e
 
-    pub hazard_refused : {r : Refusal} → f ≡ Field.Refused r → refusal r ≡ read_hazard_at h index s first
+    pub hazard_refused : {r : Refusal} → f ≡ Err r → refusal r ≡ read_hazard_at h index s first
     unfolding read_hazard_at
     hazard_refused e = rw (next_refused left more f its_next refl read e)
 
@@ -78,8 +77,8 @@ module _ (h : Header) {index : ℕ} {s : List ℕ} {first : ℕ} {numbers : List
 
 -- A hazard whose six numbers stand one behind the other, each in its range.
 pub hazard_whole : (h : Header) (index : ℕ) (s : List ℕ) (at : ℕ) (z : Hazard) (a b c d e next : ℕ) → HazardFits h z
-    → read_number s at ≡ Number z.side a → read_number s a ≡ Number z.start b → read_number s b ≡ Number z.end c
-    → read_number s c ≡ Number z.near d → read_number s d ≡ Number z.far e → read_number s e ≡ Number z.level next
+    → read_number s at ≡ number z.side a → read_number s a ≡ number z.start b → read_number s b ≡ number z.end c
+    → read_number s c ≡ number z.near d → read_number s d ≡ number z.far e → read_number s e ≡ number z.level next
     → accepted (record { hazard = z; next = next }) ≡ read_hazard_at h index s at
 unfolding read_hazard_at hazard_ranges read_fields
 hazard_whole h index s at z a b c d e next fits side start end near far level =

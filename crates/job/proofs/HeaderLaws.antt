@@ -11,15 +11,15 @@ use lib.Seq.{length-take-le, get_or-take, get_or-set_other}
 use lib.Dec.{eqb}
 use borrow.Author.Tests.{eq-eqb, ne_eqb}
 use Rattle.base.specs.Answer.{accepted}
-use Rattle.refusal.specs.Refusal.{refusal}
+use Rattle.refusal.specs.Refusal.{refusal, answer_of}
 use Rattle.refusal.specs.declared.Refusal.{Refusal}
 use Rattle.refusal.specs.declared.Refusal.TheVariants.{HeaderRange}
-use Rattle.job.specs.declared.field.Reading.{Reading}
-use Rattle.job.specs.declared.field.Field.{Field}
+use Rattle.std.specs.Prelude.{Result, Ok, Err}
+use Rattle.number.specs.declared.Reading.{Reading}
 use Rattle.job.specs.declared.Bounds.{Bounds}
 use Rattle.job.specs.Job.{◌to◌, shared_ranges, last_ranges, header_ranges, header_size, next_in_header, read_fields, read_header, header_with, header_of}
 use Rattle.job.specs.Job.{outside_header}
-use Rattle.job.specs.Reply.{field_at, field_answer, header_at, header_from}
+use Rattle.job.specs.Reply.{field_at, header_at, header_from}
 use Rattle.job.proofs.FieldLaws.{fields_more, fields_refused}
 use Rattle.job.proofs.ArrayLaws.{NumbersLeft, one_less, next_refused, all_read}
 use Rattle.job.proofs.RangeLaws.{road_top}
@@ -68,8 +68,8 @@ HeaderLeft s = NumbersLeft next_in_header outside_header 14 999999999999 s 0
 
 module _ {s numbers : List ℕ} {at k : ℕ} (left : HeaderLeft s numbers at k) where
   -- The next number, which is `f`, was read for its range.
-  module _ (more : k < 14) {range : Bounds} (f : Field) (its : range ≡ get_or (header_ranges (get_or numbers 0 0) (get_or numbers 1 0)) k (0 to 0))
-      (read : field_answer f ≡ field_at range (HeaderRange (k + 1)) s at) where
+  module _ (more : k < 14) {range : Bounds} (f : Result Reading Refusal) (its : range ≡ get_or (header_ranges (get_or numbers 0 0) (get_or numbers 1 0)) k (0 to 0))
+      (read : answer_of f ≡ field_at range (HeaderRange (k + 1)) s at) where
     its_next : range ≡ next_in_header (take k numbers)
     its_next = its ∙ sym (next_in_header_lem numbers k (omega (arith, left.room)))
 
@@ -80,10 +80,10 @@ module _ {s numbers : List ℕ} {at k : ℕ} (left : HeaderLeft s numbers at k) 
     unfolding header_ranges shared_ranges
     begin_top e = rw (its, e) (omega arith)
 
-    pub header_number : {n : Reading} → f ≡ Field.Number n → HeaderLeft s (set numbers k n.value) n.next (k + 1)
+    pub header_number : {n : Reading} → f ≡ Ok n → HeaderLeft s (set numbers k n.value) n.next (k + 1)
     header_number e = one_less left more f its_next own read begin_top e
 
-    pub header_refused : {r : Refusal} → f ≡ Field.Refused r → refusal r ≡ header_at s
+    pub header_refused : {r : Refusal} → f ≡ Err r → refusal r ≡ header_at s
     unfolding header_at read_header
     header_refused {r} e = rw (next_refused left more f its_next own read e)
 
@@ -109,15 +109,15 @@ unfolding header_ranges shared_ranges
 fifteenth first long e = rw (long, e)
 
 -- The fifteenth number of a kind 2 header, which is `f`.
-module _ (s numbers : List ℕ) (at : ℕ) (f : Field) (long : length numbers ≡ 14) (two : get_or numbers 0 0 ≡ 2)
-    (read : field_answer f ≡ field_at (0 to 256) (HeaderRange 15) s at) where
+module _ (s numbers : List ℕ) (at : ℕ) (f : Result Reading Refusal) (long : length numbers ≡ 14) (two : get_or numbers 0 0 ≡ 2)
+    (read : answer_of f ≡ field_at (0 to 256) (HeaderRange 15) s at) where
   number_fifteen : length numbers + 1 ≡ 15
   number_fifteen = omega arith
 
-  read_fifteenth : field_answer f ≡ field_at (next_in_header numbers) (HeaderRange 15) s at
+  read_fifteenth : answer_of f ≡ field_at (next_in_header numbers) (HeaderRange 15) s at
   read_fifteenth = rw (fifteenth numbers long (eq-eqb (get_or numbers 0 0) 2 two)) read
 
-  pub count_read : {n : Reading} → f ≡ Field.Number n
+  pub count_read : {n : Reading} → f ≡ Ok n
       → accepted (record { header = header_with numbers (get_or numbers 13 0) n.value; next = n.next }) ≡ header_from numbers s at
   unfolding header_from read_fields
   count_read {n} e =
@@ -126,7 +126,7 @@ module _ (s numbers : List ℕ) (at : ℕ) (f : Field) (long : length numbers �
         header_more numbers n.value long two,
       )
 
-  pub count_refused : {r : Refusal} → f ≡ Field.Refused r → refusal r ≡ header_from numbers s at
+  pub count_refused : {r : Refusal} → f ≡ Err r → refusal r ≡ header_from numbers s at
   unfolding header_from
   count_refused {r} e =
       rw (fields_refused next_in_header outside_header (HeaderRange 15) 0 numbers s at f (ap HeaderRange number_fifteen) read_fifteenth r e)

@@ -15,7 +15,7 @@ use Rattle.base.specs.Answer.{accepted}
 use Rattle.refusal.specs.Refusal.{unless_refuse}
 use Rattle.refusal.specs.declared.Refusal.TheVariants as Row
 use Rattle.refusal.specs.declared.Refusal.{Refusal}
-use Rattle.base.proofs.TestLaws.{and_intro}
+use Rattle.std.proofs.lemmas.Bool.{and_from}
 use Rattle.base.proofs.AnswerLaws.{bound}
 use Rattle.refusal.proofs.RefuseLaws.{tested}
 use Rattle.base.proofs.ListLaws.{snoc_each}
@@ -27,7 +27,9 @@ use Rattle.job.specs.Job.{Job, within, header_size, next_in_header, next_in_haza
 use Rattle.job.specs.Job.{read_hazards, read_job, read_rest, outside_header, outside_hazard}
 use Rattle.job.specs.Writing.{header_numbers, hazard_numbers}
 use Rattle.job.specs.Fits.{in_ranges, header_in_range, hazard_in_range, HeaderFits, HazardFits, HazardsFit, JobFits}
-use Rattle.job.specs.Reply.{HeaderReading, header_reading, header_at, HazardReading, hazard_reading, read_hazard_at}
+use Rattle.job.specs.declared.hazard_fields.HazardReading.{HazardReading}
+use Rattle.job.specs.declared.header_fields.HeaderReading.{HeaderReading}
+use Rattle.job.specs.Reply.{header_reading, header_at, hazard_reading, read_hazard_at}
 use Rattle.job.proofs.RangeLaws.{ranges_parts}
 
 -- The numbers read behind `got`: k of them, each in its range.
@@ -52,7 +54,7 @@ fields_in range_of outside (suc k) got s at f e =
       own = x ∷ later.own;
       whole = later.whole ∙ append_assoc got (x ∷ []) later.own;
       size = ap suc later.size;
-      fit = and_intro {a = within (range_of got) x} (tested _ (outside got) _ b2.taken) later.fit;
+      fit = and_from (within (range_of got) x) _ (tested _ (outside got) _ b2.taken) later.fit;
     }
 
 -- A list is its elements.
@@ -82,7 +84,7 @@ header_in s f e =
     rw two.whole
     (record {
       size = rw (get_or-append first two.own 0 0 (omega arith), length-append first two.own, long) (more (eqb (get_or first 0 0) 2) two.size);
-      fit = ranges_parts next [] first two.own ∙ and_intro fit two.fit;
+      fit = ranges_parts next [] first two.own ∙ and_from _ _ fit two.fit;
     })
   where
     more : {n : ℕ} (t : Bool) → n ≡ (if t then 15 else 14) - 14 → 14 + n ≡ (if t then 15 else 14)
@@ -99,7 +101,7 @@ header_own numbers size = go (eqb (get_or numbers 0 0) 2) refl size
 
 pub header_fits : (numbers : List ℕ) → HeaderIn numbers → HeaderFits (header_of numbers)
 unfolding header_in_range
-header_fits numbers h = and_intro {a = in_ranges next_in_header [] (header_numbers (header_of numbers))} (rw (header_own numbers h.size) h.fit)
+header_fits numbers h = and_from (in_ranges next_in_header [] (header_numbers (header_of numbers))) _ (rw (header_own numbers h.size) h.fit)
     (plain (eqb (get_or numbers 0 0) 2) refl)
   where
     plain : (t : Bool) → eqb (get_or numbers 0 0) 2 ≡ t → eqb (header_of numbers).kind 2 || eqb (header_of numbers).panel 1 ≡ true

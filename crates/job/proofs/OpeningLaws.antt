@@ -15,7 +15,8 @@ use Rattle.base.proofs.AnswerLaws.{bound}
 use Rattle.job.specs.declared.Header.{Header}
 use Rattle.job.specs.declared.Hazard.{Hazard}
 use Rattle.job.specs.Job.{Job, header_size, read_hazards, read_rest, read_job}
-use Rattle.job.specs.Reply.{HeaderReading, header_at, job_header, read_opening}
+use Rattle.job.specs.declared.header_fields.HeaderReading.{HeaderReading}
+use Rattle.job.specs.Reply.{header_at, job_header, read_opening}
 use Rattle.job.proofs.RestLaws.{job_step}
 
 -- The header of a job that could be read is the one at its beginning.

@@ -11,7 +11,7 @@ use lib.ListN.{length, get_or, take, drop}
 use lib.Dec.{leb, ltb, eqb}
 use borrow.Author.Tests.{leb-true, le-leb, lt-leb, lt-ltb, le-ltb, eqb-true}
 use Rattle.base.specs.Choice.{all_of}
-use Rattle.base.proofs.TestLaws.{and_left, and_right}
+use Rattle.std.proofs.lemmas.Bool.{and_parts}
 use Rattle.number.specs.Number.{greatest_number}
 use Rattle.job.specs.declared.Header.{Header}
 use Rattle.job.specs.declared.Hazard.{Hazard}
@@ -21,10 +21,10 @@ use Rattle.job.specs.Writing.{last_numbers, header_numbers, hazard_numbers}
 use Rattle.job.specs.Fits.{in_ranges, header_in_range, hazard_in_range, HeaderFits, HazardFits}
 
 pub within_low : (r : Bounds) (x : ℕ) → within r x ≡ true → r.low ≤ x
-within_low r x h = leb-true _ _ (and_left _ (leb x r.high) h)
+within_low r x h = leb-true _ _ ((and_parts _ (leb x r.high) h).0)
 
 pub within_high : (r : Bounds) (x : ℕ) → within r x ≡ true → x ≤ r.high
-within_high r x h = leb-true _ _ (and_right (leb r.low x) _ h)
+within_high r x h = leb-true _ _ ((and_parts (leb r.low x) _ h).1)
 
 -- The code's tests of a range as the table's.
 pub from_zero : (x : ℕ) → leb 0 x ≡ true
@@ -62,7 +62,7 @@ module _ (range_of : List ℕ → Bounds) where
       → (within (range_of got) x ≡ true) × (in_ranges range_of (got ++ x ∷ []) xs ≡ true)
   unfolding in_ranges
   ranges_cons got x xs e =
-      (and_left (within (range_of got) x) (in_ranges range_of (got ++ x ∷ []) xs) e, and_right (within (range_of got) x) (in_ranges range_of (got ++ x ∷ []) xs) e)
+      ((and_parts (within (range_of got) x) (in_ranges range_of (got ++ x ∷ []) xs) e).0, (and_parts (within (range_of got) x) (in_ranges range_of (got ++ x ∷ []) xs) e).1)
 
   -- The number at an index, by those before it.
   ranges_at : (got xs : List ℕ) → in_ranges range_of got xs ≡ true → (i : ℕ) → i < length xs → within (range_of (got ++ take i xs)) (get_or xs i 0) ≡ true
@@ -86,7 +86,7 @@ module _ (range_of : List ℕ → Bounds) where
   pub ranges_split : (got xs ys : List ℕ) → in_ranges range_of got (xs ++ ys) ≡ true → (in_ranges range_of got xs ≡ true) × (in_ranges range_of (got ++ xs) ys ≡ true)
   ranges_split got xs ys e =
       let both : in_ranges range_of got xs && in_ranges range_of (got ++ xs) ys ≡ true = sym (ranges_parts got xs ys) ∙ e in
-      (and_left (in_ranges range_of got xs) (in_ranges range_of (got ++ xs) ys) both, and_right (in_ranges range_of got xs) (in_ranges range_of (got ++ xs) ys) both)
+      ((and_parts (in_ranges range_of got xs) (in_ranges range_of (got ++ xs) ys) both).0, (and_parts (in_ranges range_of got xs) (in_ranges range_of (got ++ xs) ys) both).1)
 
 -- Where a road that begins at A may end at most.
 abbrev pub road_top : (A : ℕ) → ℕ
@@ -121,7 +121,7 @@ unfolding header_in_range
 header_split h fits =
     let numbers = in_ranges next_in_header [] (header_numbers h) in
     let plain = eqb h.kind 2 || eqb h.panel 1 in
-    (and_left numbers plain fits, and_right numbers plain fits)
+    ((and_parts numbers plain fits).0, (and_parts numbers plain fits).1)
 
 pub header_bounds : (h : Header) → HeaderFits h → HeaderBounds h
 unfolding header_ranges shared_ranges in_ranges
@@ -164,13 +164,13 @@ header_bounds h fits =
         → (1 ≤ h.panel) × (h.panel ≤ 10000) × (h.count ≤ 256)
     behind true e f p =
         let t = rw e at f in
-        let panel = and_left (within (1 to 10000) h.panel) (within (0 to 256) h.count && true) t in
-        let count = and_left (within (0 to 256) h.count) true (and_right (within (1 to 10000) h.panel) (within (0 to 256) h.count && true) t) in
+        let panel = (and_parts (within (1 to 10000) h.panel) (within (0 to 256) h.count && true) t).0 in
+        let count = (and_parts (within (0 to 256) h.count) true ((and_parts (within (1 to 10000) h.panel) (within (0 to 256) h.count && true) t).1)).0 in
         (within_low (1 to 10000) h.panel panel, within_high (1 to 10000) h.panel panel, within_high (0 to 256) h.count count)
     behind false e f p =
         let one = eqb-true h.panel 1 p in
         let t = rw e at f in
-        (omega arith, omega arith, within_high (0 to 256) h.count (and_left (within (0 to 256) h.count) true t))
+        (omega arith, omega arith, within_high (0 to 256) h.count ((and_parts (within (0 to 256) h.count) true t).0))
 
 -- A hazard
 
@@ -208,8 +208,8 @@ hazard_bounds h z fits =
 pub highs_most : (m : ℕ) (rs : List Bounds) → all_of (λ (r : Bounds). leb r.high m) rs ≡ true → (k : ℕ) → (get_or rs k (0 to 0)).high ≤ m
 unfolding all_of
 highs_most m [] e k = omega arith
-highs_most m (r ∷ rs) e zero = leb-true _ _ (and_left (leb r.high m) (all_of (λ (q : Bounds). leb q.high m) rs) e)
-highs_most m (r ∷ rs) e (suc k) = highs_most m rs (and_right (leb r.high m) (all_of (λ (q : Bounds). leb q.high m) rs) e) k
+highs_most m (r ∷ rs) e zero = leb-true _ _ ((and_parts (leb r.high m) (all_of (λ (q : Bounds). leb q.high m) rs) e).0)
+highs_most m (r ∷ rs) e (suc k) = highs_most m rs ((and_parts (leb r.high m) (all_of (λ (q : Bounds). leb q.high m) rs) e).1) k
 
 pub header_most : (got : List ℕ) → (next_in_header got).high ≤ greatest_number
 unfolding header_ranges shared_ranges all_of

@@ -13,17 +13,15 @@ use lib.ListN.{length, get_or, drop, length-append, length-drop, drop_of_length-
 use lib.Dec.{leb, eqb}
 use borrow.Author.Tests.{leb-true, leb-false}
 use Rattle.base.specs.Answer.{Answer, accepted, refused, ◌>>=◌}
-use Rattle.refusal.specs.Refusal.{unless_refuse, number_of, value_of, refusal}
+use Rattle.refusal.specs.Refusal.{unless_refuse, number_of, value_of, refusal, answer_of}
 use Rattle.refusal.specs.declared.Refusal.TheVariants as Row
 use Rattle.refusal.specs.declared.Refusal.{Refusal}
-use Rattle.base.proofs.TestLaws.{and_intro}
+use Rattle.std.proofs.lemmas.Bool.{and_from}
 use Rattle.base.proofs.ListLaws.{snoc_each}
 use Rattle.refusal.proofs.RowLaws.{same_row}
-use Rattle.number.specs.declared.Read.{Read}
-use Rattle.number.specs.declared.Read.TheVariants.{Number, Ended, Malformed}
-use Rattle.number.specs.Number.{write_number, read_number, reading_of, number_at}
+use Rattle.number.specs.Number.{write_number, number, read_number, number_at}
 use Rattle.number.specs.Form.{Bytes}
-use Rattle.number.proofs.ReadLaws.{read_stands}
+use Rattle.number.proofs.ReadLaws.{Reads, a_number, ended_there, malformed_there, reads, read_stands}
 use Rattle.number.proofs.FormLaws.{read_ended, read_malformed}
 use Rattle.job.specs.declared.Header.{Header}
 use Rattle.job.specs.declared.Hazard.{Hazard}
@@ -42,7 +40,7 @@ use Rattle.job.proofs.StandLaws.{numbers_append, outside_of, row_refused}
 ranges_more : (range_of : List ℕ → Bounds) (xs : List ℕ) (x : ℕ) → in_ranges range_of [] xs ≡ true → within (range_of xs) x ≡ true
     → in_ranges range_of [] (xs ++ x ∷ []) ≡ true
 unfolding in_ranges
-ranges_more range_of xs x fit w = ranges_parts range_of [] xs (x ∷ []) ∙ and_intro fit (and_intro w refl)
+ranges_more range_of xs x fit w = ranges_parts range_of [] xs (x ∷ []) ∙ and_from _ _ fit (and_from _ _ w refl)
 
 hazards_append : (zs ys : List Hazard) → hazards_numbers (zs ++ ys) ≡ hazards_numbers zs ++ hazards_numbers ys
 unfolding hazards_numbers
@@ -98,7 +96,7 @@ more_room first long ys l = go (eqb (get_or first 0 0) 2) refl l
     go false e few = absurd (omega arith)
 
 module _ {s : List ℕ} (b : Bytes s) where
-  at_more : {g : Group} {got : List ℕ} {at : ℕ} (x n : ℕ) → At s g got at → read_number s at ≡ Number x n → within (next_in g got) x ≡ true
+  at_more : {g : Group} {got : List ℕ} {at : ℕ} (x n : ℕ) → At s g got at → read_number s at ≡ number x n → within (next_in g got) x ≡ true
       → At s g (got ++ x ∷ []) n
   unfolding write_numbers
   at_more {g} {got} {at} x n here e w =
@@ -124,7 +122,7 @@ module _ {s : List ℕ} (b : Bytes s) where
       → GroupSaid s g (read_fields (next_in g) (outside_of g) k got s at)
   unfolding read_fields number_at
   group_read g has zero got at room here = here
-  group_read g has (suc k) got at room here = go (read_number s at) refl (group_read g has k)
+  group_read g has (suc k) got at room here = go (reads s at) (group_read g has k)
     where
       next : NextNumber s g got (drop at s)
       next = record { has = has; more = rw append-nil at (room [] (omega arith)); stands = here.stands }
@@ -132,29 +130,29 @@ module _ {s : List ℕ} (b : Bytes s) where
       Later : Type 0
       Later = (l : List ℕ) (i : ℕ) → HasRoom g k l → At s g l i → GroupSaid s g (read_fields (next_in g) (outside_of g) k l s i)
 
-      tested : (x n : ℕ) → read_number s at ≡ Number x n → (t : Bool) → within (next_in g got) x ≡ t → Later
+      tested : (x n : ℕ) → read_number s at ≡ number x n → (t : Bool) → within (next_in g got) x ≡ t → Later
           → GroupSaid s g (unless_refuse t (outside_of g got) >>= λ _. read_fields (next_in g) (outside_of g) k (got ++ x ∷ []) s n)
       tested x n e true w later = later (got ++ x ∷ []) n (λ ys l. rw (append_assoc got (x ∷ []) ys) (room (x ∷ ys) (omega arith))) (at_more x n here e w)
       tested x n e false w later =
           let number = read_stands s at x n b e in
           outside_holds g got (record { number = x; rest = drop n s; next = subst (NextNumber s g got) number.split next; fits = number.fits; outside = w })
 
-      go : (c : Read) → read_number s at ≡ c → Later
-          → GroupSaid s g (reading_of at c >>= λ x. unless_refuse (within (next_in g got) x.value) (outside_of g got)
+      go : Reads s at → Later
+          → GroupSaid s g (answer_of (read_number s at) >>= λ x. unless_refuse (within (next_in g got) x.value) (outside_of g got)
           >>= λ _. read_fields (next_in g) (outside_of g) k (got ++ x.value ∷ []) s x.next)
-      go (Number x n) e later = tested x n e (within (next_in g got) x) refl later
-      go Ended e later = record {
+      go (a_number r e) later = rw e (tested r.value r.next e (within (next_in g got) r.value) refl later)
+      go (ended_there e) later = rw e (record {
         which = Row.Ended at;
         number = refl;
         value = refl;
         row = ended at refl (record { group = g; got = got; rest = drop at s; next = next; fault = (read_ended s at).0 e; begins = here.index });
-      }
-      go Malformed e later = record {
+      })
+      go (malformed_there e) later = rw e (record {
         which = Row.Malformed at;
         number = refl;
         value = refl;
         row = malformed at refl (record { group = g; got = got; rest = drop at s; next = next; fault = (read_malformed s at b).0 e; begins = here.index });
-      }
+      })
 
   -- The same numbers, taken to another group.
   at_group : {g q : Group} {got own : List ℕ} {at : ℕ} → numbers_before g ++ got ≡ numbers_before q ++ own → BeforeFits q → in_ranges (next_in q) [] own ≡ true

@@ -14,11 +14,12 @@ use lib.Dec.{eqb}
 use borrow.Author.Tests.{lt-leb, eqb-true}
 use Rattle.base.specs.Answer.{accepted, refused}
 use Rattle.base.proofs.ListLaws.{drop_after}
-use Rattle.refusal.specs.Refusal.{refusal, number_of, value_of}
+use Rattle.refusal.specs.declared.Refusal.TheVariants as Row
+use Rattle.refusal.specs.Refusal.{refusal, number_of, value_of, answer_of}
 use Rattle.refusal.specs.declared.Refusal.{Refusal}
-use Rattle.number.specs.declared.Read.{Read}
-use Rattle.number.specs.declared.Read.TheVariants.{Ended, Malformed}
-use Rattle.number.specs.Number.{write_number, greatest_number, read_number, reading_of, number_at}
+use Rattle.std.specs.Prelude.{Result, Err}
+use Rattle.number.specs.declared.Reading.{Reading}
+use Rattle.number.specs.Number.{write_number, greatest_number, read_number, number_at}
 use Rattle.number.proofs.ReadLaws.{read_number_lem}
 use Rattle.number.proofs.FormLaws.{read_ended, ill_formed}
 use Rattle.job.specs.declared.Header.{Header}
@@ -203,8 +204,8 @@ module _ {s : List ℕ} where
   rest_behind : {g : Group} {got rest : List ℕ} → BeginsWith s g got rest → drop (index_after g got) s ≡ rest
   rest_behind {g} {got} {rest} stands = rw stands.bytes (drop-append_seam (write_numbers (numbers_before g ++ got)) rest)
 
-  unread_refused : {Fault : List ℕ → Type 0} {at : ℕ} (n : ℕ) (c : Read) → ((i : ℕ) → reading_of i c ≡ refused n i)
-      → ((i : ℕ) → Fault (drop i s) → read_number s i ≡ c)
+  unread_refused : {Fault : List ℕ → Type 0} {at : ℕ} (n : ℕ) (c : ℕ → Result Reading Refusal) → ((i : ℕ) → answer_of (c i) ≡ refused n i)
+      → ((i : ℕ) → Fault (drop i s) → read_number s i ≡ c i)
       → Unread Fault s at → read_job s ≡ refused n at
   unfolding read_fields number_at
   unread_refused n c number fault w =
@@ -226,8 +227,8 @@ module _ {s : List ℕ} where
       job_behind 0 w.stands (omega (arith, w.all)) ∙ rw (lt-leb (length s) (index_after g []) longer, w.first)
 
 pub row_refused : (s : List ℕ) (r : Refusal) → ReadRow r s → read_job s ≡ refusal r
-row_refused s r (ended at e w) = unread_refused 1 Ended (λ i. refl) (λ i. (read_ended s i).1) w ∙ ap refusal (sym e)
-row_refused s r (malformed at e w) = unread_refused 2 Malformed (λ i. refl) (λ i. ill_formed s i) w ∙ ap refusal (sym e)
+row_refused s r (ended at e w) = unread_refused 1 (λ i. Err (Row.Ended i)) (λ i. refl) (λ i. (read_ended s i).1) w ∙ ap refusal (sym e)
+row_refused s r (malformed at e w) = unread_refused 2 (λ i. Err (Row.Malformed i)) (λ i. refl) (λ i. ill_formed s i) w ∙ ap refusal (sym e)
 row_refused s r (header_range got e w) = outside_refused w ∙ ap refusal (sym e)
 row_refused s r (hazard_range h before got e w) = outside_refused w ∙ ap refusal (sym e)
 row_refused s r (left_over at e w) = after_refused w ∙ ap refusal (sym e)

@@ -1,5 +1,5 @@
 pub mod Job
-pub mod Given
+pub mod Hazards
 pub mod Reply
 pub mod Writing
 pub mod Fits

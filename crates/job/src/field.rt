@@ -1,47 +1,33 @@
-// A number with its range.
-ghost use Rattle.std.specs.Prelude.{◌≡◌, List, ℕ};
-ghost use Rattle.number.specs.Number.{read_number};
-ghost use Rattle.job.specs.Job.{◌to◌};
-ghost use Rattle.job.specs.Reply.{field_at, field_answer};
+// Job bytes read number by number, each for its range.
+ghost use Rattle.std.specs.Prelude.{◌≡◌};
+ghost use Rattle.refusal.specs.Refusal.{answer_of};
+ghost use Rattle.job.specs.Reply.{field_at, moved};
 
-use number::Read;
+use super::Bounds;
+use number::read_number;
 use refusal::Refusal;
 
-// A number that was read, and the index behind it.
+// Bytes, and the index that is read next.
 #[derive(Clone, Copy)]
-pub struct Reading {
-    pub value: u64,
-    pub next: usize,
+pub struct Reader<'a> {
+    pub bytes: &'a [u8],
+    pub at: usize,
 }
 
-#[derive(Clone, Copy)]
-pub enum Field {
-    Number(Reading),
-    Refused(Refusal),
-}
-
-// What was read at an index, from low to high; `outside` is the refusal of a number that is not.
-pub fn ranged(read: Read, at: usize, low: u64, high: u64, outside: Refusal) -> Field
-    ensures { (s : List ℕ) → read ≡ read_number s at → field_answer result ≡ field_at (low to high) outside s at }
-{
-    match read {
-        Read::Number { value, next } => {
-            if value < low {
-                return Field::Refused(outside);
-            }
-            if high < value {
-                return Field::Refused(outside);
-            }
-            Field::Number(Reading { value, next })
+impl<'a> Reader<'a> {
+    // The next number, in its range; `outside` is the refusal of one that is not.
+    pub fn field(&mut self, range: Bounds, outside: Refusal) -> Result<u64, Refusal>
+        ensures same { self.new.bytes ≡ self.old.bytes }
+        ensures value { answer_of (moved result self.new.at) ≡ field_at range outside self.old.bytes.now self.old.at }
+    {
+        let reading = read_number(self.bytes, self.at)?;
+        if reading.value < range.low {
+            return Err(outside);
         }
-        Read::Ended => Field::Refused(Refusal::Ended(at)),
-        Read::Malformed => Field::Refused(Refusal::Malformed(at)),
+        if range.high < reading.value {
+            return Err(outside);
+        }
+        self.at = reading.next;
+        Ok(reading.value)
     }
-}
-
-// The number at an index, from low to high; `outside` is the refusal of one that is not.
-pub fn read_field(s: &[u8], at: usize, low: u64, high: u64, outside: Refusal) -> Field
-    ensures { field_answer result ≡ field_at (low to high) outside s.now at }
-{
-    ranged(number::read_number(s, at), at, low, high, outside)
 }

@@ -1,18 +1,19 @@
 // A hazard's six numbers.
 ghost use Rattle.std.specs.Prelude.{◌≡◌, ◌<◌, get_or};
+ghost use Rattle.refusal.specs.Refusal.{answer_of};
 ghost use Rattle.job.specs.Job.{◌to◌, hazard_ranges};
 ghost use Rattle.job.specs.Fits.{hazard_in_range};
-ghost use Rattle.job.specs.Reply.{read_hazard_at, hazard_answer};
+ghost use Rattle.job.specs.Reply.{read_hazard_at};
 
-use super::field::{Field, read_field};
+use super::field::Reader;
 use super::{Bounds, Hazard, Header};
 use refusal::Refusal;
 
+// A hazard that was read, and the byte index behind it. The index stands first: the byte that names a refusal overlies the first field.
 #[derive(Clone, Copy)]
-pub enum HazardRead {
-    // A hazard, and the byte index behind it.
-    Hazard { hazard: Hazard, next: usize },
-    Refused(Refusal),
+pub struct HazardReading {
+    pub next: usize,
+    pub hazard: Hazard,
 }
 
 // The range of the hazard number behind k others, where the hazard begins at start, at the near offset near; these go for the numbers behind them.
@@ -46,25 +47,27 @@ pub fn in_range(header: Header, z: Hazard) -> bool
 }
 
 // The hazard with this index, whose first number begins at byte index first.
-pub fn read_hazard(s: &[u8], first: usize, header: Header, index: usize) -> HazardRead
+// Compiled into each walk.
+#[inline(always)]
+pub fn read_hazard(
+    s: &[u8],
+    first: usize,
+    header: Header,
+    index: usize,
+) -> Result<HazardReading, Refusal>
     requires { 0 < header.end }
-    ensures { hazard_answer result ≡ read_hazard_at header index s.now first }
+    ensures { answer_of result ≡ read_hazard_at header index s.now first }
 {
     let mut numbers = [0u64; 6];
-    let mut at = first;
-    let mut k: usize = 0;
-    while k < 6 {
+    let mut reader = Reader {
+        bytes: s,
+        at: first,
+    };
+    for k in 0..6 {
         let range = hazard_range(k, header, numbers[1], numbers[3]);
-        match read_field(s, at, range.low, range.high, Refusal::HazardRange(index)) {
-            Field::Number(reading) => {
-                numbers[k] = reading.value;
-                at = reading.next;
-            }
-            Field::Refused(refusal) => return HazardRead::Refused(refusal),
-        }
-        k += 1;
+        numbers[k] = reader.field(range, Refusal::HazardRange(index))?;
     }
-    HazardRead::Hazard {
+    Ok(HazardReading {
         hazard: Hazard {
             side: numbers[0] as u8,
             start: numbers[1],
@@ -73,6 +76,6 @@ pub fn read_hazard(s: &[u8], first: usize, header: Header, index: usize) -> Haza
             far: numbers[4] as u16,
             level: numbers[5] as u8,
         },
-        next: at,
-    }
+        next: reader.at,
+    })
 }

@@ -1,17 +1,18 @@
 // The header's numbers: fourteen, of a kind 2 job fifteen.
 ghost use Rattle.std.specs.Prelude.{◌≡◌, ◌<◌, ◌≤◌, length, get_or};
+ghost use Rattle.refusal.specs.Refusal.{answer_of};
 ghost use Rattle.job.specs.Job.{◌to◌, header_ranges, header_size, header_with};
-ghost use Rattle.job.specs.Reply.{header_at, header_from, header_answer};
+ghost use Rattle.job.specs.Reply.{header_at, header_from};
 
-use super::field::{Field, read_field};
+use super::field::Reader;
 use super::{Bounds, Header, road_top};
 use refusal::Refusal;
 
+// A header that was read, and the index behind it.
 #[derive(Clone, Copy)]
-pub enum HeaderRead {
-    // The header, and the index behind it.
-    Header { header: Header, next: usize },
-    Refused(Refusal),
+pub struct HeaderReading {
+    pub header: Header,
+    pub next: usize,
 }
 
 // The header table's ranges of kind 2, where the road begins at 0. Kind 1 has no panel length, and its hazard count is number 14.
@@ -116,45 +117,35 @@ pub fn header_with(numbers: [u64; 14], panel: u64, count: u64) -> Header
 }
 
 // The fifteenth number of a kind 2 header, behind the fourteen before it.
-fn read_count(s: &[u8], numbers: [u64; 14], at: usize) -> HeaderRead
+fn read_count(s: &[u8], numbers: [u64; 14], at: usize) -> Result<HeaderReading, Refusal>
     requires numbers_len { length numbers ≡ 14 }
     requires kind_2 { get_or numbers 0 0 ≡ 2 }
-    ensures { header_answer result ≡ header_from numbers s.now at }
+    ensures { answer_of result ≡ header_from numbers s.now at }
 {
-    let range = RANGES[14];
-    match read_field(s, at, range.low, range.high, Refusal::HeaderRange(15)) {
-        Field::Number(reading) => HeaderRead::Header {
-            header: header_with(numbers, numbers[13], reading.value),
-            next: reading.next,
-        },
-        Field::Refused(refusal) => HeaderRead::Refused(refusal),
-    }
+    let mut reader = Reader { bytes: s, at };
+    let count = reader.field(RANGES[14], Refusal::HeaderRange(15))?;
+    Ok(HeaderReading {
+        header: header_with(numbers, numbers[13], count),
+        next: reader.at,
+    })
 }
 
-pub fn read_header(s: &[u8]) -> HeaderRead
-    ensures { header_answer result ≡ header_at s.now }
+pub fn read_header(s: &[u8]) -> Result<HeaderReading, Refusal>
+    ensures { answer_of result ≡ header_at s.now }
 {
     // The table is laid out once for all numbers.
     let ranges = RANGES;
     let mut numbers = [0u64; 14];
-    let mut at: usize = 0;
-    let mut k: usize = 0;
-    while k < 14 {
+    let mut reader = Reader { bytes: s, at: 0 };
+    for k in 0..14 {
         let range = header_range(k, ranges[k], numbers[0], numbers[1]);
-        match read_field(s, at, range.low, range.high, Refusal::HeaderRange(k + 1)) {
-            Field::Number(reading) => {
-                numbers[k] = reading.value;
-                at = reading.next;
-            }
-            Field::Refused(refusal) => return HeaderRead::Refused(refusal),
-        }
-        k += 1;
+        numbers[k] = reader.field(range, Refusal::HeaderRange(k + 1))?;
     }
     if numbers[0] == 2 {
-        return read_count(s, numbers, at);
+        return read_count(s, numbers, reader.at);
     }
-    HeaderRead::Header {
+    Ok(HeaderReading {
         header: header_with(numbers, 1, numbers[13]),
-        next: at,
-    }
+        next: reader.at,
+    })
 }

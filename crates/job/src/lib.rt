@@ -1,7 +1,7 @@
 // A job: the header's numbers and up to 256 hazards, by value.
 #![tactic(auto)]
 
-mod field; // a number with its range
+pub mod field; // a number with its range
 pub mod header_fields; // the header
 pub mod hazard_fields; // a hazard
 mod within; // a hazard of the usual form, read from words
@@ -9,7 +9,6 @@ pub mod read; // hazards one after the other, and what opening reads
 
 ghost use Rattle.std.specs.Prelude.{◌≡◌, ◌+◌, ◌≤◌, min};
 ghost use Rattle.job.specs.Job as specs;
-ghost use Rattle.job.specs.Given as given;
 
 // The bounds of a range, both included.
 #[derive(Clone, Copy)]
@@ -98,47 +97,38 @@ pub fn road_top(begin: u64) -> u64
     requires { begin ≤ 999999999999 }
     ensures { result ≡ min 1000000000000 (begin + 2000000000) }
 {
-    let longest = begin + 2000000000;
-    if longest < 1000000000000 {
-        longest
-    } else {
-        1000000000000
+    1000000000000u64.min(begin + 2000000000)
+}
+
+impl Hazard {
+    // This hazard, stored under a name.
+    pub fn named(self, name: u16) -> NamedHazard
+        ensures { result ≡ specs.named name self }
+    {
+        NamedHazard {
+            start: self.start,
+            end: self.end,
+            near: self.near,
+            far: self.far,
+            name,
+            side: self.side,
+            level: self.level,
+        }
     }
 }
 
-pub fn named(name: u16, z: Hazard) -> NamedHazard
-    ensures { result ≡ specs.named name z }
-{
-    NamedHazard {
-        start: z.start,
-        end: z.end,
-        near: z.near,
-        far: z.far,
-        name,
-        side: z.side,
-        level: z.level,
-    }
-}
+// A stored hazard without its name.
+impl From<NamedHazard> for Hazard {
+    ghost from_gives = { λ stored hazard. hazard ≡ specs.unnamed stored };
 
-pub fn unnamed(z: NamedHazard) -> Hazard
-    ensures { result ≡ specs.unnamed z }
-{
-    Hazard {
-        start: z.start,
-        end: z.end,
-        near: z.near,
-        far: z.far,
-        side: z.side,
-        level: z.level,
+    fn from(stored: NamedHazard) -> Hazard {
+        Hazard {
+            start: stored.start,
+            end: stored.end,
+            near: stored.near,
+            far: stored.far,
+            side: stored.side,
+            level: stored.level,
+        }
     }
-}
-
-// A hazard's numbers but for its stations and its name, in one.
-pub fn packed(z: NamedHazard) -> u64
-    ensures { result ≡ given.packed z }
-{
-    z.near as u64
-        + z.far as u64 * 65536
-        + z.side as u64 * 4294967296
-        + z.level as u64 * 1099511627776
 }

@@ -1,74 +1,114 @@
-// Hazards one after the other, from bytes or from numbers in memory; and what opening reads.
-ghost use Rattle.std.specs.Prelude.{◌≡◌, ◌*◌, ◌<◌, length};
-ghost use Rattle.job.specs.Given.{unpacked, given_hazards};
-ghost use Rattle.job.specs.Reply.{next_hazard, hazard_answer, read_opening, opening_answer};
+// Hazards one after the other, from bytes or from the places of a stored job; and what opening reads.
+ghost use Rattle.std.specs.Prelude.{◌≡◌, ℕ, suc, ◌<◌, List, length, ltb, IfOk};
+ghost use Rattle.base.specs.Answer.{Answer};
+ghost use Rattle.refusal.specs.Refusal.{answer_of};
+ghost use Rattle.job.specs.declared.Hazard.{Hazard};
+ghost use Rattle.job.specs.declared.Header.{Header};
+ghost use Rattle.job.specs.Job.{Job, read_rest};
+ghost use Rattle.job.specs.Fits.{HeaderFits, HazardFits};
+ghost use Rattle.job.specs.Hazards.{after_hazard, after_all, stored_rest, PlacesFit};
+ghost use Rattle.job.specs.Reply.{read_hazard_at, read_opening};
 
-use super::hazard_fields::{HazardRead, read_hazard};
-use super::header_fields::{HeaderRead, header_size, read_header};
+use super::field::Reader;
+use super::hazard_fields::{HazardReading, read_hazard};
+use super::header_fields::{header_size, read_header};
 use super::within::read_usual;
-use super::{Hazard, Header};
+use super::{Hazard, Header, NamedHazard};
 use refusal::Refusal;
 
-// What opening reads.
+// Where the hazards behind a header come from.
+pub trait Hazards {
+    // What the source must meet for a header.
+    ghost fits: { Self → Header → Type 0 };
+    // The job of the hazards in a list and the next k of the source, or the refusal.
+    ghost rest: { Self → Header → (k : ℕ) → (got : List Hazard) → Answer Job };
+
+    // The next hazard, which has this index. `header_fits` stays a clause because a type of headers in their ranges would save it and make every other
+    // clause longer (`header.now.header`).
+    fn next(&mut self, header: &Header, index: usize) -> Result<Hazard, Refusal>
+        requires header_fits { HeaderFits header.now }
+        requires index_bound { index < header.now.count }
+        requires source_fits { fits self.old header.now }
+        ensures rest { (k : ℕ) (got : List Hazard) → length got ≡ index → rest self.old header.now (suc k) got ≡ after_hazard got result (rest self.new header.now k) }
+        ensures hazard_fits { IfOk result (HazardFits header.now) }
+        ensures still_fits { fits self.new header.now };
+
+    // After the last hazard: refusal 7 of what is left over.
+    fn end(&self) -> Result<(), Refusal>
+        ensures { (h : Header) (got : List Hazard) → rest self.now h 0 got ≡ after_all h got result };
+}
+
+// The places of a stored job.
 #[derive(Clone, Copy)]
-pub enum Opening {
-    // The header of job bytes that carry no hazard.
-    Header(Header),
-    Refused(Refusal),
+pub struct Places<'a> {
+    pub places: &'a [NamedHazard],
 }
 
-// The hazard of three numbers: its stations, and the others in one.
-fn unpacked(start: u64, end: u64, rest: u64) -> Hazard
-    ensures { result ≡ unpacked start end rest }
+// The hazard with this index, read from byte index `at` on. Reading is compiled into each walk, because calls take 40 to 50 instructions
+// more per hazard; kept apart from `next`, because two exits there take up to 17 more.
+#[inline(always)]
+fn next_hazard(s: &[u8], at: usize, header: &Header, index: usize) -> Result<HazardReading, Refusal>
+    requires { 0 < header.now.end }
+    ensures { answer_of result ≡ read_hazard_at header.now index s.now at }
 {
-    Hazard {
-        start,
-        end,
-        near: (rest % 65536) as u16,
-        far: (rest / 65536 % 65536) as u16,
-        side: (rest / 4294967296 % 256) as u8,
-        level: (rest / 1099511627776 % 256) as u8,
+    if let Some(reading) = read_usual(s, at, *header) {
+        return Ok(reading);
+    }
+    read_hazard(s, at, *header, index)
+}
+
+impl<'a> Hazards for Reader<'a> {
+    ghost fits = { λ r h. Unit {0} };
+
+    ghost rest = { λ r h k got. read_rest h k got r.bytes.now r.at };
+
+    // Compiled into each walk.
+    #[inline(always)]
+    fn next(&mut self, header: &Header, index: usize) -> Result<Hazard, Refusal> {
+        let reading = next_hazard(self.bytes, self.at, header, index)?;
+        self.at = reading.next;
+        Ok(reading.hazard)
+    }
+
+    fn end(&self) -> Result<(), Refusal> {
+        if self.at < self.bytes.len() {
+            return Err(Refusal::LeftOver(self.at));
+        }
+        Ok(())
     }
 }
 
-// The hazard with this index. The first are given as numbers, three each, where there are no bytes; the others are read from byte index `at` on.
-pub fn next_hazard(s: &[u8], at: usize, header: Header, given: &[u64], index: usize) -> HazardRead
-    requires end_nonzero { 0 < header.end }
-    requires index_bound { index < 256 }
-    requires given_len { length given.now ≡ 3 * length (given_hazards given.now) }
-    requires no_bytes_if_given { 0 < length given.now → length s.now ≡ 0 }
-    ensures { hazard_answer result ≡ next_hazard header (given_hazards given.now) index s.now at }
+impl<'a> Hazards for Places<'a> {
+    ghost fits = { λ p h. PlacesFit p.places.now h };
+
+    ghost rest = { λ p h k got. stored_rest p.places.now h k got };
+
+    fn next(&mut self, header: &Header, index: usize) -> Result<Hazard, Refusal> {
+        Ok(Hazard::from(self.places[index]))
+    }
+
+    fn end(&self) -> Result<(), Refusal> {
+        Ok(())
+    }
+}
+
+fn carries_hazards(header: Header) -> bool
+    ensures { result ≡ ltb 0 header.count }
 {
-    let usual = read_usual(s, at, header);
-    let next = usual.next;
-    if 0 < next {
-        let hazard = usual.hazard;
-        return HazardRead::Hazard { hazard, next };
-    }
-    let first = index * 3;
-    if first < given.len() {
-        return HazardRead::Hazard {
-            hazard: unpacked(given[first], given[first + 1], given[first + 2]),
-            next: at,
-        };
-    }
-    read_hazard(s, at, header, index)
+    0 < header.count
 }
 
 // Job bytes that carry no hazard are read as a job is; a hazard count above 0 is 3.
-pub fn read_opening(s: &[u8]) -> Opening
-    ensures { opening_answer result ≡ read_opening s.now }
+pub fn read_opening(s: &[u8]) -> Result<Header, Refusal>
+    ensures { answer_of result ≡ read_opening s.now }
 {
-    match read_header(s) {
-        HeaderRead::Header { header, next } => {
-            if 0 < header.count {
-                return Opening::Refused(Refusal::HeaderRange(header_size(header.kind)));
-            }
-            if next < s.len() {
-                return Opening::Refused(Refusal::LeftOver(next));
-            }
-            Opening::Header(header)
-        }
-        HeaderRead::Refused(refusal) => Opening::Refused(refusal),
+    let reading = read_header(s)?;
+    let header = reading.header;
+    if carries_hazards(header) {
+        return Err(Refusal::HeaderRange(header_size(header.kind)));
     }
+    if reading.next < s.len() {
+        return Err(Refusal::LeftOver(reading.next));
+    }
+    Ok(header)
 }

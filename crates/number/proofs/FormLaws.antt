@@ -1,6 +1,6 @@
 -- Exactly which bytes are ended inside a number, and which are malformed; 64 bits hold every value that is read.
 -- Assumes nothing.
-use Rattle.std.specs.Prelude.{if◌then◌else◌}
+use Rattle.std.specs.Prelude.{if◌then◌else◌, Result, Err}
 use Prim.Native.Nat.{ℕ, zero, suc, ◌+◌, ◌-◌, ◌≤◌, ◌<◌}
 use native.Mathlib.Omega.{arith}
 use native.Mathlib.Decide.{dec_lt, dec_le}
@@ -13,9 +13,10 @@ use lib.ListN.{length, drop}
 use lib.Dec.{leb, eqb}
 use borrow.Author.Tests.{lt-leb, le-leb, eqb-false, ne_eqb}
 use Rattle.base.proofs.ListLaws.{cons_each}
-use Rattle.number.specs.declared.Read.{Read}
-use Rattle.number.specs.declared.Read.TheVariants.{Number, Ended, Malformed}
-use Rattle.number.specs.Number.{write_number, most_groups, greatest_number, group_count, Scan, cut, overlong, whole, prefixed, scan, read_of, read_number}
+use Rattle.refusal.specs.declared.Refusal.{Refusal}
+use Rattle.refusal.specs.declared.Refusal.TheVariants.{Ended, Malformed}
+use Rattle.number.specs.declared.Reading.{Reading}
+use Rattle.number.specs.Number.{write_number, most_groups, greatest_number, group_count, Scan, cut, overlong, whole, prefixed, scan, number, read_of, read_number}
 use Rattle.number.specs.Form.{TopBits, EndsInside, IllFormed, sixth, long, Bytes}
 use Rattle.number.proofs.ScanLaws.{scan_last, scan_more, scan_most}
 use Rattle.number.proofs.WriteLaws.{group_count_lem}
@@ -75,12 +76,10 @@ unfit value groups = (to (dec_le value greatest_number), back (dec_le value grea
     back (no l) h = rw (lt-leb value greatest_number (omega arith))
 
 -- What is wrong with the bytes of a number that was not read.
-abbrev Formed : Read → List ℕ → Type 0
-Formed (Number value next) s = Unit {0}
-Formed Ended s = EndsInside s
-Formed Malformed s = Bytes s → IllFormed s
+abbrev Formed : (at : ℕ) → Result Reading Refusal → List ℕ → Type 0
+Formed at c s = (c ≡ Err (Ended at) → EndsInside s) × (c ≡ Err (Malformed at) → Bytes s → IllFormed s)
 
-formed : (at : ℕ) (s : List ℕ) → Formed (read_of at (scan most_groups s)) s
+formed : (at : ℕ) (s : List ℕ) → Formed at (read_of at (scan most_groups s)) s
 formed at s = go (scan most_groups s) refl (scanned most_groups s)
   where
     -- "No longer at the value": no six bytes make one that is too great.
@@ -89,31 +88,31 @@ formed at s = go (scan most_groups s) refl (scanned most_groups s)
     why value groups p (inr h) b = long value groups p h
 
     judge : (value groups : ℕ) → scan most_groups s ≡ whole value groups → (t : Bool) → (leb value greatest_number && eqb groups (length (write_number value))) ≡ t
-        → Formed (if t then Number value (at + groups) else Malformed) s
-    judge value groups p true h = tt
-    judge value groups p false h = why value groups p ((unfit value groups).0 h)
+        → Formed at (if t then number value (at + groups) else Err (Malformed at)) s
+    judge value groups p true h = (λ e. cc, λ e. cc)
+    judge value groups p false h = (λ e. cc, λ e. why value groups p ((unfit value groups).0 h))
 
-    go : (c : Scan) → scan most_groups s ≡ c → Scanned most_groups s c → Formed (read_of at c) s
-    go cut p t = record { few = t.0; unended = t.1 }
-    go overlong p t = λ b. sixth t.0 t.1 t.2 t.3 t.4
+    go : (c : Scan) → scan most_groups s ≡ c → Scanned most_groups s c → Formed at (read_of at c) s
+    go cut p t = (λ e. record { few = t.0; unended = t.1 }, λ e. cc)
+    go overlong p t = (λ e. cc, λ e b. sixth t.0 t.1 t.2 t.3 t.4)
     go (whole value groups) p t = judge value groups p (leb value greatest_number && eqb groups (length (write_number value))) refl
 
 module _ (s : List ℕ) (at : ℕ) where
   -- 1: "job bytes end before or inside a number", and no other.
-  pub read_ended : (read_number s at ≡ Ended) ↔ EndsInside (drop at s)
+  pub read_ended : (read_number s at ≡ Err (Ended at)) ↔ EndsInside (drop at s)
   unfolding read_number
-  read_ended = (λ e. rw e at (formed at (drop at s)), λ i. rw (scan_cut most_groups (drop at s) i.few i.unended))
+  read_ended = (λ e. (formed at (drop at s)).0 e, λ i. rw (scan_cut most_groups (drop at s) i.few i.unended))
 
-  pub ill_formed : IllFormed (drop at s) → read_number s at ≡ Malformed
+  pub ill_formed : IllFormed (drop at s) → read_number s at ≡ Err (Malformed at)
   unfolding read_number
   ill_formed (sixth six rest e size t) = rw (e, sym size, scan_overlong six rest t)
   ill_formed (long value groups e h) = rw (e, (unfit value groups).1 (inr h))
 
   -- 2: the sixth byte has the top bit set, "or it isn't in shortest form", and no other: "no longer at the value".
-  pub read_malformed : Bytes s → (read_number s at ≡ Malformed) ↔ IllFormed (drop at s)
+  pub read_malformed : Bytes s → (read_number s at ≡ Err (Malformed at)) ↔ IllFormed (drop at s)
   unfolding read_number
-  read_malformed b = (λ e. (rw e at (formed at (drop at s))) (drop_bytes at s b), ill_formed)
+  read_malformed b = (λ e. (formed at (drop at s)).1 e (drop_bytes at s b), ill_formed)
 
   -- "The reader gathers in 64 bits": no value that is read passes what six groups make, 42 bits.
-  pub value_most : (value next : ℕ) → read_number s at ≡ Number value next → value ≤ 4398046511103
+  pub value_most : (value next : ℕ) → read_number s at ≡ number value next → value ≤ 4398046511103
   value_most value next e = (read_bounds s at value next e).fits

@@ -9,8 +9,9 @@ use mathlib.Core.List.{List, ◌∷◌}
 use lib.ListN.{length, get_or, drop, drop_of_length-le}
 use lib.Seq.{drop-cons}
 use borrow.Author.Tests.{le-leb, eq-eqb, ne_eqb}
-use Rattle.number.specs.declared.Read.TheVariants.{Number, Ended, Malformed}
-use Rattle.number.specs.Number.{write_in, write_number, greatest_number, Scan, cut, overlong, whole, prefixed, scan, read_of, read_number}
+use Rattle.std.specs.Prelude.{Err}
+use Rattle.refusal.specs.declared.Refusal.TheVariants.{Ended, Malformed}
+use Rattle.number.specs.Number.{write_in, write_number, greatest_number, Scan, cut, overlong, whole, prefixed, scan, number, read_of, read_number}
 use Rattle.number.specs.Groups.{after_groups, read_after_groups}
 use Rattle.number.proofs.ScanLaws.{scan_last, scan_more}
 use Rattle.number.proofs.WriteLaws.{small_length, length_below, length_above}
@@ -50,7 +51,7 @@ module _ (left i : ℕ) (s : List ℕ) (some : 0 < left) (there : i < length s) 
 -- The last group, behind others: needless, or all is well.
 module _ (at low weight passed : ℕ) (some : 0 < passed) (most : passed < 6) (counts : weight ≡ 128 ^ passed) (under : low < weight) where
   -- Where it is 0, fewer groups were enough.
-  pub last_needless : read_of at (after_groups low weight passed (whole 0 1)) ≡ Malformed
+  pub last_needless : read_of at (after_groups low weight passed (whole 0 1)) ≡ Err (Malformed at)
   unfolding write_number
   last_needless =
       let one : suc (passed - 1) ≡ passed = omega arith in
@@ -59,7 +60,7 @@ module _ (at low weight passed : ℕ) (some : 0 < passed) (most : passed < 6) (c
       simp (le-leb (low + weight * 0) greatest_number (omega arith), ne_eqb (passed + 1) (length (write_in 6 (low + weight * 0))) (λ e. omega arith))
 
   pub last_whole : (b : ℕ) → 0 < b → b < 128 → low + weight * b ≤ greatest_number
-      → read_of at (after_groups low weight passed (whole b 1)) ≡ Number (low + weight * b) (at + (passed + 1))
+      → read_of at (after_groups low weight passed (whole b 1)) ≡ number (low + weight * b) (at + (passed + 1))
   unfolding write_number
   last_whole b pos h fits =
       let least = mul-le-mul_left {m = 1} {n = b} weight pos in
@@ -70,12 +71,12 @@ module _ (at low weight passed : ℕ) (some : 0 < passed) (most : passed < 6) (c
 
 -- A number read group by group
 
-pub read_none : (s : List ℕ) (at : ℕ) → length s ≤ at → read_number s at ≡ Ended
+pub read_none : (s : List ℕ) (at : ℕ) → length s ≤ at → read_number s at ≡ Err (Ended at)
 unfolding read_number
 read_none s at h = rw (scan_ended 6 at s (omega arith) h)
 
 -- The first group is the last.
-pub read_one : (s : List ℕ) (at : ℕ) → at < length s → get_or s at 0 < 128 → read_number s at ≡ Number (get_or s at 0) (at + 1)
+pub read_one : (s : List ℕ) (at : ℕ) → at < length s → get_or s at 0 < 128 → read_number s at ≡ number (get_or s at 0) (at + 1)
 unfolding read_number
 read_one s at there h = rw (scan_last_at 6 at s (omega arith) there h, le-leb (get_or s at 0) greatest_number (omega arith), small_length (get_or s at 0) h)
 
@@ -85,12 +86,12 @@ unfolding read_number read_after_groups
 read_first s at there h = ap (read_of at) (scan_more_at 6 at s (omega arith) there h ∙ behind_first (get_or s at 0 - 128) (scan 5 (drop (at + 1) s)))
 
 -- Behind six groups nothing is a number.
-pub read_overlong : (low weight : ℕ) (s : List ℕ) (at : ℕ) → read_after_groups low weight 6 s at ≡ Malformed
+pub read_overlong : (low weight : ℕ) (s : List ℕ) (at : ℕ) → read_after_groups low weight 6 s at ≡ Err (Malformed at)
 unfolding read_after_groups scan
 read_overlong low weight s at = refl
 
 module _ (low weight passed : ℕ) (s : List ℕ) (at : ℕ) (most : passed < 6) where
-  pub read_cut_short : length s ≤ at + passed → read_after_groups low weight passed s at ≡ Ended
+  pub read_cut_short : length s ≤ at + passed → read_after_groups low weight passed s at ≡ Err (Ended at)
   unfolding read_after_groups
   read_cut_short h = rw (scan_ended (6 - passed) (at + passed) s (omega arith) h)
 
@@ -111,11 +112,11 @@ module _ (low weight passed : ℕ) (s : List ℕ) (at : ℕ) (most : passed < 6)
     read_last h = ap (λ (r : Scan). read_of at (after_groups low weight passed r)) (scan_last_at (6 - passed) (at + passed) s (omega arith) there h)
 
     module _ (some : 0 < passed) (counts : weight ≡ 128 ^ passed) (under : low < weight) where
-      pub read_needless : get_or s (at + passed) 0 ≡ 0 → read_after_groups low weight passed s at ≡ Malformed
+      pub read_needless : get_or s (at + passed) 0 ≡ 0 → read_after_groups low weight passed s at ≡ Err (Malformed at)
       read_needless none = read_last (omega arith) ∙ rw none (last_needless at low weight passed some most counts under)
 
       pub read_whole : 0 < get_or s (at + passed) 0 → get_or s (at + passed) 0 < 128 → low + weight * get_or s (at + passed) 0 ≤ greatest_number
-          → read_after_groups low weight passed s at ≡ Number (low + weight * get_or s (at + passed) 0) (at + (passed + 1))
+          → read_after_groups low weight passed s at ≡ number (low + weight * get_or s (at + passed) 0) (at + (passed + 1))
       read_whole pos h fits = read_last h ∙ last_whole at low weight passed some most counts under (get_or s (at + passed) 0) pos h fits
 
 -- A group less its top bit.
@@ -124,3 +125,7 @@ group_less low weight b h =
     let parts : b ≡ (b - 128) + 128 = omega arith in
     let split : weight * b ≡ weight * (b - 128) + weight * 128 = ap (λ (m : ℕ). weight * m) parts ∙ mul-add weight (b - 128) 128 in
     omega arith
+
+-- No group counts for more than the sixth.
+pub most_weight : (weight passed : ℕ) → passed < 6 → weight ≡ 128 ^ passed → weight ≤ 34359738368
+most_weight weight passed most counts = rw counts (pow-le-pow_right {n = 128} (omega arith) {i = passed} {j = 5} (omega arith))

@@ -9,7 +9,6 @@ use mathlib.Core.List.Memᴰ
 use mathlib.Core.List.{List, [], ◌∷◌, ◌++◌}
 use lib.ListN.{length}
 use borrow.Author.Tests.{lt-ltb, le-ltb}
-use Rattle.base.proofs.TestLaws.{impossible}
 use Rattle.number.specs.Number.{write_in, Scan, cut, overlong, whole, prefixed, scan}
 use Rattle.number.proofs.WriteLaws.{write_last, write_more}
 use Rattle.number.specs.Form.{Bytes}
@@ -32,8 +31,8 @@ ends : (k x : ℕ) (xs : List ℕ) (v n : ℕ) → scan (suc k) (x ∷ xs) ≡ w
 ends k x xs v n e = go (dec_lt x 128)
   where
     rest : 128 ≤ x → (c : Scan) → scan k xs ≡ c → prefixed (x - 128) c ≡ whole v n → Ends k x xs v n
-    rest h cut p q = impossible cc
-    rest h overlong p q = impossible cc
+    rest h cut p q = cc
+    rest h overlong p q = cc
     rest h (whole w m) p q =
         let value : x - 128 + 128 * w ≡ v = cc in
         let groups : suc m ≡ n = cc in
@@ -55,8 +54,8 @@ pub record Groups (k : ℕ) (s : List ℕ) (n : ℕ) : Type 0 where
 
 pub scan_groups : (k : ℕ) (s : List ℕ) (v n : ℕ) → scan k s ≡ whole v n → Groups k s n
 unfolding scan
-scan_groups zero s v n e = impossible cc
-scan_groups (suc k) [] v n e = impossible cc
+scan_groups zero s v n e = cc
+scan_groups (suc k) [] v n e = cc
 scan_groups (suc k) (x ∷ xs) v n e = go (ends k x xs v n e) (scan_groups k xs)
   where
     go : Ends k x xs v n → ((w m : ℕ) → scan k xs ≡ whole w m → Groups k xs m) → Groups (suc k) (x ∷ xs) n
@@ -66,8 +65,8 @@ scan_groups (suc k) (x ∷ xs) v n e = go (ends k x xs v n e) (scan_groups k xs)
 -- Groups that are bytes make a value that as many groups hold.
 pub scan_most : (k : ℕ) (s : List ℕ) (v n : ℕ) → Bytes s → scan k s ≡ whole v n → v < 128 ^ k
 unfolding scan
-scan_most zero s v n b e = impossible cc
-scan_most (suc k) [] v n b e = impossible cc
+scan_most zero s v n b e = cc
+scan_most (suc k) [] v n b e = cc
 scan_most (suc k) (x ∷ xs) v n b e = go (ends k x xs v n e) (λ w m. scan_most k xs w m (tail_bytes b))
   where
     some : 1 ≤ 128 ^ k
@@ -104,8 +103,8 @@ taken_more k x v w m n xs wm l t =
 
 pub scan_read : (k : ℕ) (s : List ℕ) (v n : ℕ) → Bytes s → scan k s ≡ whole v n → n ≡ length (write_in k v) → Taken s (write_in k v) n
 unfolding scan
-scan_read zero s v n b e l = impossible cc
-scan_read (suc k) [] v n b e l = impossible cc
+scan_read zero s v n b e l = cc
+scan_read (suc k) [] v n b e l = cc
 scan_read (suc k) (x ∷ xs) v n b e l = go (ends k x xs v n e) (λ w m. scan_read k xs w m (tail_bytes b))
   where
     Rec : Type 0

@@ -12,9 +12,8 @@ use lib.Seq.{drop-cons, get_or-drop, get_or-take}
 use lib.Arith.{digits_div, digits_mod}
 use lib.Dec.{eqb}
 use borrow.Author.Tests.{eqb-true}
-use Rattle.base.proofs.TestLaws.{and_left, and_right}
-use Rattle.number.specs.declared.Read.TheVariants.{Number}
-use Rattle.number.specs.Number.{write_number, greatest_number, read_number}
+use Rattle.std.proofs.lemmas.Bool.{and_parts}
+use Rattle.number.specs.Number.{write_number, greatest_number, number, read_number}
 use Rattle.number.specs.Word.{word_at, long_word_at, is_number, word_number, twos_of}
 use Rattle.number.proofs.WriteLaws.{write_one, write_step}
 use Rattle.number.proofs.ReadLaws.{read_writing}
@@ -121,10 +120,10 @@ module _ (s : List ℕ) (byte : (i : ℕ) → get_or s i 0 < 256) where
       let n = word_number k (w / 256) in
       let p = eqb (w / 128 % 2) 1 in
       let q = is_number k (w / 256) in
-      let a : w % 128 + 128 ≡ get_or s at 0 = omega (arith, byte at, eqb-true (w / 128 % 2) 1 (and_left p q tops)) in
+      let a : w % 128 + 128 ≡ get_or s at 0 = omega (arith, byte at, eqb-true (w / 128 % 2) 1 ((and_parts p q tops).0)) in
       let some : 1 ≤ 128 ^ k = pow-le-pow_right {n = 128} (omega arith) {i = 0} {j = k} (omega arith) in
       let more : 128 ^ k ≤ n = omega (arith, pow-succ' 128 k) in
-      let later = stands k j (suc at) (w / 256) (omega arith) (omega arith) (omega (arith, byte at)) (omega arith) (and_right p q tops) more in
+      let later = stands k j (suc at) (w / 256) (omega arith) (omega arith) (omega (arith, byte at)) (omega arith) ((and_parts p q tops).1) more in
       let group : (w % 128 + 128 * n) % 128 + 128 ≡ get_or s at 0 = omega arith in
       let others : (w % 128 + 128 * n) / 128 ≡ n = omega arith in
       let written : write_number (word_number (suc k) w) ≡ get_or s at 0 ∷ write_number n =
@@ -142,12 +141,12 @@ module _ (s : List ℕ) (byte : (i : ℕ) → get_or s i 0 < 256) where
   -- A number of k + 1 bytes behind the first i of a word.
   pub read_behind : (i k j at : ℕ) {w u v from next : ℕ} → k < j → k ≤ 5 → w ≡ bytes (i + j) at → u ≡ behind i w → from ≡ at + i → v ≡ word_number k u
       → next ≡ from + suc k → next ≤ length s → is_number k u ≡ true → 128 ^ k ≤ v
-      → read_number s from ≡ Number v next
+      → read_number s from ≡ number v next
   read_behind i k j at {w} {u} {v} {from} {next} few most e later begins made ends there tops least =
       let lies : u ≡ bytes j from = later ∙ ap (behind i) e ∙ behind_bytes i j at ∙ ap (bytes j) (sym begins) in
       let whole = stands k j from u few most lies (omega arith) tops (omega arith) in
       rw (made, ends) (read_writing s from (word_number k u) (drop (from + suc k) s) (number_fits k u most) whole.0
-      ∙ ap (λ (l : ℕ). Number (word_number k u) (from + l)) whole.1)
+      ∙ ap (λ (l : ℕ). number (word_number k u) (from + l)) whole.1)
 
   pub word_bytes : (at : ℕ) → word_at s at ≡ bytes 4 at
   word_bytes at =

@@ -2,7 +2,8 @@
 -- Assumes nothing.
 use Rattle.std.specs.Prelude.{ℕ, ◌+◌, ◌≤◌, ◌<◌, ◌≡◌, length, drop}
 use mathlib.Core.List.{List, ◌++◌, Memᴰ}
-use Rattle.number.specs.Number.{write_number, most_groups, greatest_number, group_count, whole, scan, Reading}
+use Rattle.number.specs.declared.Reading.{Reading}
+use Rattle.number.specs.Number.{write_number, most_groups, greatest_number, group_count, whole, scan}
 
 -- A list of bytes.
 abbrev pub Bytes : List ℕ → Type 0

@@ -1,13 +1,13 @@
 -- The number form of document 01, with six bytes since document 02's request 11: groups of seven bits, lowest group first, one group a byte; the top bit is set
 -- on all but the last byte (LEB128, unsigned).
 -- Assumes nothing.
-use Rattle.std.specs.Prelude.{ℕ, zero, suc, ◌+◌, ◌-◌, ◌*◌, ◌/◌, ◌%◌, max, ◌&&◌, List, [], ◌∷◌, ◌++◌, length, take, drop, ltb, leb, eqb, if◌then◌else◌}
+use Rattle.std.specs.Prelude.{ℕ, zero, suc, ◌+◌, ◌-◌, ◌*◌, ◌/◌, ◌%◌, max, ◌&&◌, Result, Ok, Err, List, [], ◌∷◌, ◌++◌, length, take, drop, ltb, leb, eqb, if◌then◌else◌}
 use Rattle.std.specs.Int.Count.{count_leading_zeros}
-use Rattle.base.specs.Answer.{Answer, accepted}
-use Rattle.number.specs.declared.Read.{Read}
-use Rattle.number.specs.declared.Read.TheVariants.{Number, Ended, Malformed}
-use Rattle.refusal.specs.Refusal.{refusal}
-use Rattle.refusal.specs.declared.Refusal.TheVariants as Row
+use Rattle.base.specs.Answer.{Answer}
+use Rattle.refusal.specs.Refusal.{answer_of}
+use Rattle.refusal.specs.declared.Refusal.{Refusal}
+use Rattle.refusal.specs.declared.Refusal.TheVariants.{Ended, Malformed}
+use Rattle.number.specs.declared.Reading.{Reading}
 
 -- Writing
 
@@ -53,30 +53,24 @@ scan zero s = overlong
 scan (suc k) [] = cut
 scan (suc k) (x ∷ xs) = let rest = scan k xs in if ltb x 128 then whole x 1 else prefixed (x - 128) rest
 
--- A number must be in its shortest form. "No longer at the value": of six bytes none is above the greatest (law read_malformed).
-abbrev pub read_of : (at : ℕ) → Scan → Read
-read_of at cut = Ended
-read_of at overlong = Malformed
+-- A number that was read, with the index behind it.
+abbrev pub number : (value next : ℕ) → Result Reading Refusal
+number value next = Ok (record { value = value; next = next })
+
+-- A number must be in its shortest form. "No longer at the value": of six bytes none is above the greatest (law read_malformed). Refusals 1 and 2
+-- return the byte index where the number begins.
+abbrev pub read_of : (at : ℕ) → Scan → Result Reading Refusal
+read_of at cut = Err (Ended at)
+read_of at overlong = Err (Malformed at)
 read_of at (whole value groups) =
-    if leb value greatest_number && eqb groups (length (write_number value)) then Number value (at + groups) else Malformed
+    if leb value greatest_number && eqb groups (length (write_number value)) then number value (at + groups) else Err (Malformed at)
 
 -- The number that begins at index `at`, with the index behind it.
-unfoldable pub read_number : List ℕ → (at : ℕ) → Read
+unfoldable pub read_number : List ℕ → (at : ℕ) → Result Reading Refusal
 read_number s at = read_of at (scan most_groups (drop at s))
 
--- A number read, and the index behind it.
-pub record Reading : Type 0 where
-  pub value : ℕ
-  pub next : ℕ
-
--- Refusals 1 and 2 return the byte index where the number begins.
-abbrev pub reading_of : (at : ℕ) → Read → Answer Reading
-reading_of at (Number value next) = accepted (record { value = value; next = next })
-reading_of at Ended = refusal (Row.Ended at)
-reading_of at Malformed = refusal (Row.Malformed at)
-
 unfoldable pub number_at : List ℕ → (at : ℕ) → Answer Reading
-number_at s at = reading_of at (read_number s at)
+number_at s at = answer_of (read_number s at)
 
 -- Lent memory
 

@@ -4,17 +4,16 @@
 pub mod word; // numbers of a usual length
 
 ghost use Rattle.std.specs.Prelude.{◌≡◌, ◌+◌, ◌≤◌, length};
-ghost use Rattle.number.specs.Number.{greatest_number, group_count, write_number, read_number, reading_of, number_at, placed};
+ghost use Rattle.number.specs.Number.{greatest_number, group_count, write_number, read_number, number_at, placed};
+ghost use Rattle.refusal.specs.Refusal.{answer_of};
 
-// What reading at an index finds.
+use refusal::Refusal;
+
+// A number that was read, and the index behind it. The index stands first: the byte that names a refusal overlies the first field.
 #[derive(Clone, Copy)]
-pub enum Read {
-    // A number, and the index behind it.
-    Number { value: u64, next: usize },
-    // The bytes end before or inside the number.
-    Ended,
-    // The sixth byte has its top bit set, or the form is not the shortest.
-    Malformed,
+pub struct Reading {
+    pub next: usize,
+    pub value: u64,
 }
 
 // How many bytes the number takes: one for each begun seven of its bits, and one for 0. For up to 64 bits 9/64 is near enough to a seventh.
@@ -26,43 +25,43 @@ pub fn group_count(x: u64) -> usize
 }
 
 // The number that begins at an index, if one does. It is gathered in 64 bits: six groups make 42.
-pub fn read_number(s: &[u8], at: usize) -> Read
+pub fn read_number(s: &[u8], at: usize) -> Result<Reading, Refusal>
     ensures value { result ≡ read_number s.now at }
-    ensures reading { reading_of at result ≡ number_at s.now at }
+    ensures reading { answer_of result ≡ number_at s.now at }
 {
     if s.len() <= at {
-        return Read::Ended;
+        return Err(Refusal::Ended(at));
     }
     let first = s[at] as u64;
     if first < 128 {
-        return Read::Number {
+        return Ok(Reading {
             value: first,
             next: at + 1,
-        };
+        });
     }
-    // What the groups so far make, how much the next one counts, and where it stands.
+    // What the groups so far make, and how much the next one counts.
     let mut low: u64 = first - 128;
     let mut weight: u64 = 128;
-    let mut next = at + 1;
-    let mut passed: u64 = 1;
-    while passed < 6 {
-        if s.len() <= next {
-            return Read::Ended;
+    for passed in 1..6 {
+        let here = at + passed;
+        if s.len() <= here {
+            return Err(Refusal::Ended(at));
         }
-        let b = s[next] as u64;
-        let value: u64 = low + weight * b;
-        passed += 1;
-        next += 1;
+        let b = s[here] as u64;
+        let value = low + weight * b;
         if b < 128 {
             if b == 0 {
-                return Read::Malformed;
+                return Err(Refusal::Malformed(at));
             }
-            return Read::Number { value, next };
+            return Ok(Reading {
+                value,
+                next: here + 1,
+            });
         }
         weight *= 128;
         low = value - weight;
     }
-    Read::Malformed
+    Err(Refusal::Malformed(at))
 }
 
 // The bytes of x from index at on, where there is room; the index behind them.
@@ -74,6 +73,7 @@ pub fn put_number(out: &mut [u8], at: usize, x: u64) -> usize
 {
     let mut i = at;
     let mut rest = x;
+    // A `while`: how many groups follow is not known before they are written.
     while 128 <= rest {
         out[i] = (128 + rest % 128) as u8;
         i += 1;

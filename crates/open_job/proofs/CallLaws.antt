@@ -5,67 +5,46 @@ use native.Mathlib.Omega.{arith}
 use mathlib.Core.Path.{◌≡◌, refl, sym, subst, ap, ◌∙◌}
 use mathlib.Core.Bool.{Bool, true, false}
 use mathlib.Core.List.{List, [], ◌∷◌, append-nil, Memᴰ}
-use lib.ListN.{length, get_or}
+use lib.ListN.{length, get_or, take, get_or-map}
 use lib.Seq.{get_or-take}
 use lib.Dec.{leb, eqb}
 use borrow.Author.Tests.{le-leb, eqb-true}
 use Rattle.base.specs.Answer.{Answer, accepted, refused, ◌>>=◌}
-use Rattle.refusal.specs.Refusal.{unless_refuse, refusal, outcome}
+use Rattle.base.specs.Stored.{accepted_or}
+use Rattle.refusal.specs.Refusal.{unless_refuse, refusal}
 use Rattle.refusal.specs.declared.Refusal.TheVariants as Row
 use Rattle.refusal.specs.declared.Refusal.{Refusal}
-use Rattle.refusal.specs.declared.Outcome.{Outcome}
-use Rattle.refusal.specs.declared.Outcome.TheVariants.{Done, Refused}
 use Rattle.refusal.proofs.RefuseLaws.{tested}
 use Rattle.base.proofs.AnswerLaws.{bind_assoc, bind_same}
 use Rattle.base.proofs.ListLaws.{get_d_member}
-use Rattle.base.proofs.TestLaws.{impossible}
 use Rattle.job.specs.declared.Header.{Header}
 use Rattle.job.specs.declared.Hazard.{Hazard}
 use Rattle.job.specs.declared.NamedHazard.{NamedHazard}
 use Rattle.job.specs.declared.StoredJob.{StoredJob}
 use Rattle.job.specs.Job.{Job, Fields, named, unnamed, job_of, header_size, read_header, header_of, read_job}
 use Rattle.job.specs.Writing.{write_job}
-use Rattle.job.specs.Reply.{unused, header_reading, header_at, job_header, read_opening, hazards_from}
-use Rattle.job.specs.Given.{given_hazards}
+use Rattle.job.specs.Reply.{unused, header_reading, header_at, job_header, read_opening}
+use Rattle.job.specs.Hazards.{PlacesFit, stored_rest}
 use Rattle.job.proofs.JobLaws.{job_fits}
 use Rattle.job.proofs.OpeningLaws.{job_header_lem}
-use Rattle.job.proofs.RestLaws.{given_all}
-use Rattle.runs.specs.Required.{required_runs}
-use Rattle.runs.specs.Keys.{keyed_envelopes}
-use Rattle.runs.specs.Sweep.{AllSound}
 use Rattle.planning.specs.Envelope.{side_overhangs, stands_near, test_hazard, test_hazards, accept_job}
 use Rattle.planning.specs.Required.{job_runs}
-use Rattle.planning.specs.Reply.{Cuts, cuts_of, tested_envelopes}
-use Rattle.planning.specs.declared.walk.Walked.{Walked}
-use Rattle.planning.specs.declared.window.Window.TheVariants.{All}
-use Rattle.planning.specs.Window.{standing_in}
-use Rattle.planning.specs.Walk.{GivenFits, cuts_taken, walked_answer}
+use Rattle.planning.specs.declared.window.Window.{Window}
+use Rattle.planning.specs.Accept.{side_within, side_of_job}
 use Rattle.planning.specs.Rows.{AcceptedFits}
-use Rattle.planning.proofs.AcceptedSideLaws.{job_sound}
 use Rattle.planning.proofs.AcceptedLaws.{hazards_pass, fitting_accepted}
-use Rattle.schedule.specs.Schedule.{write_schedule}
-use Rattle.schedule.specs.Plan.{fitted, plan}
-use Rattle.schedule.proofs.PlanLaws.{planned_bytes}
-use Rattle.open_job.specs.declared.Change.{Change}
 use Rattle.open_job.specs.declared.KeptState.{KeptState}
 use Rattle.open_job.specs.States.{is_used, state_of}
 use Rattle.withdrawal.specs.declared.reply.Reach.{Reach}
 use Rattle.withdrawal.specs.Reach.{hazard_reach}
-use Rattle.open_memory.specs.Memory.{standing, laid_out, stands, hazard_under, is_full, admit, is_open_job}
+use Rattle.open_memory.specs.Memory.{standing, laid_out, stands, hazard_under, is_full, inserted, admit, is_open_job}
 use Rattle.job.specs.Fits.{hazard_in_range, HazardFits}
-use Rattle.open_job.specs.Calls.{open_job, under_rules, add_to, withdraw_from, reach_under, test_state, kept_job, Changes}
+use Rattle.open_job.specs.Calls.{open_job, under_rules, add_to, withdraw_from, reach_under, test_state, kept_job}
 use Rattle.open_memory.specs.Steps.{rank, put_at, taken_at}
+use Rattle.open_job.specs.Parts.{admitted}
 use Rattle.open_memory.proofs.RuleLaws.{Admitted, admit_ranged, stand_each, open_count, open_standing}
 use Rattle.open_memory.proofs.PlaceLaws.{inserted_at, without_at_lem, rank_within, under_at}
 use Rattle.open_memory.proofs.WalkLaws.{standing_length}
-
--- A call by value: refused, or done.
-module _ (m : StoredJob) where
-  pub changes_refused : {a : Answer StoredJob} {r : Change} (x : Refusal) → a ≡ refusal x → r ≡ record { outcome = Refused x; next = m } → Changes m a r
-  changes_refused x e s = rw (e, s) (record { reply = refl; memory = refl })
-
-  pub changes_done : {a : Answer StoredJob} {n : StoredJob} → a ≡ accepted n → Changes m a (record { outcome = Done; next = n })
-  changes_done e = rw e (record { reply = refl; memory = refl })
 
 -- Opening
 
@@ -109,6 +88,12 @@ module _ (h : Header) (name : ℕ) (z : Hazard) (ranged : hazard_in_range h z �
   unfolding test_hazard
   given_clear e = sym (admit_ranged h name z ranged ∙ rw e)
 
+-- A hazard that was admitted passed its tests, and is the one given.
+admitted_is : (name : ℕ) (z : Hazard) (p : NamedHazard) (a : Answer (Unit {0})) → accepted p ≡ (a >>= λ _. accepted (named name z))
+    → (a ≡ accepted tt) × (p ≡ named name z)
+admitted_is name z p (accepted u) e = (refl, ap (accepted_or p) e)
+admitted_is name z p (refused k v) e = cc
+
 -- Memory that keeps the rules
 module _ (m : StoredJob) (good : is_open_job m ≡ true) where
   -- As many stand as the header's count says.
@@ -116,14 +101,22 @@ module _ (m : StoredJob) (good : is_open_job m ≡ true) where
   full_count size = ap (leb 256) (standing_length m size (open_count m good))
 
   -- A name that does not stand is put in at its place, and one that stands is taken out from there.
-  pub add_done : (name : ℕ) (z : Hazard) → stands name (standing m) ≡ false → is_full (standing m) ≡ false → accepted tt ≡ admit m.header name z → (at : ℕ)
-      → at ≡ rank name (standing m)
-      → add_to m name z ≡ accepted (laid_out m.header (put_at at (named name z) (standing m)))
-  unfolding add_to
-  add_done name z fresh room may at place =
-      rw (fresh, room, sym may)
-      (ap (λ (ps : List NamedHazard). accepted (laid_out m.header ps))
-      (inserted_at (named name z) (standing m) fresh ∙ ap (λ (k : ℕ). put_at k (named name z) (standing m)) (sym place)))
+  module _ (name : ℕ) (z : Hazard) (fresh : stands name (standing m) ≡ false) (room : is_full (standing m) ≡ false) where
+    pub add_refused : (q : Refusal) → refusal q ≡ admitted m.header name z → refusal q ≡ add_to m name z
+    unfolding add_to
+    add_refused q e =
+        rw (fresh, room)
+        (ap (λ (a : Answer NamedHazard). a >>= λ p. accepted (laid_out m.header (inserted p (standing m)))) e
+        ∙ bind_assoc (admit m.header name z) _ _)
+
+    pub add_done : (p : NamedHazard) → accepted p ≡ admitted m.header name z → (at : ℕ) → at ≡ rank name (standing m)
+        → add_to m name z ≡ accepted (laid_out m.header (put_at at p (standing m)))
+    unfolding add_to
+    add_done p e at place =
+        let passed = admitted_is name z p (admit m.header name z) e in
+        rw (fresh, room, passed.0, passed.1)
+        (ap (λ (ps : List NamedHazard). accepted (laid_out m.header ps))
+        (inserted_at (named name z) (standing m) fresh ∙ ap (λ (k : ℕ). put_at k (named name z) (standing m)) (sym place)))
 
   pub withdraw_done : (name : ℕ) → stands name (standing m) ≡ true → (at : ℕ) → at ≡ rank name (standing m)
       → withdraw_from m name ≡ accepted (laid_out m.header (taken_at at (standing m)))
@@ -157,58 +150,28 @@ module _ (m : StoredJob) (good : is_open_job m ≡ true) where
 
 -- Schedule
 
--- Plan, of the writing of a job that is accepted.
-pub plan_written : (j : Job) → AcceptedFits j → (side room : ℕ)
-    → plan (write_job j) side room ≡ (unless_refuse (leb side 1) Row.Argument >>= λ _. fitted (write_schedule (job_runs j side)) (side_overhangs j side) room)
-unfolding plan
-plan_written j f side room = rw (fitting_accepted j f)
+-- The hazards of stored memory, walked over where they lie.
+module _ (m : StoredJob) (fits : AcceptedFits (job_of m)) where
+  stored_fits : (i : ℕ) → i < m.header.count → HazardFits m.header (unnamed (get_or m.hazards i unused))
+  stored_fits i l =
+      let zs = (job_of m).hazards in
+      let same : get_or zs i (unnamed unused) ≡ unnamed (get_or m.hazards i unused) =
+      get_or-map unnamed (take m.header.count m.hazards) i unused ∙ ap unnamed (get_or-take m.header.count m.hazards i unused l) in
+      rw same at (fits.fits.hazards.each (get_or zs i (unnamed unused)) (get_d_member zs i (unnamed unused) (omega (arith, fits.fits.hazards.count))))
 
--- The hazards of stored memory, walked over as numbers.
-module _ (m : StoredJob) (fits : AcceptedFits (job_of m)) (ns : List ℕ) (are : given_hazards ns ≡ (job_of m).hazards) where
-  count_same : m.header.count ≡ length (given_hazards ns)
-  count_same = sym (ap (λ (zs : List Hazard). length zs) are ∙ fits.fits.hazards.count)
-
-  pub numbers_given : length ns ≡ m.header.count * 3 → GivenFits m.header ns []
-  numbers_given full = record {
-    whole = omega (arith, count_same);
-    fit = subst (λ (zs : List Hazard). (z : Hazard) → Memᴰ z zs → HazardFits m.header z) (sym are) fits.fits.hazards.each;
-    alone = λ _. refl;
-  }
+  pub places_fit : m.header.count ≤ length m.hazards → PlacesFit m.hazards m.header
+  places_fit room = record { room = room; each = stored_fits }
 
   -- They are the job's own, and pass the test again.
-  walk_passes : (side : ℕ) → (hazards_from m.header (given_hazards ns) m.header.count [] [] 0 >>= λ j. tested_envelopes j side All)
-      ≡ accepted (cuts_of m.header side (job_of m).hazards)
-  unfolding tested_envelopes test_hazards standing_in
-  walk_passes side =
-      rw (ap (λ (n : ℕ). hazards_from m.header (given_hazards ns) n [] [] 0) count_same ∙ given_all m.header (given_hazards ns), are)
-      (rw (← append-nil (job_of m).hazards, hazards_pass m.header 0 (job_of m).hazards [] fits.passed))
+  all_pass : test_hazards m.header 0 (job_of m).hazards ≡ accepted tt
+  unfolding test_hazards
+  all_pass = rw (← append-nil (job_of m).hazards, hazards_pass m.header 0 (job_of m).hazards [] fits.passed)
 
-  -- By what `walk` answers.
-  module _ (side : ℕ) (keys ends : List ℕ) (r : Walked)
-      (reply : walked_answer keys ends r ≡ (hazards_from m.header (given_hazards ns) m.header.count [] [] 0 >>= λ j. tested_envelopes j side All)) where
-    own : cuts_of m.header side (job_of m).hazards ≡ cuts_taken keys ends r.taken
-    own = go r.outcome (reply ∙ walk_passes side)
-      where
-        go : (o : Outcome) → outcome o (cuts_taken keys ends r.taken) ≡ accepted (cuts_of m.header side (job_of m).hazards)
-            → cuts_of m.header side (job_of m).hazards ≡ cuts_taken keys ends r.taken
-        go Done p = cc
-        go (Refused x) p = impossible cc
-
-    pub schedule_sound : AllSound (keyed_envelopes keys ends r.taken.count)
-    schedule_sound = subst (λ (c : Cuts). AllSound c.envelopes) own (job_sound (job_of m) side fits)
-
-    pub schedule_most : length (write_schedule (required_runs (keyed_envelopes keys ends r.taken.count) m.header.continuity)) ≤ 5624
-    unfolding job_runs
-    schedule_most =
-        subst (λ (c : Cuts). length (write_schedule (required_runs c.envelopes m.header.continuity)) ≤ 5624) own (planned_bytes (job_of m) side fits)
-
-    pub schedule_done : (room : ℕ) → side ≤ 1
-        → plan (write_job (job_of m)) side room ≡ fitted (write_schedule (required_runs (keyed_envelopes keys ends r.taken.count) m.header.continuity))
-        r.taken.overhangs room
-    unfolding job_runs
-    schedule_done room l =
-        plan_written (job_of m) fits side room
-        ∙ rw (le-leb side 1 l) (ap (λ (c : Cuts). fitted (write_schedule (required_runs c.envelopes m.header.continuity)) c.overhangs room) own)
+  -- So the side of the places is that of the job's writing.
+  pub stored_side : (side : ℕ) (w : Window)
+      → side_of_job m.header side w (stored_rest m.hazards m.header m.header.count []) ≡ side_within (write_job (job_of m)) side w
+  unfolding side_within
+  stored_side side w = rw (fitting_accepted (job_of m) fits, all_pass)
 
 -- Return
 

@@ -1,4 +1,3 @@
-pub mod NumberLaws
 pub mod CallLaws
 pub mod LayoutLaws
 pub mod StateLaws

@@ -1,48 +1,55 @@
 -- What is made of the parts of the memory, one state at a time, is what the calls on the whole memory say.
 -- Assumes nothing.
-use Rattle.std.specs.Prelude.{if◌then◌else◌}
-use Prim.Native.Nat.{ℕ, zero, suc, ◌≤◌, ◌<◌}
-use native.Mathlib.Omega.{arith}
-use mathlib.Core.Path.{◌≡◌, refl, sym, ap, subst}
-use mathlib.Core.Bool.{Bool, true, false, and-true, and_assoc}
-use mathlib.Core.List.{List}
-use lib.ListN.{get_or, set}
-use lib.Dec.{leb, eqb}
-use borrow.Author.Tests.{leb-true}
+use Rattle.std.specs.Prelude.{Option, Some, None, Result, IsErrAnd, if◌then◌else◌}
+use Prim.Native.Nat.{ℕ}
+use mathlib.Core.Path.{◌≡◌, refl, sym, ap, ap₂, ◌∙◌}
+use mathlib.Core.Bool.{Bool, true, false, ◌&&◌}
+use mathlib.Core.List.{List, [], ◌∷◌}
+use lib.ListN.{length, get_or, set, replicate, length-set}
+use lib.Dec.{leb}
 use Rattle.base.specs.Choice.{all_of}
-use Rattle.base.specs.Answer.{Answer, accepted, refused, ◌>>=◌, replied}
-use Rattle.refusal.specs.Refusal.{unless_refuse}
+use Rattle.base.specs.Answer.{Answer, accepted, refused, ◌>>=◌, is_accepted, replied}
+use Rattle.refusal.specs.Refusal.{unless_refuse, refusal, number_of, value_of, answer_of}
+use Rattle.refusal.specs.declared.Refusal.{Refusal}
 use Rattle.refusal.specs.declared.Refusal.TheVariants as Row
-use Rattle.refusal.proofs.RefuseLaws.{tested}
-use Rattle.base.proofs.AnswerLaws.{bind_same}
+use Rattle.refusal.proofs.RefuseLaws.{passed_on, tested}
+use Rattle.job.specs.declared.Header.{Header}
 use Rattle.job.specs.declared.StoredJob.{StoredJob}
 use Rattle.open_job.specs.declared.KeptState.{KeptState}
 use Rattle.open_job.specs.declared.OpenStates.{OpenStates}
-use Rattle.open_job.specs.States.{greatest_state_number, nothing_kept, kept_from, state_of, is_used, kept_states, kept_under, states_from}
-use Rattle.open_job.specs.States.{are_open_states}
+use Rattle.open_memory.specs.declared.rules.Limits.{Limits}
+use Rattle.open_memory.specs.Steps.{limits_of, places_pass}
+use Rattle.open_memory.proofs.LimitLaws.{state_none}
+use Rattle.open_job.specs.States.{most_kept, eight, nothing_kept, kept_from, kept_sound, all_sound, kept_states, kept_under, states_from, are_open_states}
 use Rattle.open_job.specs.Calls.{memory_after, open_job, open_states, under_rules, changed_in, test_state, keep_in, kept_job, return_in}
-use Rattle.open_job.specs.Parts.{chosen, each_sound, Carries, each_chosen, Keeps, looked_for, after_opening}
-use Rattle.open_job.proofs.StateLaws.{replaced}
-use Rattle.open_job.proofs.SoundLaws.{used_sound, kept_sound_lem}
+use Rattle.open_job.specs.Parts.{passes, each_passes, each_sound, as_eight, Carries, after_keep, Keeps, after_opening}
+use Rattle.open_memory.specs.Memory.{most_standing, is_open_job}
+use Rattle.open_job.proofs.StateLaws.{eight_same, now_open}
+use Rattle.open_job.proofs.SoundLaws.{counted_sound, kept_sound_lem}
+
+-- The kept states, each tested by the limits of the header.
+each_kept : (h : Header) (l : Limits) → Some l ≡ limits_of h → (ks : List KeptState) → all_of (passes l) ks ≡ all_of (kept_sound h) ks
+unfolding all_of
+each_kept h l own [] = refl
+each_kept h l own (k ∷ ks) = ap₂ ◌&&◌ (kept_sound_lem h l own k) (each_kept h l own ks)
 
 module _ (m : OpenStates) where
   pub test_whole : each_sound m ≡ are_open_states m
-  unfolding are_open_states all_of
-  test_whole =
-      let h = m.present.header in
-      simp (
-        used_sound h (kept_from m.present) true refl,
-        kept_sound_lem h m.kept0,
-        kept_sound_lem h m.kept1,
-        kept_sound_lem h m.kept2,
-        kept_sound_lem h m.kept3,
-        kept_sound_lem h m.kept4,
-        kept_sound_lem h m.kept5,
-        kept_sound_lem h m.kept6,
-        kept_sound_lem h m.kept7,
-        and_assoc,
-        and-true,
-      )
+  unfolding are_open_states
+  test_whole = go (limits_of m.present.header) refl
+    where
+      go : (o : Option Limits) → o ≡ limits_of m.present.header → each_passes m o ≡ (is_open_job m.present && all_sound m)
+      go (Some l) e =
+          ap₂ ◌&&◌ (counted_sound m.present.header l e (kept_from m.present)) (each_kept m.present.header l e (kept_states m))
+      go None e = ap (λ (b : Bool). b && all_sound m) (state_none m.present.header m.present.header.count m.present.hazards e)
+
+  -- The same by the limits that the header has.
+  pub sound_some : (l : Limits) → Some l ≡ limits_of m.present.header
+      → are_open_states m ≡ (leb m.present.header.count most_standing && places_pass l m.present.header.count m.present.hazards && all_of (passes l) (kept_states m))
+  sound_some l e = sym (ap (each_passes m) e ∙ test_whole)
+
+  pub sound_none : None ≡ limits_of m.present.header → false ≡ are_open_states m
+  sound_none e = ap (each_passes m) e ∙ test_whole
 
   -- Add, withdraw and return: what a call makes of the present state is carried over into the whole memory.
   pub change_whole : (call : Answer StoredJob) → Carries m (under_rules (are_open_states m) call) (changed_in m call)
@@ -54,62 +61,20 @@ module _ (m : OpenStates) where
 
   -- Keep
 
-  none_chosen : (number : ℕ) (new : KeptState) → each_chosen m false number new ≡ m
-  unfolding chosen
-  none_chosen number new = refl
-
-  one_chosen : (number : ℕ) (new : KeptState) → each_chosen m true number new ≡ states_from m.present (set (kept_states m) number new)
-  unfolding chosen
-  one_chosen number new =
-      let at : (own : ℕ) → own < 8 → (if eqb number own then new else kept_under m own) ≡ get_or (set (kept_states m) number new) own nothing_kept =
-      λ own l. sym (replaced (kept_states m) number own new (λ q. l)) in
-      λ i. record {
-        present = m.present;
-        kept0 = at 0 (omega arith) i;
-        kept1 = at 1 (omega arith) i;
-        kept2 = at 2 (omega arith) i;
-        kept3 = at 3 (omega arith) i;
-        kept4 = at 4 (omega arith) i;
-        kept5 = at 5 (omega arith) i;
-        kept6 = at 6 (omega arith) i;
-        kept7 = at 7 (omega arith) i;
-      }
-
   pub keep_whole : (number : ℕ) → Keeps m number (under_rules (are_open_states m) (test_state number)) (keep_in m number)
   unfolding keep_in
   keep_whole number = go (under_rules (are_open_states m) (test_state number))
     where
       go : (part : Answer (Unit {0})) → Keeps m number part
           (part >>= λ _. accepted (states_from m.present (set (kept_states m) number (kept_from m.present))))
-      go (accepted u) = (one_chosen number (kept_from m.present), refl)
-      go (refused k v) = (none_chosen number (kept_from m.present), refl)
+      go (accepted u) = (refl, refl)
+      go (refused k v) = (refl, refl)
 
   -- Return
 
-  found : (number : ℕ) → leb number greatest_state_number ≡ true → looked_for m number ≡ kept_under m number
-  unfolding chosen
-  found zero e = refl
-  found (suc zero) e = refl
-  found (suc (suc zero)) e = refl
-  found (suc (suc (suc zero))) e = refl
-  found (suc (suc (suc (suc zero)))) e = refl
-  found (suc (suc (suc (suc (suc zero))))) e = refl
-  found (suc (suc (suc (suc (suc (suc zero)))))) e = refl
-  found (suc (suc (suc (suc (suc (suc (suc zero))))))) e = refl
-  found (suc (suc (suc (suc (suc (suc (suc (suc n)))))))) e =
-      absurd (let l : suc (suc (suc (suc (suc (suc (suc (suc n))))))) ≤ 7 = leb-true _ _ e in omega arith)
-
-  pub return_whole : (number : ℕ) → Carries m (under_rules (are_open_states m) (kept_job m.present.header number (looked_for m number))) (return_in m number)
-  unfolding return_in kept_job
-  return_whole number =
-      subst (λ (call : Answer StoredJob). Carries m (under_rules (are_open_states m) call) (return_in m number)) (sym same)
-      (change_whole (kept_job m.present.header number (kept_under m number)))
-    where
-      back : KeptState → Answer StoredJob
-      back k = unless_refuse (is_used k) Row.State >>= λ _. accepted (state_of m.present.header k)
-
-      same : (test_state number >>= λ _. back (looked_for m number)) ≡ (test_state number >>= λ _. back (kept_under m number))
-      same = bind_same (test_state number) _ _ (λ u e. ap back (found number (tested (leb number greatest_state_number) Row.State u e)))
+  pub return_whole : (number : ℕ) → Carries m (under_rules (are_open_states m) (kept_job m.present.header number (kept_under m number))) (return_in m number)
+  unfolding return_in
+  return_whole number = change_whole (kept_job m.present.header number (kept_under m number))
 
   -- Opening
 
@@ -118,3 +83,125 @@ module _ (m : OpenStates) where
   unfolding open_states
   open_whole s true a number value e = rw (sym e) (refl, refl)
   open_whole s false a number value e = rw (sym e) (refl, refl)
+
+-- The calls in the caller's memory, whose array has eight states by its type.
+
+abbrev with_kept : StoredJob → List KeptState → OpenStates
+with_kept a ks = record { present = a; kept = ks }
+
+-- What a call leaves of the memory, and its reply.
+pub record Leaves (m : OpenStates) (whole : Answer OpenStates) (part : Answer (Unit {0})) (n : OpenStates) : Type 0 where
+  pub memory : n ≡ memory_after whole m
+  pub reply : replied part ≡ replied whole
+
+module _ (m : OpenStates) where
+  pub eight_whole : length m.kept ≡ most_kept → as_eight m ≡ m
+  eight_whole size = ap (with_kept m.present) (eight_same m.kept size)
+
+  -- The memory's test, first of each call but opening.
+  abbrev test : Answer (Unit {0})
+  test = unless_refuse (are_open_states m) (Row.HeaderRange 0)
+
+  pub test_passed : (u : Unit {0}) → accepted u ≡ test → is_open_job m.present ≡ true
+  test_passed u e = now_open m (tested (are_open_states m) (Row.HeaderRange 0) u (sym e))
+
+  pub under_refused : {A : Type 0} (q : Refusal) (call : Answer A) → refusal q ≡ test → under_rules (are_open_states m) call ≡ refusal q
+  under_refused q call e = rw (sym e) refl
+
+  pub under_passed : {A : Type 0} (u : Unit {0}) (call : Answer A) → accepted u ≡ test → under_rules (are_open_states m) call ≡ call
+  under_passed u call e = rw (sym e) refl
+
+  -- A call that is refused leaves the memory as it was.
+  refused_leaves : (whole : Answer OpenStates) (q : Refusal) → whole ≡ refusal q → Leaves m whole (refusal q) m
+  refused_leaves whole q e = rw e (record { memory = refl; reply = refl })
+
+  -- Add, withdraw and return: what a call makes of the present state is stored, and what is kept stays.
+  pub change_broken : (call : Answer StoredJob) (r : Result (Unit {0}) Refusal) (q : Refusal) → IsErrAnd r (λ e. e ≡ q) → refusal q ≡ test
+      → Leaves m (changed_in m call) (answer_of r) m
+  change_broken call r q h e =
+      rw (passed_on r q h)
+      (refused_leaves (changed_in m call) q (ap (λ (a : Answer StoredJob). a >>= λ b. accepted (states_from b (kept_states m))) (under_refused q call e)))
+
+  module _ (size : length m.kept ≡ most_kept) (call : Answer StoredJob) where
+    changes : (part : Answer StoredJob) → part ≡ under_rules (are_open_states m) call → (how : Answer (Unit {0})) → replied how ≡ replied part
+        → Leaves m (changed_in m call) how (with_kept (memory_after part m.present) m.kept)
+    changes part p how e =
+        let w = change_whole m call in
+        record {
+          memory =
+              ap (with_kept (memory_after part m.present)) (sym (eight_same m.kept size))
+              ∙ ap (λ (x : Answer StoredJob). states_from (memory_after x m.present) (kept_states m)) p
+              ∙ w.0
+              ∙ ap (memory_after (changed_in m call)) (eight_whole size);
+          reply = e ∙ ap replied p ∙ w.1;
+        }
+
+    pub change_refused : (u : Unit {0}) → accepted u ≡ test → (r : Result (Unit {0}) Refusal) (q : Refusal) → IsErrAnd r (λ e. e ≡ q) → refusal q ≡ call
+        → Leaves m (changed_in m call) (answer_of r) m
+    change_refused u t r q h e = changes (refusal q) (e ∙ sym (under_passed u call t)) (answer_of r) (ap replied (passed_on r q h))
+
+    pub change_done : (u : Unit {0}) → accepted u ≡ test → (a : StoredJob) → accepted a ≡ call → Leaves m (changed_in m call) (accepted tt) (with_kept a m.kept)
+    change_done u t a e = changes (accepted a) (e ∙ sym (under_passed u call t)) (accepted tt) refl
+
+  -- A return, by what it finds.
+  pub return_broken : (number : ℕ) (r : Result (Unit {0}) Refusal) (q : Refusal) → IsErrAnd r (λ e. e ≡ q) → refusal q ≡ test
+      → Leaves m (return_in m number) (answer_of r) m
+  unfolding return_in
+  return_broken number = change_broken (kept_job m.present.header number (kept_under m number))
+
+  pub return_found : length m.kept ≡ most_kept → (number : ℕ)
+      → changed_in m (kept_job m.present.header number (get_or m.kept number nothing_kept)) ≡ return_in m number
+  unfolding return_in
+  return_found size number =
+      ap (λ (ks : List KeptState). changed_in m (kept_job m.present.header number (get_or ks number nothing_kept))) (sym (eight_same m.kept size))
+
+  -- Keep
+
+  pub keep_broken : (number : ℕ) (r : Result (Unit {0}) Refusal) (q : Refusal) → IsErrAnd r (λ e. e ≡ q) → refusal q ≡ test
+      → Leaves m (keep_in m number) (answer_of r) m
+  unfolding keep_in
+  keep_broken number r q h e =
+      rw (passed_on r q h)
+      (refused_leaves (keep_in m number) q
+      (ap (λ (a : Answer (Unit {0})). a >>= λ _. accepted (states_from m.present (set (kept_states m) number (kept_from m.present))))
+      (under_refused q (test_state number) e)))
+
+  module _ (size : length m.kept ≡ most_kept) (number : ℕ) where
+    abbrev new : List KeptState
+    new = set m.kept number (kept_from m.present)
+
+    keeps : (part : Answer (Unit {0})) → part ≡ under_rules (are_open_states m) (test_state number) → (how : Answer (Unit {0})) → replied how ≡ replied part
+        → Leaves m (keep_in m number) how (if is_accepted (replied part) then with_kept m.present new else m)
+    keeps part p how e =
+        let w = keep_whole m number in
+        record {
+          memory =
+              stored (is_accepted (replied part))
+              ∙ ap (λ (x : Answer (Unit {0})). after_keep m (is_accepted (replied x)) number) p
+              ∙ w.0
+              ∙ ap (memory_after (keep_in m number)) (eight_whole size);
+          reply = e ∙ ap replied p ∙ w.1;
+        }
+      where
+        stored : (done : Bool) → (if done then with_kept m.present new else m) ≡ after_keep m done number
+        stored true =
+            sym (ap (λ (ks : List KeptState). with_kept m.present (eight (set ks number (kept_from m.present)))) (eight_same m.kept size)
+            ∙ ap (with_kept m.present) (eight_same new (length-set m.kept number (kept_from m.present) ∙ size)))
+        stored false = sym (eight_whole size)
+
+    pub keep_refused : (u : Unit {0}) → accepted u ≡ test → (r : Result (Unit {0}) Refusal) (q : Refusal) → IsErrAnd r (λ e. e ≡ q)
+        → refusal q ≡ test_state number → Leaves m (keep_in m number) (answer_of r) m
+    keep_refused u t r q h e = keeps (refusal q) (e ∙ sym (under_passed u (test_state number) t)) (answer_of r) (ap replied (passed_on r q h))
+
+    pub keep_done : (u : Unit {0}) → accepted u ≡ test → (v : Unit {0}) → accepted v ≡ test_state number
+        → Leaves m (keep_in m number) (accepted tt) (with_kept m.present new)
+    keep_done u t v e = keeps (accepted v) (e ∙ sym (under_passed u (test_state number) t)) (accepted tt) refl
+
+  -- Opening
+
+  pub open_refused : (s : List ℕ) (q : Refusal) → refusal q ≡ open_job s → Leaves m (open_states s) (refusal q) m
+  open_refused s q e =
+      let w = open_whole m s false m.present (number_of q) (value_of q) e in record { memory = w.0; reply = ap replied e ∙ w.1 }
+
+  pub open_done : (s : List ℕ) (a : StoredJob) → accepted a ≡ open_job s → Leaves m (open_states s) (accepted tt) (with_kept a (replicate most_kept nothing_kept))
+  open_done s a e = let w = open_whole m s true a 0 0 e in record { memory = w.0; reply = ap replied e ∙ w.1 }

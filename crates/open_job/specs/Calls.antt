@@ -1,24 +1,22 @@
 -- The calls on an open job: what each answers, and what it makes of the memory. Each but opening tests the whole memory first, and once.
 -- Assumes nothing.
-use Rattle.std.specs.Prelude.{ℕ, ◌≡◌, Bool, not, List, [], replicate, set, leb, eqb}
-use Rattle.base.specs.Answer.{Answer, accepted, ◌>>=◌, replied}
-use Rattle.refusal.specs.Refusal.{unless_refuse, outcome}
+use Rattle.std.specs.Prelude.{Result, ℕ, Bool, not, List, [], replicate, set, leb, eqb}
+use Rattle.base.specs.Answer.{Answer, accepted, ◌>>=◌}
+use Rattle.refusal.specs.Refusal.{unless_refuse, answer_of}
+use Rattle.refusal.specs.declared.Refusal.{Refusal}
 use Rattle.refusal.specs.declared.Refusal.TheVariants as Row
 use Rattle.base.specs.Stored.{accepted_or}
 use Rattle.job.specs.declared.Header.{Header}
 use Rattle.job.specs.declared.Hazard.{Hazard}
 use Rattle.job.specs.declared.NamedHazard.{NamedHazard}
 use Rattle.job.specs.declared.StoredJob.{StoredJob}
-use Rattle.job.specs.declared.read.Opening.{Opening}
 use Rattle.job.specs.Job.{named, unnamed, job_of, header_size, read_header, header_of}
-use Rattle.job.specs.Reply.{opening_answer}
 use Rattle.job.specs.Writing.{write_job}
 use Rattle.planning.specs.Envelope.{accept_job}
 use Rattle.schedule.specs.Plan.{PlannedSide, plan}
 use Rattle.withdrawal.specs.declared.reply.Reach.{Reach}
 use Rattle.withdrawal.specs.Reach.{hazard_reach}
 use Rattle.open_memory.specs.Memory.{standing, laid_out, stands, hazard_under, is_full, inserted, without, admit}
-use Rattle.open_job.specs.declared.Change.{Change}
 use Rattle.open_job.specs.declared.KeptState.{KeptState}
 use Rattle.open_job.specs.declared.OpenStates.{OpenStates}
 use Rattle.open_job.specs.States.{most_kept, greatest_state_number, nothing_kept, kept_from, state_of, is_used, kept_states, kept_under, states_from, are_open_states}
@@ -40,8 +38,8 @@ open_job s =
     accepted (laid_out j.header [])
 
 -- What is read of the bytes, as the present state that it makes: its header, and no hazard.
-abbrev pub opens_with : Opening → Answer StoredJob
-opens_with r = opening_answer r >>= λ h. accepted (laid_out h [])
+abbrev pub opens_with : Result Header Refusal → Answer StoredJob
+opens_with r = answer_of r >>= λ h. accepted (laid_out h [])
 
 -- "Opening empties all eight."
 unfoldable pub open_states : (s : List ℕ) → Answer OpenStates
@@ -118,10 +116,3 @@ kept_job h number k = test_state number >>= λ _. unless_refuse (is_used k) Row.
 -- "After a return, the open job is as when that state was last kept ..; other kept states are untouched."
 unfoldable pub return_in : OpenStates → (number : ℕ) → Answer OpenStates
 return_in m number = changed_in m (kept_job m.present.header number (kept_under m number))
-
--- By value
-
--- What a call by value answers: the reply, and the present state afterwards.
-pub record Changes (a : StoredJob) (call : Answer StoredJob) (r : Change) : Type 0 where
-  pub reply : outcome r.outcome 0 ≡ replied call
-  pub memory : r.next ≡ memory_after call a

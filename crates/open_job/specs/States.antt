@@ -43,18 +43,23 @@ kept_sound h k = is_nothing_kept k || (is_used k && is_open_job (state_of h k))
 
 -- The memory
 
+-- The states of eight numbers. The memory's array has eight states by its type and is returned as it is; a list of another length is cut, or ends
+-- with nothing kept.
+abbrev pub eight : List KeptState → List KeptState
+eight ks =
+    let kept : ℕ → KeptState = λ number. get_or ks number nothing_kept in
+    kept 0 ∷ kept 1 ∷ kept 2 ∷ kept 3 ∷ kept 4 ∷ kept 5 ∷ kept 6 ∷ kept 7 ∷ []
+
 -- What is kept, by its number.
 abbrev pub kept_states : OpenStates → List KeptState
-kept_states m = m.kept0 ∷ m.kept1 ∷ m.kept2 ∷ m.kept3 ∷ m.kept4 ∷ m.kept5 ∷ m.kept6 ∷ m.kept7 ∷ []
+kept_states m = eight m.kept
 
 abbrev pub kept_under : OpenStates → (number : ℕ) → KeptState
 kept_under m number = get_or (kept_states m) number nothing_kept
 
 -- The memory of a present state and of what is kept.
 abbrev pub states_from : StoredJob → List KeptState → OpenStates
-states_from a ks =
-    let kept : ℕ → KeptState = λ number. get_or ks number nothing_kept in
-    record { present = a; kept0 = kept 0; kept1 = kept 1; kept2 = kept 2; kept3 = kept 3; kept4 = kept 4; kept5 = kept 5; kept6 = kept 6; kept7 = kept 7 }
+states_from a ks = record { present = a; kept = eight ks }
 
 abbrev pub all_sound : OpenStates → Bool
 all_sound m = all_of (kept_sound m.present.header) (kept_states m)

@@ -1,12 +1,12 @@
 // One state among others: its rules; kept, and taken back.
-ghost use Rattle.std.specs.Prelude.{◌≡◌};
+ghost use Rattle.std.specs.Prelude.{◌≡◌, get_or};
 ghost use Rattle.open_job.specs.States.{nothing_kept, kept_from, state_of, is_used};
-ghost use Rattle.open_job.specs.Parts.{extent_of, places_pass, chosen};
+ghost use Rattle.open_job.specs.Parts.{hazards_held, passes};
 
-use super::{Extent, KeptState};
+use super::KeptState;
 use job::{Header, StoredJob, UNUSED};
 use open_memory::places::with_count;
-use open_memory::rules::Limits;
+use open_memory::rules::{Limits, places_pass};
 
 // The open job, kept.
 pub fn kept_from(present: StoredJob) -> KeptState
@@ -38,43 +38,43 @@ pub fn is_used(kept: KeptState) -> bool
     kept.used == 1
 }
 
-// Nothing is there, or the places of an open job are: how many hazards stand, and whether this much is sound, behind other states that are
-// or are not.
-pub fn extent_of(before: bool, limits: Limits, used: u64, count: u64) -> Extent
-    ensures { result ≡ extent_of before limits used count }
+// How many hazards a kept state says that it has: none where it is neither nothing nor a state of up to 256.
+fn hazards_held(used: u64, count: u64) -> Option<usize>
+    ensures { result ≡ hazards_held used count }
 {
     if used == 1 {
-        if limits.fits & (count <= 256) {
-            Extent {
-                sound: before,
-                end: count as usize,
-            }
+        if count <= 256 {
+            Some(count as usize)
         } else {
-            Extent {
-                sound: false,
-                end: 0,
-            }
+            None
         }
+    } else if (used == 0) & (count == 0) {
+        Some(0)
     } else {
-        Extent {
-            sound: before & (used == 0) & (count == 0),
-            end: 0,
-        }
+        None
     }
 }
 
-// The answer, once every place has been passed: no name out of order, and no bit behind the hazards.
-pub fn places_pass(sound: bool, low: u32, bits: u64) -> bool
-    ensures { result ≡ places_pass sound low bits }
+// Tests a kept state: it must be nothing, or an open job under the header that the limits are of.
+pub fn is_sound(limits: Limits, kept: &KeptState, above: &u32) -> bool
+    requires { above.now ≡ 65537 }
+    ensures { result ≡ passes limits kept.now }
 {
-    sound & (low <= 65536) & (bits == 0)
+    match hazards_held(kept.used, kept.count) {
+        Some(count) => places_pass(limits, count, &kept.hazards, above),
+        None => false,
+    }
 }
 
-// The new one where it is asked for and the numbers are equal, else the old one.
-pub fn choose(asked: bool, number: u64, own: u64, new: KeptState, old: KeptState) -> KeptState
-    ensures { result ≡ chosen asked number own new old }
+// What is kept under a number; nothing above 7.
+pub fn kept_under(kept: &[KeptState; 8], number: u64) -> KeptState
+    ensures { result ≡ get_or kept.now number nothing_kept }
 {
-    if asked & (number == own) { new } else { old }
+    if number < 8 {
+        kept[number as usize]
+    } else {
+        nothing_kept()
+    }
 }
 
 // What an opening leaves under each number: all is 0.

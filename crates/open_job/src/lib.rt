@@ -2,14 +2,14 @@
 #![tactic(auto)]
 
 use job::{NamedHazard, StoredJob};
-use refusal::Outcome;
 
 pub mod calls; // the calls on the parts of the memory, by value
 pub mod kept; // one state among others: its rules; kept, and taken back
-pub mod tested; // their steps, once the memory is tested
+pub mod memory; // the calls in the caller's memory
+pub mod tested; // the calls by value on a present state that keeps the rules
 
 // What is kept under a number. Nothing: all is 0. A state: used is 1, and its names and hazards stand as in an open job, whose header is
-// that of the present state.
+// that of the present state. `used` is a number because include/barrier.h has it so.
 #[repr(C)]
 #[derive(Clone, Copy)]
 pub struct KeptState {
@@ -18,31 +18,10 @@ pub struct KeptState {
     pub hazards: [NamedHazard; 256],
 }
 
-// The memory of an open job. Eight fields lie as an array of eight does; each is read and stored by itself.
+// The memory of an open job: the present state, and what is kept under each number.
 #[repr(C)]
 #[derive(Clone, Copy)]
 pub struct OpenStates {
     pub present: StoredJob,
-    pub kept0: KeptState,
-    pub kept1: KeptState,
-    pub kept2: KeptState,
-    pub kept3: KeptState,
-    pub kept4: KeptState,
-    pub kept5: KeptState,
-    pub kept6: KeptState,
-    pub kept7: KeptState,
-}
-
-// How many hazards stand in a state, and whether all that is known beside its places is sound.
-#[derive(Clone, Copy)]
-pub struct Extent {
-    pub sound: bool,
-    pub end: usize,
-}
-
-// How a call ended, and the present state after it.
-#[derive(Clone, Copy)]
-pub struct Change {
-    pub outcome: Outcome,
-    pub next: StoredJob,
+    pub kept: [KeptState; 8],
 }

@@ -1,6 +1,6 @@
 -- The test of the places without a branch is the memory's.
 -- Assumes nothing.
-use Rattle.std.specs.Prelude.{if◌then◌else◌}
+use Rattle.std.specs.Prelude.{Some, None, if◌then◌else◌}
 use Prim.Native.Nat.{ℕ, zero, suc, ◌+◌, ◌≤◌, ◌<◌, min}
 use native.Mathlib.Omega.{arith}
 use native.Mathlib.Decide.{dec_lt}
@@ -13,7 +13,8 @@ use lib.Bits.{bit_or, or_add_and, and_le_l, and_le_r}
 use borrow.Author.Tests.{lt-ltb, le-leb, le-ltb, leb-true, ltb-true, ltb-false, eqb-true, eq-eqb}
 use Rattle.base.specs.Choice.{all_of}
 use Rattle.base.specs.Answer.{is_accepted}
-use Rattle.base.proofs.TestLaws.{and_left, and_right, and_intro, same_test, not_both, not_and, not_and_intro}
+use Rattle.base.proofs.TestLaws.{same_test, not_and, not_and_intro}
+use Rattle.std.proofs.lemmas.Bool.{and_from, and_parts, both_ways}
 use Rattle.refusal.specs.Refusal.{unless_refuse}
 use Rattle.refusal.specs.declared.Refusal.TheVariants as Row
 use Rattle.job.specs.declared.Header.{Header}
@@ -28,7 +29,7 @@ use Rattle.planning.specs.Envelope.{stands_near, test_hazard}
 use Rattle.planning.proofs.TestedLaws.{near_numbers}
 use Rattle.open_memory.specs.declared.rules.Limits.{Limits}
 use Rattle.open_memory.specs.Memory.{greatest_name, admit, admissible, is_unused, is_open_job}
-use Rattle.open_memory.specs.Steps.{in_order_from, all_in_order, limits_of, in_limits, next_low, low_after, rest_of, with_bits, bits_after}
+use Rattle.open_memory.specs.Steps.{in_order_from, all_in_order, own_limits, limits_of, in_limits, next_low, low_after, rest_of, with_bits, bits_after, places_pass}
 use Rattle.open_memory.proofs.RuleLaws.{unused_are}
 use Rattle.open_memory.proofs.RangeLaws.{counted_fits}
 use Rattle.open_memory.proofs.OrderLaws.{by_order, open_not_header}
@@ -62,7 +63,7 @@ least n a b = same_test (leb (min a b) n) (not (ltb n a && ltb n b))
 module _ (h : Header) (fits : HeaderFits h) where
   -- The limits of a header that fits.
   abbrev limits : Limits
-  limits = record { fits = true; begin = h.begin; end = h.end; near = min h.zone (h.offset + h.deflection) }
+  limits = own_limits h
 
   module _ (p : NamedHazard) where
     abbrev z : Hazard
@@ -97,28 +98,28 @@ module _ (h : Header) (fits : HeaderFits h) where
         let a6 = a5 && leb p.near p.far in
         let a7 = a6 && leb p.far 60000 in
         let a8 = a7 && leb 1 p.level in
-        let e8 = and_left a8 (leb p.level 6) e in
-        let e7 = and_left a7 (leb 1 p.level) e8 in
-        let e6 = and_left a6 (leb p.far 60000) e7 in
-        let e5 = and_left a5 (leb p.near p.far) e6 in
-        let e4 = and_left a4 (leb (min h.zone (h.offset + h.deflection)) p.near) e5 in
-        let e3 = and_left a3 (leb p.end h.end) e4 in
-        let e2 = and_left a2 (ltb p.start p.end) e3 in
-        let long : p.start < p.end = ltb-true _ _ (and_right a2 (ltb p.start p.end) e3) in
-        let ends : p.end ≤ h.end = leb-true _ _ (and_right a3 (leb p.end h.end) e4) in
-        let far : p.near ≤ p.far = leb-true _ _ (and_right a5 (leb p.near p.far) e6) in
-        let top : p.far ≤ 60000 = leb-true _ _ (and_right a6 (leb p.far 60000) e7) in
+        let e8 = (and_parts a8 (leb p.level 6) e).0 in
+        let e7 = (and_parts a7 (leb 1 p.level) e8).0 in
+        let e6 = (and_parts a6 (leb p.far 60000) e7).0 in
+        let e5 = (and_parts a5 (leb p.near p.far) e6).0 in
+        let e4 = (and_parts a4 (leb (min h.zone (h.offset + h.deflection)) p.near) e5).0 in
+        let e3 = (and_parts a3 (leb p.end h.end) e4).0 in
+        let e2 = (and_parts a2 (ltb p.start p.end) e3).0 in
+        let long : p.start < p.end = ltb-true _ _ ((and_parts a2 (ltb p.start p.end) e3).1) in
+        let ends : p.end ≤ h.end = leb-true _ _ ((and_parts a3 (leb p.end h.end) e4).1) in
+        let far : p.near ≤ p.far = leb-true _ _ ((and_parts a5 (leb p.near p.far) e6).1) in
+        let top : p.far ≤ 60000 = leb-true _ _ ((and_parts a6 (leb p.far 60000) e7).1) in
         sym ranges ∙ rw (
-          and_left a1 (leb h.begin p.start) e2,
-          and_right a1 (leb h.begin p.start) e2,
+          (and_parts a1 (leb h.begin p.start) e2).0,
+          (and_parts a1 (leb h.begin p.start) e2).1,
           lt-ltb p.start h.end (omega arith),
-          and_right a2 (ltb p.start p.end) e3,
-          and_right a3 (leb p.end h.end) e4,
+          (and_parts a2 (ltb p.start p.end) e3).1,
+          (and_parts a3 (leb p.end h.end) e4).1,
           le-leb p.near 60000 (omega arith),
-          and_right a5 (leb p.near p.far) e6,
-          and_right a6 (leb p.far 60000) e7,
-          and_right a7 (leb 1 p.level) e8,
-          and_right a8 (leb p.level 6) e,
+          (and_parts a5 (leb p.near p.far) e6).1,
+          (and_parts a6 (leb p.far 60000) e7).1,
+          (and_parts a7 (leb 1 p.level) e8).1,
+          (and_parts a8 (leb p.level 6) e).1,
         )
 
     ranged_limits : hazard_in_range h z ≡ true → in_limits limits p ≡ not (stands_near h z)
@@ -146,7 +147,7 @@ module _ (h : Header) (fits : HeaderFits h) where
         go false e = out (in_limits limits p) refl ∙ may_unranged e
           where
             out : (c : Bool) → in_limits limits p ≡ c → c ≡ false
-            out true i = absurd (not_both (limits_ranged i) e)
+            out true i = absurd (both_ways _ e (limits_ranged i))
             out false i = refl
 
   -- The names rise, and the hazards could be added, where no place raised the least name above every name.
@@ -158,8 +159,8 @@ module _ (h : Header) (fits : HeaderFits h) where
     where
       go : (b : Bool) → (leb 65537 p.name && leb p.name greatest_name) ≡ b → 65537 ≡ (if b && in_limits l p then p.name + 1 else 65537)
       go true e =
-          let up : 65537 ≤ p.name = leb-true _ _ (and_left (leb 65537 p.name) (leb p.name greatest_name) e) in
-          let top : p.name ≤ 65535 = leb-true _ _ (and_right (leb 65537 p.name) (leb p.name greatest_name) e) in
+          let up : 65537 ≤ p.name = leb-true _ _ ((and_parts (leb 65537 p.name) (leb p.name greatest_name) e).0) in
+          let top : p.name ≤ 65535 = leb-true _ _ ((and_parts (leb 65537 p.name) (leb p.name greatest_name) e).1) in
           absurd (omega arith)
       go false e = refl
 
@@ -175,7 +176,7 @@ module _ (h : Header) (fits : HeaderFits h) where
           → (p.name + 1 ≤ 65536 → leb (low_after limits (p.name + 1) ps) 65536 ≡ all_in_order h (p.name + 1) ps)
           → leb (low_after limits (next_low limits low p) ps) 65536 ≡ (in_order_from h low p && all_in_order h (p.name + 1) ps)
       go true e rest =
-          let top : p.name ≤ 65535 = leb-true _ _ (and_right (leb low p.name) (leb p.name greatest_name) (and_left _ (in_limits limits p) e)) in
+          let top : p.name ≤ 65535 = leb-true _ _ ((and_parts (leb low p.name) (leb p.name greatest_name) ((and_parts _ (in_limits limits p) e).0)).1) in
           rw (sym test ∙ e, e) (rest (omega arith))
       go false e rest = rw (sym test ∙ e, e, broken limits ps)
 
@@ -189,12 +190,12 @@ either_bits a b = same_test (eqb (bit_or a b) 0) (eqb a 0 && eqb b 0) to from
         let none : bit_or a b ≡ 0 = eqb-true _ _ e in
         let one : a ≡ 0 = omega (arith, or_add_and a b, and_le_r a b) in
         let other : b ≡ 0 = omega (arith, or_add_and a b, and_le_l a b) in
-        and_intro (eq-eqb a 0 one) (eq-eqb b 0 other)
+        and_from _ _ (eq-eqb a 0 one) (eq-eqb b 0 other)
 
     from : eqb a 0 && eqb b 0 ≡ true → eqb (bit_or a b) 0 ≡ true
     from e =
-        let one : a ≡ 0 = eqb-true _ _ (and_left (eqb a 0) (eqb b 0) e) in
-        let other : b ≡ 0 = eqb-true _ _ (and_right (eqb a 0) (eqb b 0) e) in
+        let one : a ≡ 0 = eqb-true _ _ ((and_parts (eqb a 0) (eqb b 0) e).0) in
+        let other : b ≡ 0 = eqb-true _ _ ((and_parts (eqb a 0) (eqb b 0) e).1) in
         eq-eqb (bit_or a b) 0 (ap₂ bit_or one other)
 
 -- Numbers side by side are 0 exactly if each is.
@@ -207,12 +208,12 @@ place_unused p = same_test (zeros p) (is_unused p) to from
 
     to : zeros p ≡ true → is_unused p ≡ true
     to e =
-        let two = and_left (eqb p.start 0 && eqb p.end 0) (eqb (rest_of p) 0) e in
-        let rest : rest_of p ≡ 0 = eqb-true _ _ (and_right (eqb p.start 0 && eqb p.end 0) (eqb (rest_of p) 0) e) in
+        let two = (and_parts (eqb p.start 0 && eqb p.end 0) (eqb (rest_of p) 0) e).0 in
+        let rest : rest_of p ≡ 0 = eqb-true _ _ ((and_parts (eqb p.start 0 && eqb p.end 0) (eqb (rest_of p) 0) e).1) in
         let zero : (x : ℕ) → x ≡ 0 → eqb x 0 ≡ true = λ x. eq-eqb x 0 in
         rw (
-          and_left (eqb p.start 0) (eqb p.end 0) two,
-          and_right (eqb p.start 0) (eqb p.end 0) two,
+          (and_parts (eqb p.start 0) (eqb p.end 0) two).0,
+          (and_parts (eqb p.start 0) (eqb p.end 0) two).1,
           zero p.near (omega arith),
           zero p.far (omega arith),
           zero p.name (omega arith),
@@ -221,7 +222,7 @@ place_unused p = same_test (zeros p) (is_unused p) to from
         )
 
     from : is_unused p ≡ true → zeros p ≡ true
-    from e = ap zeros (let all = unused_are (p ∷ []) (and_intro {a = is_unused p} e refl) in let own : p ≡ unused = cc in own)
+    from e = ap zeros (let all = unused_are (p ∷ []) (and_from (is_unused p) _ e refl) in let own : p ≡ unused = cc in own)
 
 place_bits : (bits : ℕ) (p : NamedHazard) → eqb (with_bits bits p) 0 ≡ (eqb bits 0 && is_unused p)
 unfolding with_bits
@@ -240,6 +241,23 @@ bits_after_lem bits [] = sym (and-true (eqb bits 0))
 bits_after_lem bits (p ∷ ps) =
     bits_after_lem (with_bits bits p) ps ∙ ap (λ (b : Bool). b && all_of is_unused ps) (place_bits bits p) ∙ and_assoc (eqb bits 0) (is_unused p) (all_of is_unused ps)
 
+-- The limits of a header: its numbers are in their ranges, or there are none.
+limits_told : (h : Header) (l : Limits) → Some l ≡ limits_of h → (header_in_range (counted h 0) ≡ true) × (l ≡ own_limits h)
+unfolding limits_of
+limits_told h l = go (header_in_range (counted h 0))
+  where
+    go : (b : Bool) → Some l ≡ (if b then Some (own_limits h) else None) → (b ≡ true) × (l ≡ own_limits h)
+    go true e = (refl, cc)
+    go false e = cc
+
+limits_none : (h : Header) → None ≡ limits_of h → header_in_range (counted h 0) ≡ false
+unfolding limits_of
+limits_none h = go (header_in_range (counted h 0))
+  where
+    go : (b : Bool) → None ≡ (if b then Some (own_limits h) else None) → b ≡ false
+    go true e = cc
+    go false e = refl
+
 -- The memory
 
 module _ (h : Header) (n : ℕ) (ps : List NamedHazard) where
@@ -247,31 +265,26 @@ module _ (h : Header) (n : ℕ) (ps : List NamedHazard) where
   abbrev state : StoredJob
   state = record { header = counted h n; hazards = ps }
 
-  pub state_sound : header_in_range (counted h 0) ≡ true → n ≤ 256
-      → (leb (low_after (limits_of h) 0 (take n ps)) 65536 && eqb (bits_after 0 (drop n ps)) 0) ≡ is_open_job state
-  unfolding limits_of
-  state_sound e few =
-      let fits : HeaderFits (counted h n) = counted_fits (counted h 0) n e few in
-      rw e (ap₂ ◌&&◌ (low_after_lem (counted h n) fits 0 (take n ps) (omega arith)) (bits_after_lem 0 (drop n ps)) ∙ sym (by_order state fits))
+  pub state_sound : (l : Limits) → Some l ≡ limits_of h → n ≤ 256 → places_pass l n ps ≡ is_open_job state
+  unfolding places_pass
+  state_sound l e few =
+      let told = limits_told h l e in
+      let fits : HeaderFits (counted h n) = counted_fits (counted h 0) n told.0 few in
+      rw told.1 (ap₂ ◌&&◌ (low_after_lem (counted h n) fits 0 (take n ps) (omega arith)) (bits_after_lem 0 (drop n ps)) ∙ sym (by_order state fits))
 
-  pub state_not : (header_in_range (counted h 0) && leb n 256) ≡ false → false ≡ is_open_job state
-  state_not e = go (header_in_range (counted h n)) refl
+  pub state_none : None ≡ limits_of h → false ≡ is_open_job state
+  state_none e = go (header_in_range (counted h n)) refl
     where
       go : (b : Bool) → header_in_range (counted h n) ≡ b → false ≡ is_open_job state
-      go true r = absurd (not_both (and_intro (counted_fits (counted h n) 0 r (omega arith)) (le-leb n 256 (header_bounds (counted h n) r).count)) e)
+      go true r = absurd (both_ways _ (limits_none h e) (counted_fits (counted h n) 0 r (omega arith)))
       go false r = open_not_header state r
 
-pub limits_fit : (h : Header) → (limits_of h).fits ≡ header_in_range (counted h 0)
-unfolding limits_of
-limits_fit h = go (header_in_range (counted h 0))
-  where
-    of : Bool → Limits
-    of b = if b then record { fits = true; begin = h.begin; end = h.end; near = min h.zone (h.offset + h.deflection) }
-        else record { fits = false; begin = 0; end = 0; near = 0 }
-
-    go : (b : Bool) → (of b).fits ≡ b
-    go true = refl
-    go false = refl
+  pub state_many : leb n 256 ≡ false → false ≡ is_open_job state
+  state_many e = go (header_in_range (counted h n)) refl
+    where
+      go : (b : Bool) → header_in_range (counted h n) ≡ b → false ≡ is_open_job state
+      go true r = absurd (both_ways _ e (le-leb n 256 (header_bounds (counted h n) r).count))
+      go false r = open_not_header state r
 
 -- A turn of each loop: one place more.
 pub low_turn : (l : Limits) (low : ℕ) (ps : List NamedHazard) (i : ℕ) → i < length ps

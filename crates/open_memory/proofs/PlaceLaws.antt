@@ -11,7 +11,8 @@ use lib.ListN.{length, get_or}
 use lib.Dec.{ltb, eqb}
 use borrow.Author.Tests.{lt-ltb, le-ltb, eq-eqb, ne_eqb}
 use Rattle.base.specs.Choice.{some_of, filter}
-use Rattle.base.proofs.TestLaws.{any_intro, not_both}
+use Rattle.base.proofs.TestLaws.{any_intro}
+use Rattle.std.proofs.lemmas.Bool.{both_ways}
 use Rattle.job.specs.declared.Header.{Header}
 use Rattle.job.specs.declared.NamedHazard.{NamedHazard}
 use Rattle.job.specs.Job.{unnamed}
@@ -29,7 +30,7 @@ standing_named {q} m = any_intro (λ (p : NamedHazard). eqb p.name q.name) m (eq
 
 pub other_name : (name : ℕ) (ps : List NamedHazard) (q : NamedHazard) → stands name ps ≡ false → Memᴰ q ps → q.name ≡ name → ⊥
 unfolding stands
-other_name name ps q e m same = not_both (any_intro (λ (p : NamedHazard). eqb p.name name) m (eq-eqb q.name name same)) e
+other_name name ps q e m same = both_ways _ e (any_intro (λ (p : NamedHazard). eqb p.name name) m (eq-eqb q.name name same))
 
 stands_here : (name : ℕ) (p : NamedHazard) (ps : List NamedHazard) → stands name (p ∷ ps) ≡ false → (p.name ≡ name → ⊥) × (stands name ps ≡ false)
 unfolding stands some_of
@@ -38,7 +39,7 @@ stands_here name p ps e = go (eqb p.name name) refl e
     go : (b : Bool) → eqb p.name name ≡ b → (b || some_of (λ (q : NamedHazard). eqb q.name name) ps) ≡ false
         → (p.name ≡ name → ⊥) × (some_of (λ (q : NamedHazard). eqb q.name name) ps ≡ false)
     go true q f = absurd (false≢true (sym f))
-    go false q f = ((λ same. not_both (eq-eqb p.name name same) q), f)
+    go false q f = ((λ same. both_ways _ q (eq-eqb p.name name same)), f)
 
 -- Rising names
 
@@ -134,7 +135,7 @@ module _ (h : Header) (name : ℕ) where
       go (no l) (yes s) r f = rw (eq-eqb p.name name s, le-ltb p.name name (omega arith)) (all_kept h (p.name + 1) name ps t.3 (omega arith))
       go (no l) (no s) r f =
           let apart = ne_eqb p.name name s in
-          absurd (not_both (rw apart at f) (none_below h (p.name + 1) name ps t.3 (omega arith)))
+          absurd (both_ways _ (none_below h (p.name + 1) name ps t.3 (omega arith)) (rw apart at f))
 
   pub rank_within : (low : ℕ) (ps : List NamedHazard) → Stand h low ps → stands name ps ≡ true → rank name ps < length ps
   unfolding rank stands some_of
@@ -168,7 +169,7 @@ module _ (h : Header) (name : ℕ) where
       go (no l) (yes s) r f = rw (eq-eqb p.name name s, le-ltb p.name name (omega arith))
       go (no l) (no s) r f =
           let apart = ne_eqb p.name name s in
-          absurd (not_both (rw apart at f) (none_below h (p.name + 1) name ps t.3 (omega arith)))
+          absurd (both_ways _ (none_below h (p.name + 1) name ps t.3 (omega arith)) (rw apart at f))
 
 -- Putting in keeps the rules
 

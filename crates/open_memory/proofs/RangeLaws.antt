@@ -8,7 +8,7 @@ use mathlib.Core.Bool.{Bool, true, false, ◌&&◌, ◌||◌, and_assoc, and-tru
 use mathlib.Core.List.{List, [], ◌∷◌, ◌++◌}
 use lib.Dec.{leb, ltb, eqb}
 use borrow.Author.Tests.{le-leb, lt-ltb, ltb-true, eq-eqb, ne_eqb}
-use Rattle.base.proofs.TestLaws.{and_left, and_right, and_intro, not_both}
+use Rattle.std.proofs.lemmas.Bool.{and_from, and_parts, both_ways}
 use Rattle.job.specs.declared.Header.{Header}
 use Rattle.job.specs.declared.Hazard.{Hazard}
 use Rattle.job.specs.declared.Bounds.{Bounds}
@@ -82,15 +82,15 @@ last_counted h n last few = go (ℕ_discrete h.kind 2)
   where
     go : Dec (h.kind ≡ 2) → last_in_range (counted h n) ≡ true
     go (yes two) = sym (last_of_two (counted h n) two)
-        ∙ and_intro (and_left (leb 1 h.panel && leb h.panel 10000) (leb h.count 256) (last_of_two h two ∙ last)) (le-leb n 256 few)
+        ∙ and_from _ _ ((and_parts (leb 1 h.panel && leb h.panel 10000) (leb h.count 256) (last_of_two h two ∙ last)).0) (le-leb n 256 few)
     go (no other) =
-        sym (last_of_one (counted h n) other) ∙ and_intro (le-leb n 256 few) (and_right (leb h.count 256) (eqb h.panel 1) (last_of_one h other ∙ last))
+        sym (last_of_one (counted h n) other) ∙ and_from _ _ (le-leb n 256 few) ((and_parts (leb h.count 256) (eqb h.panel 1) (last_of_one h other ∙ last)).1)
 
 pub counted_fits : (h : Header) (n : ℕ) → HeaderFits h → n ≤ 256 → HeaderFits (counted h n)
 counted_fits h n fits few =
     let shared = in_ranges next_in_header [] (shared_numbers h) in
     let both : shared && last_in_range h ≡ true = sym (header_parts h) ∙ fits in
-    header_parts (counted h n) ∙ and_intro (and_left shared (last_in_range h) both) (last_counted h n (and_right shared (last_in_range h) both) few)
+    header_parts (counted h n) ∙ and_from _ _ ((and_parts shared (last_in_range h) both).0) (last_counted h n ((and_parts shared (last_in_range h) both).1) few)
 
 -- A hazard
 
@@ -107,9 +107,9 @@ is_narrow z = ((ltb z.side 256 && ltb z.near 65536) && ltb z.far 65536) && ltb z
 
 all_four : (a b c d : Bool) → ((a && b) && c) && d ≡ true → (a ≡ true) × (b ≡ true) × (c ≡ true) × (d ≡ true)
 all_four a b c d e =
-    let three = and_left ((a && b) && c) d e in
-    let two = and_left (a && b) c three in
-    (and_left a b two, and_right a b two, and_right (a && b) c three, and_right ((a && b) && c) d e)
+    let three = (and_parts ((a && b) && c) d e).0 in
+    let two = (and_parts (a && b) c three).0 in
+    ((and_parts a b two).0, (and_parts a b two).1, (and_parts (a && b) c three).1, (and_parts ((a && b) && c) d e).1)
 
 pub narrow : (z : Hazard) → is_narrow z ≡ true → Narrow z
 narrow z e =
@@ -125,5 +125,5 @@ wide_out h z e = go (hazard_in_range h z) refl
         rw (lt-ltb z.side 256 (omega arith), lt-ltb z.near 65536 (omega arith), lt-ltb z.far 65536 (omega arith), lt-ltb z.level 256 (omega arith))
 
     go : (b : Bool) → hazard_in_range h z ≡ b → false ≡ b
-    go true r = absurd (not_both (fit (hazard_bounds h z r)) e)
+    go true r = absurd (both_ways _ e (fit (hazard_bounds h z r)))
     go false r = refl

@@ -15,7 +15,7 @@ use Rattle.base.specs.Choice.{all_of}
 use Rattle.base.specs.Answer.{Answer, accepted, refused, ◌>>=◌, is_accepted}
 use Rattle.refusal.specs.Refusal.{unless_refuse}
 use Rattle.refusal.specs.declared.Refusal.TheVariants as Row
-use Rattle.base.proofs.TestLaws.{and_left, and_right}
+use Rattle.std.proofs.lemmas.Bool.{and_parts}
 use Rattle.job.specs.declared.Header.{Header}
 use Rattle.job.specs.declared.Hazard.{Hazard}
 use Rattle.job.specs.declared.NamedHazard.{NamedHazard}
@@ -95,11 +95,11 @@ unfolding names_rise all_of
 stand_facts h low [] names may = tt
 stand_facts h low (p ∷ ps) names may =
     let own = leb low p.name && leb p.name greatest_name in
-    let here = and_left own (names_rise (p.name + 1) ps) names in (
-      leb-true _ _ (and_left (leb low p.name) (leb p.name greatest_name) here),
-      leb-true _ _ (and_right (leb low p.name) (leb p.name greatest_name) here),
-      admitted h p.name (unnamed p) (and_left (admissible h p) (all_of (admissible h) ps) may),
-      stand_facts h (p.name + 1) ps (and_right own (names_rise (p.name + 1) ps) names) (and_right (admissible h p) (all_of (admissible h) ps) may),
+    let here = (and_parts own (names_rise (p.name + 1) ps) names).0 in (
+      leb-true _ _ ((and_parts (leb low p.name) (leb p.name greatest_name) here).0),
+      leb-true _ _ ((and_parts (leb low p.name) (leb p.name greatest_name) here).1),
+      admitted h p.name (unnamed p) ((and_parts (admissible h p) (all_of (admissible h) ps) may).0),
+      stand_facts h (p.name + 1) ps ((and_parts own (names_rise (p.name + 1) ps) names).1) ((and_parts (admissible h p) (all_of (admissible h) ps) may).1),
     )
 
 pub stand_names : (h : Header) (low : ℕ) (ps : List NamedHazard) → Stand h low ps → names_rise low ps ≡ true
@@ -126,50 +126,48 @@ unfolding is_unused
 unused_is p e =
     let a1 = eqb p.start 0 in let a2 = a1 && eqb p.end 0 in let a3 = a2 && eqb p.near 0 in
     let a4 = a3 && eqb p.far 0 in let a5 = a4 && eqb p.name 0 in let a6 = a5 && eqb p.side 0 in
-    let e6 : a6 ≡ true = and_left a6 (eqb p.level 0) e in
-    let e5 : a5 ≡ true = and_left a5 (eqb p.side 0) e6 in
-    let e4 : a4 ≡ true = and_left a4 (eqb p.name 0) e5 in
-    let e3 : a3 ≡ true = and_left a3 (eqb p.far 0) e4 in
-    let e2 : a2 ≡ true = and_left a2 (eqb p.near 0) e3 in
-    let level : p.level ≡ 0 = eqb-true _ _ (and_right a6 (eqb p.level 0) e) in
-    let side : p.side ≡ 0 = eqb-true _ _ (and_right a5 (eqb p.side 0) e6) in
-    let name : p.name ≡ 0 = eqb-true _ _ (and_right a4 (eqb p.name 0) e5) in
-    let far : p.far ≡ 0 = eqb-true _ _ (and_right a3 (eqb p.far 0) e4) in
-    let near : p.near ≡ 0 = eqb-true _ _ (and_right a2 (eqb p.near 0) e3) in
-    let end : p.end ≡ 0 = eqb-true _ _ (and_right a1 (eqb p.end 0) e2) in
-    let start : p.start ≡ 0 = eqb-true _ _ (and_left a1 (eqb p.end 0) e2) in
+    let e6 : a6 ≡ true = (and_parts a6 (eqb p.level 0) e).0 in
+    let e5 : a5 ≡ true = (and_parts a5 (eqb p.side 0) e6).0 in
+    let e4 : a4 ≡ true = (and_parts a4 (eqb p.name 0) e5).0 in
+    let e3 : a3 ≡ true = (and_parts a3 (eqb p.far 0) e4).0 in
+    let e2 : a2 ≡ true = (and_parts a2 (eqb p.near 0) e3).0 in
+    let level : p.level ≡ 0 = eqb-true _ _ ((and_parts a6 (eqb p.level 0) e).1) in
+    let side : p.side ≡ 0 = eqb-true _ _ ((and_parts a5 (eqb p.side 0) e6).1) in
+    let name : p.name ≡ 0 = eqb-true _ _ ((and_parts a4 (eqb p.name 0) e5).1) in
+    let far : p.far ≡ 0 = eqb-true _ _ ((and_parts a3 (eqb p.far 0) e4).1) in
+    let near : p.near ≡ 0 = eqb-true _ _ ((and_parts a2 (eqb p.near 0) e3).1) in
+    let end : p.end ≡ 0 = eqb-true _ _ ((and_parts a1 (eqb p.end 0) e2).1) in
+    let start : p.start ≡ 0 = eqb-true _ _ ((and_parts a1 (eqb p.end 0) e2).0) in
     λ i. record { start = start i; end = end i; near = near i; far = far i; name = name i; side = side i; level = level i }
 
 pub unused_are : (l : List NamedHazard) → all_of is_unused l ≡ true → l ≡ replicate (length l) unused
 unfolding all_of
 unused_are [] e = refl
-unused_are (p ∷ ps) e = ap₂ ◌∷◌ (unused_is p (and_left (is_unused p) (all_of is_unused ps) e)) (unused_are ps (and_right (is_unused p) (all_of is_unused ps) e))
+unused_are (p ∷ ps) e = ap₂ ◌∷◌ (unused_is p ((and_parts (is_unused p) (all_of is_unused ps) e).0)) (unused_are ps ((and_parts (is_unused p) (all_of is_unused ps) e).1))
 
 -- Memory that keeps the rules
 module _ (m : StoredJob) (good : is_open_job m ≡ true) where
   names : header_in_range m.header && names_rise 0 (standing m) && all_of (admissible m.header) (standing m) ≡ true
   unfolding is_open_job
-  names = and_left (header_in_range m.header && names_rise 0 (standing m) && all_of (admissible m.header) (standing m))
-      (all_of is_unused (drop m.header.count m.hazards)) good
+  names = (and_parts (header_in_range m.header && names_rise 0 (standing m) && all_of (admissible m.header) (standing m)) (all_of is_unused (drop m.header.count m.hazards)) good).0
 
   header : header_in_range m.header && names_rise 0 (standing m) ≡ true
-  header = and_left (header_in_range m.header && names_rise 0 (standing m)) (all_of (admissible m.header) (standing m)) names
+  header = (and_parts (header_in_range m.header && names_rise 0 (standing m)) (all_of (admissible m.header) (standing m)) names).0
 
   pub open_header : HeaderFits m.header
-  open_header = and_left (header_in_range m.header) (names_rise 0 (standing m)) header
+  open_header = (and_parts (header_in_range m.header) (names_rise 0 (standing m)) header).0
 
   pub open_count : m.header.count ≤ 256
   open_count = (header_bounds m.header open_header).count
 
   pub open_standing : Stand m.header 0 (standing m)
   open_standing =
-      stand_facts m.header 0 (standing m) (and_right (header_in_range m.header) (names_rise 0 (standing m)) header)
-      (and_right (header_in_range m.header && names_rise 0 (standing m)) (all_of (admissible m.header) (standing m)) names)
+      stand_facts m.header 0 (standing m) ((and_parts (header_in_range m.header) (names_rise 0 (standing m)) header).1)
+      ((and_parts (header_in_range m.header && names_rise 0 (standing m)) (all_of (admissible m.header) (standing m)) names).1)
 
   pub open_unused : all_of is_unused (drop m.header.count m.hazards) ≡ true
   unfolding is_open_job
-  open_unused = and_right (header_in_range m.header && names_rise 0 (standing m) && all_of (admissible m.header) (standing m))
-      (all_of is_unused (drop m.header.count m.hazards)) good
+  open_unused = (and_parts (header_in_range m.header && names_rise 0 (standing m) && all_of (admissible m.header) (standing m)) (all_of is_unused (drop m.header.count m.hazards)) good).1
 
   module _ (size : length m.hazards ≡ 256) where
     pub open_clear : ZerosAfter m

@@ -1,6 +1,6 @@
 -- Steps of the code, proved equal to the paper's definitions.
 -- Assumes nothing.
-use Rattle.std.specs.Prelude.{ℕ, suc, ◌+◌, ◌-◌, ◌*◌, min, ◌≡◌, Bool, true, false, ◌&&◌, ◌||◌, List, [], ◌∷◌, ◌++◌, take, drop, replicate, leb, ltb, eqb, if◌then◌else◌}
+use Rattle.std.specs.Prelude.{Option, Some, None, ℕ, suc, ◌+◌, ◌-◌, ◌*◌, min, ◌≡◌, Bool, true, ◌&&◌, ◌||◌, List, [], ◌∷◌, ◌++◌, take, drop, replicate, leb, ltb, eqb, if◌then◌else◌}
 use Rattle.std.specs.Int.Bits.{bit_or}
 use Rattle.job.specs.declared.Header.{Header}
 use Rattle.job.specs.declared.NamedHazard.{NamedHazard}
@@ -27,11 +27,12 @@ all_in_order h low (p ∷ ps) = in_order_from h low p && all_in_order h (p.name 
 -- The same place by place, without a branch
 
 -- What the header asks of every hazard.
-unfoldable pub limits_of : Header → Limits
-limits_of h =
-    if header_in_range (counted h 0)
-    then record { fits = true; begin = h.begin; end = h.end; near = min h.zone (h.offset + h.deflection) }
-    else record { fits = false; begin = 0; end = 0; near = 0 }
+abbrev pub own_limits : Header → Limits
+own_limits h = record { begin = h.begin; end = h.end; near = min h.zone (h.offset + h.deflection) }
+
+-- None where a number of the header's own is out of its range, whatever its hazard count.
+unfoldable pub limits_of : Header → Option Limits
+limits_of h = if header_in_range (counted h 0) then Some (own_limits h) else None
 
 unfoldable pub in_limits : Limits → NamedHazard → Bool
 in_limits l p =
@@ -57,6 +58,10 @@ with_bits bits p = bit_or (bit_or (bit_or bits p.start) p.end) (rest_of p)
 unfoldable pub bits_after : (bits : ℕ) → List NamedHazard → ℕ
 bits_after bits [] = bits
 bits_after bits (p ∷ ps) = bits_after (with_bits bits p) ps
+
+-- The places of a state of so many hazards: no name is out of order, and no bit stands behind the hazards.
+unfoldable pub places_pass : Limits → (count : ℕ) → List NamedHazard → Bool
+places_pass l count ps = leb (low_after l 0 (take count ps)) 65536 && eqb (bits_after 0 (drop count ps)) 0
 
 -- Every place behind the hazards is 0.
 pub record ZerosAfter (m : StoredJob) : Type 0 where

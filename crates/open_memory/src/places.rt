@@ -1,11 +1,9 @@
 // Hazards put in and taken out.
 ghost use Rattle.std.specs.Prelude.{◌≡◌, true, [], ◌≤◌, ◌<◌};
-ghost use Rattle.job.specs.Job.{named, counted};
-ghost use Rattle.job.specs.Fits.{header_in_range, hazard_in_range};
-ghost use Rattle.open_memory.specs.Memory.{hazard_given, standing, laid_out, is_open_job, stands};
+ghost use Rattle.job.specs.Job.{counted};
+ghost use Rattle.open_memory.specs.Memory.{standing, laid_out, is_open_job, stands};
 ghost use Rattle.open_memory.specs.Steps.{ZerosAfter, rank, put_at, taken_at};
 
-use super::GivenHazard;
 use job::{Header, NamedHazard, StoredJob, UNUSED};
 
 // The header with another hazard count.
@@ -27,23 +25,6 @@ pub fn empty_state(header: Header) -> StoredJob
     }
 }
 
-// A given hazard, in its ranges, under a name.
-pub fn under_name(header: Header, name: u16, z: GivenHazard) -> NamedHazard
-    requires header_ranged { header_in_range header ≡ true }
-    requires hazard_ranged { hazard_in_range header (hazard_given z) ≡ true }
-    ensures { result ≡ named name (hazard_given z) }
-{
-    NamedHazard {
-        start: z.start,
-        end: z.end,
-        near: z.near as u16,
-        far: z.far as u16,
-        name,
-        side: z.side as u8,
-        level: z.level as u8,
-    }
-}
-
 // How many of the names that stand are below a name: where it stands, or is to be put.
 pub fn place_of(job: StoredJob, name: u16) -> usize
     requires { job.header.count ≤ 256 }
@@ -51,15 +32,12 @@ pub fn place_of(job: StoredJob, name: u16) -> usize
 {
     let header = job.header;
     let count = header.count as usize;
-    let mut i: usize = 0;
-    while i < count {
-        let p = job.hazards[i];
-        if name <= p.name {
+    for i in 0..count {
+        if name <= job.hazards[i].name {
             return i;
         }
-        i += 1;
     }
-    i
+    count
 }
 
 // Does the name stand, at the one place where it could.
@@ -86,11 +64,8 @@ pub fn put_in(job: StoredJob, at: usize, new: NamedHazard) -> StoredJob
     let header = job.header;
     let count = header.count as usize;
     let mut hazards = job.hazards;
-    let mut i = count;
-    while at < i {
-        let below = i - 1;
-        hazards[i] = hazards[below];
-        i = below;
+    for i in (at..count).rev() {
+        hazards[i + 1] = hazards[i];
     }
     hazards[at] = new;
     StoredJob {
@@ -109,11 +84,8 @@ pub fn taken_out(job: StoredJob, at: usize) -> StoredJob
     let header = job.header;
     let last = header.count as usize - 1;
     let mut hazards = job.hazards;
-    let mut i = at;
-    while i < last {
-        let next = i + 1;
-        hazards[i] = hazards[next];
-        i = next;
+    for i in at..last {
+        hazards[i] = hazards[i + 1];
     }
     hazards[last] = UNUSED;
     StoredJob {

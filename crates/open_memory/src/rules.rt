@@ -1,21 +1,18 @@
 // Is the memory an open job: its header, names and hazards, and zeros behind them.
-ghost use Rattle.std.specs.Prelude.{◌≡◌, true, [], ◌≤◌, drop};
+ghost use Rattle.std.specs.Prelude.{◌≡◌, IfSome, IsNone, true, false, [], ◌≤◌};
 ghost use Rattle.job.specs.Job.{next_in_header, shared_numbers};
 ghost use Rattle.job.specs.Fits.{in_ranges, header_in_range, hazard_in_range};
-ghost use Rattle.open_memory.specs.Memory.{hazard_given, standing, is_open_job};
-ghost use Rattle.open_memory.specs.Steps.{last_in_range, limits_of, in_limits, next_low, low_after, rest_of, with_bits, bits_after};
+ghost use Rattle.open_memory.specs.Memory.{hazard_given, is_open_job};
+ghost use Rattle.open_memory.specs.Steps.{last_in_range, limits_of, in_limits, next_low, rest_of, with_bits, places_pass};
 
 use super::GivenHazard;
 use super::places::with_count;
-use base::min;
 use job::hazard_fields::in_range;
 use job::{Hazard, Header, NamedHazard, StoredJob, road_top};
 
-// What a header asks of every hazard that stands: the road, and the near offset that is least. It fits: its own numbers lie in their ranges,
-// whatever its hazard count.
+// What a header asks of every hazard that stands: the road, and the near offset that is least.
 #[derive(Clone, Copy)]
 pub struct Limits {
-    pub fits: bool,
     pub begin: u64,
     pub end: u64,
     pub near: u64,
@@ -75,10 +72,11 @@ fn header_in_range(h: Header) -> bool
     shared_in_range(h) & last_in_range(h)
 }
 
-// The numbers of a hazard that is given fit the widths of one that is stored, and lie in their ranges.
-pub fn hazard_in_range(h: Header, z: GivenHazard) -> bool
+// A given hazard as it is stored; none where a number is out of its range, or wider than the stored one.
+pub fn stored_hazard(h: Header, z: GivenHazard) -> Option<Hazard>
     requires { header_in_range h ≡ true }
-    ensures { result ≡ hazard_in_range h (hazard_given z) }
+    ensures ranged { IfSome result (λ s. (hazard_in_range h (hazard_given z) ≡ true) × (s ≡ hazard_given z)) }
+    ensures outside { IsNone result → hazard_in_range h (hazard_given z) ≡ false }
 {
     if (z.side < 256) & (z.near < 65536) & (z.far < 65536) & (z.level < 256) {
         let stored = Hazard {
@@ -89,30 +87,26 @@ pub fn hazard_in_range(h: Header, z: GivenHazard) -> bool
             side: z.side as u8,
             level: z.level as u8,
         };
-        in_range(h, stored)
-    } else {
-        false
+        if in_range(h, stored) {
+            return Some(stored);
+        }
     }
+    None
 }
 
-// The header's part of the test, made once for all states that have it.
-pub fn limits_of(header: Header) -> Limits
+// The header's part of the test, made once for all states that have it. None where a number of the header's own is out of its range, whatever its
+// hazard count.
+pub fn limits_of(header: Header) -> Option<Limits>
     ensures { result ≡ limits_of header }
 {
     if header_in_range(with_count(header, 0)) {
-        Limits {
-            fits: true,
+        Some(Limits {
             begin: header.begin,
             end: header.end,
-            near: min(header.zone, header.offset + header.deflection),
-        }
+            near: header.zone.min(header.offset + header.deflection),
+        })
     } else {
-        Limits {
-            fits: false,
-            begin: 0,
-            end: 0,
-            near: 0,
-        }
+        None
     }
 }
 
@@ -130,16 +124,17 @@ fn in_limits(limits: Limits, p: NamedHazard) -> bool
         & (p.level <= 6)
 }
 
-// The least name that may stand behind this place; above every name where this one, or one before it, breaks the rules. So all places are
-// passed without a branch.
-pub fn next_low(limits: Limits, low: u32, p: NamedHazard) -> u32
+// The least name that may stand after this place; 65537, above every name, where this place or one before it breaks the rules. A number and no Option,
+// because so all places are passed without a branch. `above` is 65537, handed in because the compiler would otherwise make it anew at every place.
+fn next_low_or(limits: Limits, low: u32, p: NamedHazard, above: u32) -> u32
+    requires { above ≡ 65537 }
     ensures { result ≡ next_low limits low p }
 {
     let name = p.name as u32;
     if (low <= name) & in_limits(limits, p) {
         name + 1
     } else {
-        65537
+        above
     }
 }
 
@@ -155,41 +150,29 @@ fn rest_of(p: NamedHazard) -> u64
 }
 
 // The bits seen so far, and those of this place: 0 while every place is unused.
-pub fn with_bits(bits: u64, p: NamedHazard) -> u64
+fn with_bits(bits: u64, p: NamedHazard) -> u64
     ensures { result ≡ with_bits bits p }
 {
     bits | p.start | p.end | rest_of(p)
 }
 
-// The least name that may stand behind the hazards; above every name where one of them breaks the rules.
-fn low_behind(limits: Limits, job: StoredJob) -> u32
-    requires { job.header.count ≤ 256 }
-    ensures { result ≡ low_after limits 0 (standing job) }
+// Tests the places of a state of `count` hazards: names that rise, hazards within the limits, and zeros after them. The places are lent, so that none is
+// copied, and all are passed without a branch. `above` is lent too, because the compiler would otherwise make it anew at every place.
+#[inline(never)]
+pub fn places_pass(limits: Limits, count: usize, places: &[NamedHazard; 256], above: &u32) -> bool
+    requires few { count ≤ 256 }
+    requires above { above.now ≡ 65537 }
+    ensures { result ≡ places_pass limits count places.now }
 {
-    let header = job.header;
-    let count = header.count as usize;
     let mut low: u32 = 0;
-    let mut i: usize = 0;
-    while i < count {
-        low = next_low(limits, low, job.hazards[i]);
-        i += 1;
+    for place in &places[..count] {
+        low = next_low_or(limits, low, *place, *above);
     }
-    low
-}
-
-// The bits in the places behind the hazards.
-fn bits_behind(job: StoredJob) -> u64
-    requires { job.header.count ≤ 256 }
-    ensures { result ≡ bits_after 0 (drop job.header.count job.hazards) }
-{
-    let header = job.header;
     let mut bits: u64 = 0;
-    let mut i = header.count as usize;
-    while i < 256 {
-        bits = with_bits(bits, job.hazards[i]);
-        i += 1;
+    for place in &places[count..] {
+        bits = with_bits(bits, *place);
     }
-    bits
+    (low <= 65536) & (bits == 0)
 }
 
 // The memory's test: the header, the names and hazards, and zeros behind them.
@@ -197,11 +180,14 @@ pub fn is_open_job(job: StoredJob) -> bool
     ensures { result ≡ is_open_job job }
 {
     let header = job.header;
-    let limits = limits_of(header);
-    if limits.fits & (header.count <= 256) {
-        let low = low_behind(limits, job);
-        let bits = bits_behind(job);
-        return (low <= 65536) & (bits == 0);
+    match limits_of(header) {
+        Some(limits) => {
+            if header.count <= 256 {
+                places_pass(limits, header.count as usize, &job.hazards, &65537)
+            } else {
+                false
+            }
+        }
+        None => false,
     }
-    false
 }

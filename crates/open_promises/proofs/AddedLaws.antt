@@ -8,7 +8,6 @@ use mathlib.Core.Bool.{Bool, true, false}
 use mathlib.Core.List.Memᴰ
 use mathlib.Core.List.{List, [], ◌∷◌, ◌++◌, foldl, foldl-append, Memᴰ}
 use Rattle.base.specs.Answer.{is_accepted}
-use Rattle.base.proofs.TestLaws.{impossible}
 use Rattle.job.specs.declared.Header.{Header}
 use Rattle.job.specs.declared.Hazard.{Hazard}
 use Rattle.job.specs.declared.NamedHazard.{NamedHazard}
@@ -36,7 +35,7 @@ module _ (h : Header) (past : List NamedHazard) (p : NamedHazard) where
   one_to (add name z) m = go (is_accepted (test_add h past name z)) refl m
     where
       stays : Memᴰ p past → StaysOrComes h past (add name z) p
-      stays k = inl (k, λ e. impossible cc)
+      stays k = inl (k, λ e. cc)
 
       go : (b : Bool) → is_accepted (test_add h past name z) ≡ b → Memᴰ p (if b then past ++ named name z ∷ [] else past)
           → StaysOrComes h past (add name z) p
@@ -47,7 +46,7 @@ module _ (h : Header) (past : List NamedHazard) (p : NamedHazard) where
   one_from : (c : Edit) → StaysOrComes h past c p → Memᴰ p (stand_after (test_add h) past c)
   unfolding stand_after
   one_from (withdraw name) (inl w) = without_other name p past w.0 (λ e. w.1 (ap withdraw e))
-  one_from (withdraw name) (inr a) = let e = a.is in impossible cc
+  one_from (withdraw name) (inr a) = let e = a.is in cc
   one_from (add name z) (inl w) = go (is_accepted (test_add h past name z))
     where
       go : (b : Bool) → Memᴰ p (if b then past ++ named name z ∷ [] else past)
@@ -103,8 +102,8 @@ list_from h past [] p (inl w) = w.0
 list_from h past [] p (inr a) = none a.before a.split
   where
     none : (before : List Edit) → [] ≡ before ++ add p.name (unnamed p) ∷ a.since → Memᴰ p past
-    none [] e = impossible cc
-    none (b ∷ bs) e = impossible cc
+    none [] e = cc
+    none (b ∷ bs) e = cc
 list_from h past (c ∷ cs) p s = list_from h (stand_after (test_add h) past c) cs p (came h past c cs p s)
 
 -- The edits that count make the hazards that stand.

@@ -9,7 +9,7 @@ use lib.ListN.{length}
 use borrow.Author.Tests.{le-leb, lt-leb, leb-false, lt-ltb, ltb-true, not-true}
 use Rattle.base.specs.Answer.{accepted, ◌>>=◌, is_accepted, replied}
 use Rattle.refusal.specs.declared.Refusal.TheVariants as Row
-use Rattle.base.proofs.TestLaws.{and_intro}
+use Rattle.std.proofs.lemmas.Bool.{and_from}
 use Rattle.base.proofs.AnswerLaws.{bound, bind_assoc}
 use Rattle.refusal.proofs.RefuseLaws.{passed}
 use Rattle.job.specs.declared.Header.{Header}
@@ -48,12 +48,12 @@ module _ (h : Header) (z : Hazard) where
   table_fits : InTable h z → HazardFits h z
   unfolding hazard_in_range in_ranges hazard_ranges
   table_fits t =
-      and_intro (and_intro (le-leb 0 z.side (omega arith)) (le-leb z.side 1 t.side_top))
-      (and_intro (and_intro (le-leb h.begin z.start t.start_low) (le-leb z.start (h.end - 1) (omega (arith, t.start_top))))
-      (and_intro (and_intro (le-leb (z.start + 1) z.end t.end_low) (le-leb z.end h.end t.end_top))
-      (and_intro (and_intro (le-leb 0 z.near (omega arith)) (le-leb z.near 60000 t.near_top))
-      (and_intro (and_intro (le-leb z.near z.far t.far_low) (le-leb z.far 60000 t.far_top))
-      (and_intro (and_intro (le-leb 1 z.level t.level_low) (le-leb z.level 6 t.level_top)) refl)))))
+      and_from _ _ (and_from _ _ (le-leb 0 z.side (omega arith)) (le-leb z.side 1 t.side_top))
+      (and_from _ _ (and_from _ _ (le-leb h.begin z.start t.start_low) (le-leb z.start (h.end - 1) (omega (arith, t.start_top))))
+      (and_from _ _ (and_from _ _ (le-leb (z.start + 1) z.end t.end_low) (le-leb z.end h.end t.end_top))
+      (and_from _ _ (and_from _ _ (le-leb 0 z.near (omega arith)) (le-leb z.near 60000 t.near_top))
+      (and_from _ _ (and_from _ _ (le-leb z.near z.far t.far_low) (le-leb z.far 60000 t.far_top))
+      (and_from _ _ (and_from _ _ (le-leb 1 z.level t.level_low) (le-leb z.level 6 t.level_top)) refl)))))
 
   module _ (past : List NamedHazard) (name : ℕ) where
     to_words : (u : Unit {0}) → test_add h past name z ≡ accepted u → MayBeAdded h past name z

@@ -13,7 +13,6 @@ use lib.ListN.{length, length-append}
 use lib.Dec.{eqb}
 use borrow.Author.Tests.{lt-leb, le-ltb, eq-eqb, ne_eqb}
 use Rattle.base.specs.Choice.{some_of, filter}
-use Rattle.base.proofs.TestLaws.{impossible}
 use Rattle.job.specs.declared.Header.{Header}
 use Rattle.job.specs.declared.NamedHazard.{NamedHazard}
 use Rattle.job.specs.Job.{unnamed}
@@ -167,7 +166,7 @@ unfolding keep_number
 can_one h nothing n r = λ e m. absurd (Memᴰ.not-nil m)
 can_one h (state ps) n r =
     can_both (adds ps) (keep_as n ∷ withdrawals ps) (can_add h 0 ps r.0)
-    (λ e m. ⊎_elim (λ (q : edit e ≡ keep_as n). impossible cc) (can_withdraw ps e) (Memᴰ.cases_cons m))
+    (λ e m. ⊎_elim (λ (q : edit e ≡ keep_as n). cc) (can_withdraw ps e) (Memᴰ.cases_cons m))
 
 pub can_below : (h : Header) (what : ℕ → Kept (List NamedHazard)) → ((number : ℕ) → StandKept h (what number)) → (n : ℕ) → CanMake (keep_below what n)
 unfolding keep_below

@@ -100,7 +100,7 @@ pub equal_promise : EqualPromise
 equal_promise a b places-a places-b open-a open-b = (λ e. subst (SameOpenJob a) e (same_open a), equal)
   where
     equal : SameOpenJob a b → a ≡ b
-    equal s = states_same a b (state_equal a.present b.present places-a.present_state places-b.present_state (now_open a open-a) (now_open b open-b)
+    equal s = states_same a b places-a.eight places-b.eight (state_equal a.present b.present places-a.present_state places-b.present_state (now_open a open-a) (now_open b open-b)
         s.header s.hazards) (λ number. go number (dec_le number 7))
       where
         go : (number : ℕ) → Dec (number ≤ 7) → kept_under a number ≡ kept_under b number

@@ -12,7 +12,8 @@ use lib.ListN.{length, take, drop, get_or, take-append-drop}
 use lib.Dec.{eqb}
 use borrow.Author.Tests.{eq-eqb, ne_eqb, eqb-true}
 use Rattle.base.specs.Choice.{some_of, filter}
-use Rattle.base.proofs.TestLaws.{decided, any_elim, filter_elim, filter_intro}
+use Rattle.base.proofs.TestLaws.{any_elim, filter_elim, filter_intro}
+use Rattle.std.proofs.lemmas.Bool.{cases_Bool}
 use Rattle.job.specs.declared.Header.{Header}
 use Rattle.job.specs.declared.Hazard.{Hazard}
 use Rattle.job.specs.declared.NamedHazard.{NamedHazard}
@@ -60,7 +61,7 @@ unfolding stands
 stands_which name ps e = let w = any_elim (λ (p : NamedHazard). eqb p.name name) ps e in (w.one, w.member, eqb-true _ _ w.passes)
 
 pub stands_none : (name : ℕ) (ps : List NamedHazard) → ((p : NamedHazard) → Memᴰ p ps → p.name ≡ name → ⊥) → stands name ps ≡ false
-stands_none name ps none = go (decided (stands name ps))
+stands_none name ps none = go (cases_Bool (stands name ps))
   where
     go : (stands name ps ≡ true) ⊎ (stands name ps ≡ false) → stands name ps ≡ false
     go (inr f) = f
@@ -68,7 +69,7 @@ stands_none name ps none = go (decided (stands name ps))
 
 -- The same hazards have the same names.
 pub stands_alike : (name : ℕ) (ps qs : List NamedHazard) → ((p : NamedHazard) → Memᴰ p ps ↔ Memᴰ p qs) → stands name ps ≡ stands name qs
-stands_alike name ps qs same = go (decided (stands name qs))
+stands_alike name ps qs same = go (cases_Bool (stands name qs))
   where
     go : (stands name qs ≡ true) ⊎ (stands name qs ≡ false) → stands name ps ≡ stands name qs
     go (inl t) = let w = stands_which name qs t in (rw w.2 at (standing_named ((same w.0).1 w.1))) ∙ sym t

@@ -140,7 +140,7 @@ module _ (m : OpenStates) (good : are_open_states m ≡ true) (places : HasPlace
       go (no l) = none_above m number (omega arith) ∙ sym (ap (laid_kept h) (kept_others h what what_rules 8 number (omega arith)))
 
   left_so : m ≡ foldl after_call start calls
-  left_so = states_same m (foldl after_call start calls) (kept_rules.layout ∙ sym laid.present) (λ number. kept_is number ∙ sym (laid.kept number))
+  left_so = states_same m (foldl after_call start calls) places.eight laid.size (kept_rules.layout ∙ sym laid.present) (λ number. kept_is number ∙ sym (laid.kept number))
 
   left_by : CallsFrom (write_job (made_from m.present.header [])) (made_from m.present.header []) calls m
   left_by =

@@ -19,12 +19,12 @@ use Rattle.job.specs.Fits.{HeaderFits}
 use Rattle.open_memory.specs.Memory.{laid_out, is_open_job}
 use Rattle.open_job.specs.States.{most_kept, greatest_state_number, nothing_kept, kept_from, state_of, is_used, kept_sound, kept_states, kept_under, states_from}
 use Rattle.open_job.specs.States.{are_open_states}
-use Rattle.open_job.specs.Calls.{test_add, memory_after, add_to, withdraw_from, add_in, withdraw_in, keep_in, kept_job, return_in}
+use Rattle.open_job.specs.Calls.{test_add, memory_after, changed_in, add_to, withdraw_from, add_in, withdraw_in, keep_in, kept_job, return_in}
 use Rattle.open_job.proofs.LayoutLaws.{laid_open}
 use Rattle.open_job.specs.declared.KeptState.{KeptState}
 use Rattle.open_job.specs.declared.OpenStates.{OpenStates}
 use Rattle.open_job.proofs.StateLaws.{kept_under_lem, kept_set, none_under, none_above, nothing_sound, not_used, kept_used, sound_used, states_sound}
-use Rattle.open_job.proofs.WholeLaws.{change_whole}
+use Rattle.open_job.proofs.WholeLaws.{change_whole, eight_whole}
 use Rattle.open_promises.specs.Lists.{Edit, add, withdraw, Call, edit, schedule, keep_as, return_to, Nameable, Kept, nothing, state, States, opened}
 use Rattle.open_promises.specs.Lists.{returned_to, states_after, stand_after, after_call}
 use Rattle.open_promises.proofs.StandingLaws.{placed_after, edited, edit_memory, Agree, agree_edit}
@@ -37,6 +37,7 @@ laid_kept h (state ps) = kept_from (laid_out h ps)
 
 pub record Laid (h : Header) (t : States (List NamedHazard)) (m : OpenStates) : Type 0 where
   pub present : m.present ≡ laid_out h t.present
+  pub size : length m.kept ≡ most_kept
   pub kept : (number : ℕ) → kept_under m number ≡ laid_kept h (t.kept number)
 
 -- The memory, the hazards in their places, and those apart from them.
@@ -60,14 +61,20 @@ module _ (h : Header) (fits : HeaderFits h) {t s : States (List NamedHazard)} {m
       go (state ps) (state past) r n =
           sym (sound_used (kept_from (laid_out h ps)) (counted h n) (kept_used (laid_out h ps))) ∙ laid_open h ps fits r.rules r.few
 
+  -- The memory after a call on its present state.
+  edited_whole : (call : Answer StoredJob) → memory_after (changed_in m call) m ≡ states_from (memory_after call m.present) (kept_states m)
+  edited_whole call =
+      ap (memory_after (changed_in m call)) (sym (eight_whole m f.laid.size)) ∙ rw laid_states (rw laid_states at (sym (change_whole m call).0))
+
   edit_after : (e : Edit) → after_call m (edit e) ≡ states_from (memory_after (edited m.present e) m.present) (kept_states m)
   unfolding after_call add_in withdraw_in
-  edit_after (add name z) = rw laid_states (rw laid_states at (sym (change_whole m (add_to m.present name z)).0))
-  edit_after (withdraw name) = rw laid_states (rw laid_states at (sym (change_whole m (withdraw_from m.present name)).0))
+  edit_after (add name z) = edited_whole (add_to m.present name z)
+  edit_after (withdraw name) = edited_whole (withdraw_from m.present name)
 
   laid_edit : (e : Edit) → Laid h (record { present = placed_after h t.present e; kept = t.kept }) (after_call m (edit e))
   laid_edit e = subst (Laid h (record { present = placed_after h t.present e; kept = t.kept })) (sym (edit_after e)) (record {
     present = ap (λ (a : StoredJob). memory_after (edited a e) a) f.laid.present ∙ edit_memory h t.present e;
+    size = refl;
     kept = f.laid.kept;
   })
 
@@ -82,7 +89,7 @@ module _ (h : Header) (fits : HeaderFits h) {t s : States (List NamedHazard)} {m
       go : (b : Bool) → leb n greatest_state_number ≡ b
           → Laid h (if b then record { present = t.present; kept = λ k. if eqb n k then state t.present else t.kept k } else t)
           (memory_after (unless_refuse b Row.State >>= λ _. accepted (states_from m.present (set (kept_states m) n (kept_from m.present)))) m)
-      go true e = record { present = f.laid.present; kept = λ k. kept_set m n k (kept_from m.present) (leb-true _ _ e) ∙ one (eqb n k) k }
+      go true e = record { present = f.laid.present; size = refl; kept = λ k. kept_set m n k (kept_from m.present) (leb-true _ _ e) ∙ one (eqb n k) k }
       go false e = f.laid
 
   laid_return : (n : ℕ) → Laid h (returned_to (t.kept n) t) (after_call m (return_to n))
@@ -106,6 +113,7 @@ module _ (h : Header) (fits : HeaderFits h) {t s : States (List NamedHazard)} {m
           subst (λ (y : KeptState). Laid h (record { present = ps; kept = t.kept }) (back true y)) (sym l)
           (rw (kept_used (laid_out h ps)) (record {
             present = ap (λ (a : StoredJob). state_of a.header (kept_from (laid_out h ps))) f.laid.present;
+            size = refl;
             kept = f.laid.kept;
           }))
 
@@ -134,5 +142,5 @@ follows_all h fits t s m f (c ∷ cs) may =
 pub follows_opened : (h : Header) → Follows h (opened []) (opened []) (states_from (laid_out h []) (replicate most_kept nothing_kept))
 follows_opened h = record {
   agree = agree_opened (Agree h) (record { rules = tt; few = omega arith; same = λ p. (λ x. x, λ x. x); number = refl; apart = tt });
-  laid = record { present = refl; kept = λ number. kept_under_lem (laid_out h []) (replicate most_kept nothing_kept) refl number ∙ none_under number };
+  laid = record { present = refl; size = refl; kept = λ number. kept_under_lem (laid_out h []) (replicate most_kept nothing_kept) refl number ∙ none_under number };
 }

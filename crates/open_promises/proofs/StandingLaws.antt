@@ -13,7 +13,6 @@ use borrow.Author.Tests.{leb-false}
 use Rattle.base.specs.Answer.{Answer, accepted, refused, ◌>>=◌, is_accepted}
 use Rattle.refusal.specs.Refusal.{unless_refuse}
 use Rattle.refusal.specs.declared.Refusal.TheVariants as Row
-use Rattle.base.proofs.TestLaws.{impossible}
 use Rattle.job.specs.declared.Header.{Header}
 use Rattle.job.specs.declared.Hazard.{Hazard}
 use Rattle.job.specs.declared.NamedHazard.{NamedHazard}
@@ -40,8 +39,8 @@ may_add h ps name z e = go (stands name ps) (is_full ps) refl refl e
     go : (b f : Bool) → stands name ps ≡ b → is_full ps ≡ f
         → is_accepted (unless_refuse (not b) (Row.Name name) >>= λ _. unless_refuse (not f) Row.Full >>= λ _. admit h name z) ≡ true → MayAdd h ps name z
     go false false p q r = record { fresh = p; room = q; may = r }
-    go false true p q r = impossible cc
-    go true f p q r = impossible cc
+    go false true p q r = cc
+    go true f p q r = cc
 
 -- In their places, in the order of their names
 

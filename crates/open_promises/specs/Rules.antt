@@ -10,7 +10,7 @@ use Rattle.demands.specs.Demands.{Alike}
 use Rattle.open_memory.specs.Memory.{most_standing, standing}
 use Rattle.open_job.specs.declared.KeptState.{KeptState}
 use Rattle.open_job.specs.declared.OpenStates.{OpenStates}
-use Rattle.open_job.specs.States.{greatest_state_number, is_used, kept_states, kept_under, are_open_states}
+use Rattle.open_job.specs.States.{most_kept, greatest_state_number, is_used, kept_states, kept_under, are_open_states}
 use Rattle.open_job.specs.Calls.{add_in, withdraw_in, schedule_in, reach_in, keep_in, return_in}
 use Rattle.open_promises.specs.Lists.{Call, CallsFrom}
 
@@ -31,9 +31,10 @@ RulesPromise = (m : OpenStates) → are_open_states m ≡ false → AllRefused m
 
 -- Memory that keeps them
 
--- Each state has its 256 places. They are the memory's by its type, whose arrays are so long; a list may have any length.
+-- Each array has the length of its type: eight kept states, and 256 places in each state. A list may have any length.
 pub record HasPlaces (m : OpenStates) : Type 0 where
   pub present_state : length m.present.hazards ≡ most_standing
+  pub eight : length m.kept ≡ most_kept
   pub states_kept : (k : KeptState) → Memᴰ k (kept_states m) → length k.hazards ≡ most_standing
 
 -- Memory keeps the rules exactly if an opening and calls can leave it so.

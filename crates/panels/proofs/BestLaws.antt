@@ -11,7 +11,7 @@ use mathlib.Core.List.{List, [], ◌∷◌, ◌++◌, Memᴰ}
 use lib.ListN.{get_or}
 use lib.Dec.{leb}
 use borrow.Author.Tests.{le-leb, lt-leb, leb-true, leb-false}
-use Rattle.base.proofs.TestLaws.{decided, not_both, impossible}
+use Rattle.std.proofs.lemmas.Bool.{both_ways, cases_Bool}
 use Rattle.panels.specs.Layout.{covers, overrun, BestLayout, none, found, if_covering, better, best}
 use Rattle.panels.specs.Promised.{FirstSmallest, NoneCovers}
 
@@ -50,7 +50,7 @@ module _ (lengths : List ℕ) (run : ℕ) where
 
   -- None exactly if no layout of the list covers.
   found_not_none : {o : ℕ} {c : List ℕ} {A : Type 0} → found o c ≡ none → A
-  found_not_none e = impossible cc
+  found_not_none e = cc
 
   better_is_none : (a b : BestLayout) → better a b ≡ none → (a ≡ none) × (b ≡ none)
   better_is_none none b e = (refl, e)
@@ -62,7 +62,7 @@ module _ (lengths : List ℕ) (run : ℕ) where
       go false q = found_not_none q
 
   judged_none : (l : List ℕ) → if_covering lengths run l ≡ none → covers lengths run l ≡ false
-  judged_none l e = go (decided (covers lengths run l))
+  judged_none l e = go (cases_Bool (covers lengths run l))
     where
       go : (covers lengths run l ≡ true) ⊎ (covers lengths run l ≡ false) → covers lengths run l ≡ false
       go (inl c) = found_not_none (sym (judged_covers l c) ∙ e)
@@ -94,7 +94,7 @@ module _ (lengths : List ℕ) (run : ℕ) where
   pub best_first : (ls : List (List ℕ)) (o : ℕ) (c : List ℕ) → best lengths run ls ≡ found o c → FirstSmallest lengths run ls o c
   unfolding best
   best_first [] o c e = found_not_none (sym e)
-  best_first (x ∷ xs) o c e = go (decided (covers lengths run x)) (best lengths run xs) refl (best_first xs)
+  best_first (x ∷ xs) o c e = go (cases_Bool (covers lengths run x)) (best lengths run xs) refl (best_first xs)
     where
       IH : Type 0
       IH = (p : ℕ) (m : List ℕ) → best lengths run xs ≡ found p m → FirstSmallest lengths run xs p m
@@ -150,13 +150,13 @@ module _ (lengths : List ℕ) (run : ℕ) where
 
       go : (covers lengths run x ≡ true) ⊎ (covers lengths run x ≡ false) → (b : BestLayout) → best lengths run xs ≡ b → IH
           → FirstSmallest lengths run (x ∷ xs) o c
-      go (inr h) b q r = later o c (r o c (sym (ap (λ (j : BestLayout). better j (best lengths run xs)) (judged_short x h)) ∙ e)) (λ w. absurd (not_both w h))
+      go (inr h) b q r = later o c (r o c (sym (ap (λ (j : BestLayout). better j (best lengths run xs)) (judged_short x h)) ∙ e)) (λ w. absurd (both_ways _ h w))
       go (inl h) none q r =
           let s = found_same (sym (ap (λ (j : BestLayout). better j (best lengths run xs)) (judged_covers x h)
           ∙ ap (better (found (overrun lengths run x) x)) q) ∙ e) in
           subst (λ (y : ℕ). FirstSmallest lengths run (x ∷ xs) y c) s.0
           (subst (λ (y : List ℕ). FirstSmallest lengths run (x ∷ xs) (overrun lengths run x) y) s.1
-          (at_once h (λ y k w. absurd (not_both w (none_short xs q y k)))))
+          (at_once h (λ y k w. absurd (both_ways _ (none_short xs q y k) w))))
       go (inl h) (found p m) q r =
           both h p m (r p m q) (leb (overrun lengths run x) p) refl
           (sym (ap (λ (j : BestLayout). better j (best lengths run xs)) (judged_covers x h) ∙ ap (better (found (overrun lengths run x) x)) q) ∙ e)

@@ -18,7 +18,7 @@ use Rattle.base.specs.Choice.{all_of}
 use Rattle.base.specs.Least.{LeastMultiple, next_multiple}
 use Rattle.base.proofs.ListLaws.{get_d_member}
 use Rattle.base.proofs.LeastLaws.{multiple_divided, multiple_from, multiple_least, next_multiple_lem}
-use Rattle.base.proofs.TestLaws.{and_left, and_right, and_intro, not_both}
+use Rattle.std.proofs.lemmas.Bool.{and_from, and_parts, both_ways}
 use Rattle.panels.specs.Layout.{total, covers, overrun}
 use Rattle.panels.specs.Panels.{greatest, divides_all, gcd, floor}
 use Rattle.panels.specs.Promised.{SomeLengths, FloorOf}
@@ -28,16 +28,16 @@ use Rattle.panels.specs.Steps.{CommonDivisors}
 pub all_divided : (ls : List ℕ) (d : ℕ) → divides_all ls d ≡ true → (l : ℕ) → Memᴰ l ls → d ∣ l
 unfolding divides_all all_of
 all_divided [] d e l m = absurd (Memᴰ.not-nil m)
-all_divided (x ∷ xs) d e l m = go (Memᴰ.cases_cons m) (all_divided xs d (and_right (eqb (x % d) 0) _ e) l)
+all_divided (x ∷ xs) d e l m = go (Memᴰ.cases_cons m) (all_divided xs d ((and_parts (eqb (x % d) 0) _ e).1) l)
   where
     go : (l ≡ x) ⊎ Memᴰ l xs → (Memᴰ l xs → d ∣ l) → d ∣ l
-    go (inl q) r = rw q (dvd_of_mod-eq-zero d (eqb-true (x % d) 0 (and_left (eqb (x % d) 0) _ e)))
+    go (inl q) r = rw q (dvd_of_mod-eq-zero d (eqb-true (x % d) 0 ((and_parts (eqb (x % d) 0) _ e).0)))
     go (inr k) r = r k
 
 pub divided_all : (ls : List ℕ) (d : ℕ) → ((l : ℕ) → Memᴰ l ls → d ∣ l) → divides_all ls d ≡ true
 unfolding divides_all all_of
 divided_all [] d f = refl
-divided_all (x ∷ xs) d f = and_intro (eq-eqb (x % d) 0 (mod-eq-zero_of_dvd d (f x (Memᴰ.head refl)))) (divided_all xs d (λ l m. f l (Memᴰ.tail m)))
+divided_all (x ∷ xs) d f = and_from _ _ (eq-eqb (x % d) 0 (mod-eq-zero_of_dvd d (f x (Memᴰ.head refl)))) (divided_all xs d (λ l m. f l (Memᴰ.tail m)))
 
 -- The greatest number up to n that passes.
 greatest_passes : (p : ℕ → Bool) (n : ℕ) → 0 < greatest p n → p (greatest p n) ≡ true
@@ -60,7 +60,7 @@ greatest_greatest p (suc n) d h e = go (p (suc n)) refl (greatest_greatest p n d
     go false q r = below (ℕ_discrete d (suc n))
       where
         below : Dec (d ≡ suc n) → d ≤ greatest p n
-        below (yes w) = absurd (not_both e (ap p w ∙ q))
+        below (yes w) = absurd (both_ways _ (ap p w ∙ q) e)
         below (no w) = r (omega arith) e
 
 -- "The lengths' greatest common divisor", of one length or more, each at least 1.

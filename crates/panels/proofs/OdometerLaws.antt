@@ -1,6 +1,6 @@
 -- The odometer: a turn keeps the counts and their total, which is that of the layout at the place.
 -- Assumes nothing.
-use Prim.Native.Nat.{ℕ, ◌+◌, ◌-◌, ◌*◌, ◌/◌, ◌%◌, ◌≤◌, ◌<◌}
+use Prim.Native.Nat.{ℕ, zero, suc, ◌+◌, ◌-◌, ◌*◌, ◌/◌, ◌%◌, ◌≤◌, ◌<◌}
 use native.Mathlib.Omega.{arith}
 use native.Mathlib.Nat.{mul-le-mul, add-mul}
 use native.Mathlib.Decide.{dec_lt}
@@ -13,7 +13,7 @@ use Rattle.panels.specs.declared.odometer.Lengths.{Lengths}
 use Rattle.panels.specs.declared.odometer.Odometer.{Odometer}
 use Rattle.panels.specs.Layout.{total}
 use Rattle.panels.specs.Promised.{StockLengths}
-use Rattle.panels.specs.Steps.{layout_at, length_back, four_lengths, LengthsFit, Shows, ShowsLayout}
+use Rattle.panels.specs.Steps.{layout_at, counts_shown, length_back, four_lengths, LengthsFit, Shows, ShowsLayout}
 
 -- The lengths from the last one back
 
@@ -45,6 +45,19 @@ shows_total (a ∷ b ∷ d ∷ e ∷ []) p o h l n s =
     let top : p / 16 / 16 / 16 % 16 ≡ p / 16 / 16 / 16 = omega arith in
     rw (s.total, s.first, s.second, s.third, s.last, top) (omega arith)
 shows_total (a ∷ b ∷ d ∷ e ∷ f ∷ m) p o h l n s = absurd (omega arith)
+
+-- What it shows is the layout at the place, of one to four lengths.
+pub shows_counts : (number : ℕ) {l : Lengths} (place : ℕ) (o : Odometer) → 1 ≤ number → number ≤ 4 → place < 65536 → Shows l place o
+    → counts_shown number o ≡ layout_at number place
+unfolding layout_at
+shows_counts zero p o h n b s = absurd (omega arith)
+shows_counts (suc zero) p o h n b s = rw s.last
+shows_counts (suc (suc zero)) p o h n b s = rw (s.third, s.last)
+shows_counts (suc (suc (suc zero))) p o h n b s = rw (s.second, s.third, s.last)
+shows_counts (suc (suc (suc (suc zero)))) p o h n b s =
+    let top : p / 16 / 16 / 16 % 16 ≡ p / 16 / 16 / 16 = omega arith in
+    rw (s.first, s.second, s.third, s.last, top)
+shows_counts (suc (suc (suc (suc (suc k))))) p o h n b s = absurd (omega arith)
 
 -- A turn
 

@@ -14,7 +14,7 @@ use lib.Seq.{take_at}
 use lib.Dec.{leb}
 use borrow.Author.Tests.{leb-true, le-leb}
 use Rattle.base.specs.Choice.{all_of}
-use Rattle.base.proofs.TestLaws.{and_left, and_right, and_intro}
+use Rattle.std.proofs.lemmas.Bool.{and_from, and_parts}
 use Rattle.panels.specs.Layout.{IsLayout, zero_to_fifteen, each_before, layouts, Before}
 use Rattle.panels.specs.Steps.{layout_at, layouts_from}
 
@@ -124,7 +124,7 @@ layouts_have zero [] e a = Memᴰ.head refl
 layouts_have zero (c ∷ l) e a = absurd (omega arith)
 layouts_have (suc k) [] e a = absurd (omega arith)
 layouts_have (suc k) (c ∷ l) e a =
-    each_has (member_count c (leb-true c 15 (and_left (leb c 15) _ a))) (layouts_have k l (suc_inj e) (and_right (leb c 15) _ a))
+    each_has (member_count c (leb-true c 15 ((and_parts (leb c 15) _ a).0))) (layouts_have k l (suc_inj e) ((and_parts (leb c 15) _ a).1))
 
 record Split (cs : List ℕ) (others : List (List ℕ)) (l : List ℕ) : Type 0 where
   count : ℕ
@@ -164,7 +164,7 @@ layouts_only (suc k) l m =
     let w = each_only zero_to_fifteen (layouts k) m in
     let r = layouts_only k w.rest w.other in
     subst (λ (x : List ℕ). (length x ≡ suc k) × (all_of (λ c. leb c 15) x ≡ true)) w.whole
-    (ap suc r.0, and_intro (le-leb w.count 15 (count_top w.count w.listed)) r.1)
+    (ap suc r.0, and_from _ _ (le-leb w.count 15 (count_top w.count w.listed)) r.1)
 
 -- "A layout is a count from 0 to 15 of each."
 pub layouts_exactly : (lengths l : List ℕ) → Memᴰ l (layouts (length lengths)) ↔ IsLayout lengths l

@@ -9,7 +9,7 @@ use lib.ListN.{length, get_or, drop}
 use lib.Seq.{drop-cons}
 use lib.Dec.{ltb}
 use borrow.Author.Tests.{lt-ltb, le-ltb}
-use Rattle.base.proofs.TestLaws.{or_left, or_right}
+use Rattle.std.proofs.lemmas.Bool.{or_left, or_right}
 use Rattle.panels.specs.Panels.{out_of_range}
 use Rattle.base.specs.Choice.{some_of}
 
@@ -23,10 +23,10 @@ module _ (p : ℕ → Bool) (ls : List ℕ) (i : ℕ) (h : i < length ls) where
   passed_here e = rw (drop-cons ls i 0 h, e, add-one)
 
 pub too_low : (l : ℕ) → l < 1 → out_of_range l ≡ true
-too_low l h = or_left (ltb 20000 l) (lt-ltb l 1 h)
+too_low l h = or_left _ (ltb 20000 l) (lt-ltb l 1 h)
 
 pub too_high : (l : ℕ) → 20000 < l → out_of_range l ≡ true
-too_high l h = or_right (ltb l 1) (lt-ltb 20000 l h)
+too_high l h = or_right (ltb l 1) _ (lt-ltb 20000 l h)
 
 pub in_range : (l : ℕ) → 1 ≤ l → l ≤ 20000 → out_of_range l ≡ false
 in_range l p q = rw (le-ltb l 1 p, le-ltb 20000 l q)

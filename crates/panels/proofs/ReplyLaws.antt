@@ -5,8 +5,8 @@ use native.Mathlib.Omega.{arith}
 use native.Mathlib.Decide.{dec_le}
 use mathlib.Core.Path.{◌≡◌, sym, ap, ◌∙◌, refl}
 use mathlib.Core.Logic.{inl, inr}
-use mathlib.Core.Bool.{true, false}
-use mathlib.Core.List.{List, []}
+use mathlib.Core.Bool.{true}
+use mathlib.Core.List.{List}
 use lib.ListN.{length, take}
 use lib.Seq.{take_all}
 use Rattle.base.specs.Choice.{some_of}
@@ -16,8 +16,8 @@ use Rattle.panels.specs.declared.search.Tried.{Tried}
 use Rattle.panels.specs.Layout.{layouts, tried, best}
 use Rattle.panels.specs.Panels.{out_of_range, floor, panels_for}
 use Rattle.panels.specs.Promised.{StockLengths, Limit}
-use Rattle.panels.specs.Reply.{count_places, replied_best, layout_replied}
-use Rattle.panels.specs.Steps.{layout_at, layouts_from, found_at, Searched}
+use Rattle.panels.specs.Reply.{replied_best, layout_replied}
+use Rattle.panels.specs.Steps.{layouts_from, best_kept, Searched}
 use Rattle.panels.proofs.PlaceLaws.{layouts_from_lem, layouts_taken, layouts_number, from_length}
 use Rattle.panels.proofs.RefusedLaws.{sixteen_exactly, seventeen_exactly, panels_answered}
 
@@ -53,20 +53,10 @@ tried_from ls limit = go (dec_le limit (16 ^ length ls))
 -- The reply, from the tries and the floor.
 module _ (ls : List ℕ) (run limit : ℕ) (y : StockLengths ls) (l : Limit limit) (t : Tried) (end f : ℕ) (s : Searched ls run end t)
     (e : end ≡ min limit (16 ^ length ls)) (g : f ≡ floor ls run) where
-  from_tries : replied_best (found_at (length ls) t.kept) t.tries f ≡ layout_replied (panels_for ls run limit)
+  pub from_tries : accepted (record { best = replied_best (best_kept (length ls) run t.best); tries = t.tries; floor = f }) ≡ layout_replied (panels_for ls run limit)
   unfolding layout_replied
   from_tries =
       let those : layouts_from (length ls) 0 t.tries ≡ tried ls limit = ap (layouts_from (length ls) 0) (s.made ∙ e) ∙ sym (tried_from ls limit) in
-      let kept : found_at (length ls) t.kept ≡ best ls run (tried ls limit) = s.kept ∙ ap (best ls run) those in
+      let kept : best_kept (length ls) run t.best ≡ best ls run (tried ls limit) = s.kept ∙ ap (best ls run) those in
       let number : t.tries ≡ length (tried ls limit) = sym (from_length (length ls) 0 t.tries) ∙ ap length those in
       rw (panels_answered ls run limit y l, kept, number, g)
-
-  pub found_replied : (counts : List ℕ) → t.kept.found ≡ true → counts ≡ count_places (layout_at (length ls) t.kept.place)
-      → record { answer = accepted tt; found = true; overrun = t.kept.overrun; counts = counts; tries = t.tries; floor = f }
-      ≡ layout_replied (panels_for ls run limit)
-  found_replied counts h c = rw (h, sym c) at from_tries
-
-  pub none_replied : t.kept.found ≡ false
-      → record { answer = accepted tt; found = false; overrun = 0; counts = count_places []; tries = t.tries; floor = f }
-      ≡ layout_replied (panels_for ls run limit)
-  none_replied h = rw h at from_tries

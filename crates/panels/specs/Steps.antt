@@ -1,12 +1,12 @@
 -- Steps of the code: common divisors, the layout at a place of the order, the odometer that shows it, and what the tries keep.
 -- Assumes nothing.
-use Rattle.std.specs.Prelude.{ℕ, zero, suc, ◌+◌, ◌-◌, ◌*◌, ◌/◌, ◌%◌, ◌≤◌, ◌<◌, ◌≡◌, ◌↔◌, List, [], ◌∷◌, ◌++◌, length, get_or, leb, ltb, if◌then◌else◌}
+use Rattle.std.specs.Prelude.{ℕ, zero, suc, ◌+◌, ◌-◌, ◌*◌, ◌/◌, ◌%◌, ◌≤◌, ◌<◌, ◌≡◌, ◌↔◌, List, [], ◌∷◌, ◌++◌, length, drop, get_or, leb, ltb, Option, Some, None, IfSome, if◌then◌else◌}
 use Rattle.std.specs.Int.{◌∣◌}
 use Rattle.panels.specs.declared.odometer.Lengths.{Lengths}
 use Rattle.panels.specs.declared.odometer.Odometer.{Odometer}
-use Rattle.panels.specs.declared.search.Kept.{Kept}
 use Rattle.panels.specs.declared.search.Tried.{Tried}
 use Rattle.panels.specs.Layout.{BestLayout, none, found, better, best}
+use Rattle.panels.specs.Panels.{most_lengths}
 
 -- The divisors of r are the common divisors of a and b.
 abbrev pub CommonDivisors : (a b r : ℕ) → Type 0
@@ -57,18 +57,31 @@ pub record ShowsLayout (l : Lengths) (o : Odometer) : Type 0 where
 abbrev pub Advances : Lengths → Odometer → Odometer → Type 0
 Advances l o r = (place : ℕ) → Shows l place o → Shows l (place + 1) r
 
+-- The counts of so many lengths, in their order: the last ones, since the odometer has the last length last.
+abbrev pub counts_shown : (number : ℕ) → Odometer → List ℕ
+counts_shown k o = drop (most_lengths - k) (o.first ∷ o.second ∷ o.third ∷ o.last ∷ [])
+
 -- What is kept
 
--- The layout at the place kept, of so many lengths.
-abbrev pub found_at : (number : ℕ) → Kept → BestLayout
-found_at k r = if r.found then found r.overrun (layout_at k r.place) else none
+abbrev pub Covering : (run : ℕ) → Odometer → Type 0
+Covering run o = run ≤ o.total
 
--- After one more try, of the layout at a place with this total.
-abbrev pub JudgedNext : Kept → (total run place : ℕ) → Kept → Type 0
-JudgedNext kept total run place r = (k : ℕ) → found_at k r ≡ better (found_at k kept) (if leb run total then found (total - run) (layout_at k place) else none)
+-- What it shows of so many lengths, as a layout that covers.
+abbrev pub found_at : (number run : ℕ) → Odometer → BestLayout
+found_at k run o = found (o.total - run) (counts_shown k o)
+
+-- The layout kept, of so many lengths; none where nothing is kept.
+abbrev pub best_kept : (number run : ℕ) → Option Odometer → BestLayout
+best_kept k run (Some o) = found_at k run o
+best_kept k run None = none
+
+-- After one more try, of the layout shown.
+abbrev pub JudgedNext : Option Odometer → Odometer → (run : ℕ) → Option Odometer → Type 0
+JudgedNext kept at run r = (k : ℕ) → best_kept k run r ≡ better (best_kept k run kept) (if leb run at.total then found_at k run at else none)
 
 -- After so many tries: what is kept is the best of the layouts tried, and as many were tried. The caller passes the lesser of the limit and the
 -- number of layouts, so the tries never pass the layouts there are.
 pub record Searched (ls : List ℕ) (run tries : ℕ) (r : Tried) : Type 0 where
   pub made : r.tries ≡ tries
-  pub kept : found_at (length ls) r.kept ≡ best ls run (layouts_from (length ls) 0 r.tries)
+  pub covers : IfSome r.best (Covering run)
+  pub kept : best_kept (length ls) run r.best ≡ best ls run (layouts_from (length ls) 0 r.tries)

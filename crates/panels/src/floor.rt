@@ -10,6 +10,7 @@ fn common_divisor(a: u64, b: u64) -> u64
 {
     let mut greater = a;
     let mut less = b;
+    // The lesser falls to a rest, and not by one.
     while less != 0 {
         let rest = greater % less;
         greater = less;
@@ -24,10 +25,8 @@ fn gcd_of(lengths: &[u64]) -> u64
     ensures { result ≡ gcd lengths.now }
 {
     let mut divisor: u64 = 0;
-    let mut i: usize = 0;
-    while i < lengths.len() {
-        divisor = common_divisor(divisor, lengths[i]);
-        i += 1;
+    for length in lengths {
+        divisor = common_divisor(divisor, *length);
     }
     divisor
 }

@@ -2,7 +2,8 @@
 ghost use Rattle.std.specs.Prelude.{◌≡◌};
 ghost use Rattle.panels.specs.Steps.{length_back, four_lengths, LengthsFit, ShowsLayout, Advances};
 
-// The panel lengths in their order, the last one last; 0 in front where there are fewer than four.
+// The panel lengths in their order, the last one last; 0 in front where there are fewer than four. They and the counts have a field each: with arrays, which
+// `advance` goes through by a loop, a try takes 20 instructions in place of 13.
 #[derive(Clone, Copy)]
 pub struct Lengths {
     pub first: u64,
@@ -31,6 +32,7 @@ fn length_back(lengths: &[u64], back: usize) -> u64
     0
 }
 
+// The panel lengths, of which there are at most four, each in its field.
 pub fn four_lengths(lengths: &[u64]) -> Lengths
     ensures { result ≡ four_lengths lengths.now }
 {

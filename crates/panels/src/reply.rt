@@ -1,14 +1,16 @@
 // The call's reply.
-use refusal::Outcome;
 
-// The outcome, and beside it the reply where it is Done, else false and zeros. Where a tried layout covers, `found` is true, with the smallest
-// overrun and its first layout's counts, in the order of the lengths, 0 behind them; else false and zeros, beside tries and floor all the same.
+// The best of the layouts tried: the smallest overrun, and its first layout's counts in the order of the lengths, 0 behind them.
 #[derive(Clone, Copy)]
-pub struct Layout {
-    pub outcome: Outcome,
-    pub found: bool,
+pub struct Best {
     pub overrun: u64,
     pub counts: [u64; 4],
+}
+
+// The best, or none where no tried layout covers; the tries made and the floor stand beside both.
+#[derive(Clone, Copy)]
+pub struct Layout {
+    pub best: Option<Best>,
     pub tries: u64,
     pub floor: u64,
 }

@@ -1,40 +1,29 @@
 // The tries: one layout a turn, in order.
-ghost use Rattle.std.specs.Prelude.{◌≤◌};
+ghost use Rattle.std.specs.Prelude.{◌≤◌, IfSome};
 ghost use Rattle.panels.specs.Promised.{StockLengths};
-ghost use Rattle.panels.specs.Steps.{JudgedNext, Searched};
+ghost use Rattle.panels.specs.Steps.{Covering, JudgedNext, Searched};
 
 use super::odometer::{Odometer, advance, four_lengths};
 
-// What is kept of the layouts tried so far: whether one covers, and then the smallest overrun and its first layout's place in the order.
-#[derive(Clone, Copy)]
-pub struct Kept {
-    pub found: bool,
-    pub overrun: u64,
-    pub place: u64,
-}
-
-// What is kept, and how many layouts were tried.
+// The first of the tried layouts with the smallest overrun, or none where no layout covers; and how many layouts were tried.
 #[derive(Clone, Copy)]
 pub struct Tried {
-    pub kept: Kept,
+    pub best: Option<Odometer>,
     pub tries: u64,
 }
 
-// After one more try, of the layout at a place with this total: it is kept where it covers and its overrun is smaller than any before.
-fn judge(kept: Kept, total: u64, run: u64, place: u64) -> Kept
-    ensures { JudgedNext kept total run place result }
+// After one more try: a layout is kept where it covers and its total, and so its overrun, is smaller than any before.
+fn judge(kept: &mut Option<Odometer>, at: Odometer, run: u64)
+    requires kept_covers { IfSome kept.old (Covering run) }
+    ensures covers { IfSome kept.new (Covering run) }
+    ensures judged { JudgedNext kept.old at run kept.new }
 {
-    if total < run {
-        return kept;
+    if at.total < run {
+        return;
     }
-    let overrun = total - run;
-    if kept.found & (kept.overrun <= overrun) {
-        return kept;
-    }
-    Kept {
-        found: true,
-        overrun,
-        place,
+    match *kept {
+        Some(best) if best.total <= at.total => {}
+        _ => *kept = Some(at),
     }
 }
 
@@ -53,16 +42,10 @@ pub fn try_layouts(lengths: &[u64], run: u64, end: u64) -> Tried
         last: 0,
         total: 0,
     };
-    let mut kept = Kept {
-        found: false,
-        overrun: 0,
-        place: 0,
-    };
-    let mut tries: u64 = 0;
-    while tries < end {
-        kept = judge(kept, at.total, run, tries);
+    let mut best: Option<Odometer> = None;
+    for _ in 0..end {
+        judge(&mut best, at, run);
         at = advance(panels, at);
-        tries += 1;
     }
-    Tried { kept, tries }
+    Tried { best, tries: end }
 }

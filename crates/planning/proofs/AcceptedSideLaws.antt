@@ -1,5 +1,6 @@
 -- A side that was accepted: it is that of an accepted job, whose envelopes are sound.
 -- Assumes nothing.
+use Rattle.std.specs.Prelude.{Result, Ok, Err}
 use Prim.Native.Nat.{ℕ, ◌≤◌}
 use mathlib.Core.Path.{◌≡◌, sym, subst, ◌∙◌}
 use mathlib.Core.List.{List}
@@ -7,7 +8,6 @@ use Rattle.base.specs.Answer.{accepted, ◌>>=◌}
 use Rattle.base.proofs.AnswerLaws.{bound, bind_assoc}
 use Rattle.refusal.specs.Refusal.{refusal}
 use Rattle.refusal.specs.declared.Refusal.{Refusal}
-use Rattle.refusal.specs.declared.Outcome.TheVariants.{Done, Refused}
 use Rattle.job.specs.Job.{Job}
 use Rattle.job.proofs.RangeLaws.{header_bounds}
 use Rattle.runs.specs.Required.{required_runs}
@@ -29,11 +29,12 @@ job_sound j side fits e m =
     record { long = side_proper j side fits e m; ends = side_ends j side fits e m; low = level.0; top = level.1 }
 
 -- By what `side_of` answers.
-module _ (keys ends : List ℕ) (r : Side) (s : List ℕ) (side : ℕ) (w : Window) (reply : side_answer keys ends r ≡ side_within s side w) where
-  pub side_done : r.outcome ≡ Done → side_within s side w ≡ accepted (side_beside keys ends r)
-  side_done e = sym reply ∙ rw e
+module _ (keys ends : List ℕ) (r : Result Side Refusal) (s : List ℕ) (side : ℕ) (w : Window)
+    (reply : side_answer keys ends r ≡ side_within s side w) where
+  pub side_done : (t : Side) → r ≡ Ok t → side_within s side w ≡ accepted (side_beside keys ends t)
+  side_done t e = sym reply ∙ rw e
 
-  pub side_refused : (x : Refusal) → r.outcome ≡ Refused x → side_within s side w ≡ refusal x
+  pub side_refused : (x : Refusal) → r ≡ Err x → side_within s side w ≡ refusal x
   side_refused x e = sym reply ∙ rw e
 
 -- That of a job.

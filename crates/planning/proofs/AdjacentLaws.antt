@@ -7,7 +7,7 @@ use mathlib.Core.Path.{◌≡◌, refl, ap, ◌∙◌}
 use mathlib.Core.Bool.{Bool, true, ◌&&◌, ◌||◌}
 use lib.Dec.{ltb, eqb}
 use borrow.Author.Tests.{lt-ltb, eq-eqb, ne_eqb}
-use Rattle.base.proofs.TestLaws.{or_left, or_right}
+use Rattle.std.proofs.lemmas.Bool.{or_left, or_right}
 use Rattle.job.specs.declared.Header.{Header}
 use Rattle.job.specs.declared.Hazard.{Hazard}
 use Rattle.planning.specs.Envelope.{adjacent_traffic, reaches, Adjacent}
@@ -22,8 +22,8 @@ is_adjacent h side l = go (ℕ_discrete side 0) (ℕ_discrete h.opposite 0)
     first e = rw e (record { there = refl; beside = e })
 
     go : Dec (side ≡ 0) → Dec (h.opposite ≡ 0) → Adjacent h side (adjacent_traffic h side)
-    go (yes a) b = first (or_left _ (eq-eqb side 0 a))
-    go (no a) (yes b) = first (or_right (eqb side 0) (eq-eqb h.opposite 0 b))
+    go (yes a) b = first (or_left _ _ (eq-eqb side 0 a))
+    go (no a) (yes b) = first (or_right (eqb side 0) _ (eq-eqb h.opposite 0 b))
     go (no a) (no b) =
         rw (ne_eqb side 0 a, ne_eqb h.opposite 0 b) (record { there = lt-ltb 0 h.opposite (omega arith); beside = eq-eqb side 1 (omega arith) })
 

@@ -19,7 +19,8 @@ use Rattle.job.specs.Job.{Job}
 use Rattle.job.specs.Fits.{HazardFits}
 use Rattle.job.proofs.RangeLaws.{hazard_bounds}
 use Rattle.planning.specs.Envelope.{accept_job}
-use Rattle.planning.specs.Accept.{AcceptedHazard, indexed_hazard}
+use Rattle.planning.specs.declared.accept.Indexed.{Indexed}
+use Rattle.planning.specs.Accept.{indexed_hazard}
 use Rattle.planning.specs.Approached.{hazard_at, adjacent_reaches, approached_hazard, ApproachedFits}
 use Rattle.planning.specs.Rows.{AcceptedFits}
 use Rattle.planning.proofs.ReachLaws.{reached_near}
@@ -76,10 +77,10 @@ module _ (s : List ℕ) (i : ℕ) where
       let b = bound (accept_job s) _ (record { header = h; hazard = z }) e in
       let j = b.first in
       let p = passed (ltb i (length j.hazards)) Row.Hazard _ (record { header = h; hazard = z }) b.rest in
-      let same : ◌≡◌ {A = AcceptedHazard} (record { header = j.header; hazard = hazard_at j i }) (record { header = h; hazard = z }) = let q = p.1 in cc in
+      let same : ◌≡◌ {A = Indexed} (record { header = j.header; hazard = hazard_at j i }) (record { header = h; hazard = z }) = let q = p.1 in cc in
       let fits = accepted_fits s j b.taken in
       let l = ltb-true i (length j.hazards) p.0 in
-      subst (λ (a : AcceptedHazard). Known a.header a.hazard) same (record { test = reach_test j fits i l; fits = approached_fits j fits i l })
+      subst (λ (a : Indexed). Known a.header a.hazard) same (record { test = reach_test j fits i l; fits = approached_fits j fits i l })
 
   pub indexed_reached : (h : Header) (z : Hazard) → indexed_hazard s i ≡ accepted (record { header = h; hazard = z }) → z.near < h.zone → ApproachedFits h z
   indexed_reached h z e = (known h z e).fits

@@ -12,7 +12,8 @@ use lib.ListN.{length, length-map}
 use lib.Dec.{eqb}
 use borrow.Author.Tests.{ltb-false, eqb-true, eq-eqb}
 use Rattle.base.specs.Answer.{accepted}
-use Rattle.base.proofs.TestLaws.{and_left, and_right, and_intro, or_left, or_right, not_and}
+use Rattle.base.proofs.TestLaws.{not_and}
+use Rattle.std.proofs.lemmas.Bool.{and_from, and_parts, or_left, or_right}
 use Rattle.base.proofs.AnswerLaws.{bound}
 use Rattle.refusal.proofs.RefuseLaws.{tested}
 use Rattle.base.proofs.ListLaws.{cons_each}
@@ -29,9 +30,6 @@ use Rattle.runs.specs.RunList.{last_station}
 use Rattle.runs.proofs.LevelLaws.{Levelled, EndsBy}
 use Rattle.planning.specs.Envelope.{Traffic, forward, opposite, runout, reaches, reached, reach_of, offset_of, envelope, envelopes, cut_to_road, cut_envelope}
 use Rattle.planning.specs.Envelope.{side_envelopes, OnRoad, stands_near, test_hazard, test_hazards, accept_job}
-use Rattle.planning.specs.Reply.{Cuts, cuts_of, tested_envelopes}
-use Rattle.planning.specs.declared.window.Window.TheVariants.{All}
-use Rattle.planning.specs.Window.{standing_in}
 use Rattle.planning.specs.Overhang.{SideHazard}
 use Rattle.planning.specs.Rows.{Passed, AcceptedFits}
 use Rattle.planning.proofs.ReachLaws.{reaching_domain}
@@ -100,8 +98,8 @@ from_hazard h side (z ∷ zs) e m = go (eqb z.side side && reached h z) refl m (
     here t (inl q) r = record {
       hazard = z;
       member = Memᴰ.head refl;
-      on_side = eqb-true _ _ (and_left _ (reached h z) t);
-      reach = and_right (eqb z.side side) _ t;
+      on_side = eqb-true _ _ ((and_parts _ (reached h z) t).0);
+      reach = (and_parts (eqb z.side side) _ t).1;
       is = q;
     }
     here t (inr k) r = later (r k)
@@ -115,7 +113,7 @@ to_envelope : (h : Header) (side : ℕ) {z : Hazard} {zs : List Hazard} → Mem�
     → Memᴰ (envelope h z) (envelopes h side zs)
 unfolding envelopes
 to_envelope h side {z} (Memᴰ.head {x = x} {xs = xs} q) on r =
-    rw q (rw (let t : (eqb x.side side && reached h x) ≡ true = and_intro (eq-eqb _ _ (ap (λ (y : Hazard). y.side) (sym q) ∙ on)) (rw q at r) in t)
+    rw q (rw (let t : (eqb x.side side && reached h x) ≡ true = and_from _ _ (eq-eqb _ _ (ap (λ (y : Hazard). y.side) (sym q) ∙ on)) (rw q at r) in t)
     (Memᴰ.head refl))
 to_envelope h side {z} (Memᴰ.tail {x = x} {xs = xs} m) on r = go (eqb x.side side && reached h x) (to_envelope h side m on r)
   where
@@ -186,8 +184,8 @@ module _ (j : Job) (fits : AcceptedFits j) (z : Hazard) (m : Memᴰ z j.hazards)
   clear = (fits.passed z m).clear (any t r)
     where
       any : (t : Traffic) → reaches j.header z t ≡ true → (reaches j.header z forward || reaches j.header z opposite) ≡ true
-      any forward q = or_left _ q
-      any opposite q = or_right (reaches j.header z forward) q
+      any forward q = or_left _ _ q
+      any opposite q = or_right (reaches j.header z forward) _ q
 
   pub domain_of : Domain j.header.along j.header.across j.header.straight (runout j.header t) (reach_of j.header z t)
       (offset_of j.header z t)
@@ -200,16 +198,12 @@ pub record EnvelopesFit (es : List Stretch) : Type 0 where
   pub levelled : Levelled es
   pub ends : EndsBy last_station es
 
-pub tested_fit : (j : Job) (side : ℕ) (c : Cuts) → JobFits j → tested_envelopes j side All ≡ accepted c → EnvelopesFit c.envelopes
-unfolding tested_envelopes standing_in
-tested_fit j side c f e =
-    let b = bound (test_hazards j.header 0 j.hazards) (λ _. accepted (cuts_of j.header side j.hazards)) c e in
-    let whole : cuts_of j.header side j.hazards ≡ c = cc in
-    let same : side_envelopes j side ≡ c.envelopes = ap (λ (x : Cuts). x.envelopes) whole in
-    let fits : AcceptedFits j = record { fits = f; passed = hazards_passed j.header 0 j.hazards b.first b.taken } in
-    subst EnvelopesFit same (record {
+pub tested_fit : (j : Job) (side : ℕ) → JobFits j → test_hazards j.header 0 j.hazards ≡ accepted tt → EnvelopesFit (side_envelopes j side)
+tested_fit j side f e =
+    let fits : AcceptedFits j = record { fits = f; passed = hazards_passed j.header 0 j.hazards tt e } in
+    record {
       few = side_count j side fits;
       proper = side_proper j side fits;
       levelled = side_levelled j side fits;
       ends = side_ends j side fits;
-    })
+    }

@@ -9,7 +9,7 @@ use mathlib.Core.Path.{◌≡◌, refl}
 use mathlib.Core.Logic.{◌↔◌}
 use mathlib.Core.Bool.{Bool, true, false}
 use mathlib.Core.List.{Memᴰ}
-use Rattle.base.proofs.TestLaws.{or_left, or_right}
+use Rattle.std.proofs.lemmas.Bool.{or_left, or_right}
 use Rattle.approach.specs.Panel.{raised_length}
 use Rattle.approach.proofs.ApproachLaws.{divisor_some}
 use Rattle.approach.proofs.PanelLaws.{raised_length_below}
@@ -28,8 +28,8 @@ use Rattle.planning.proofs.EnvelopeLaws.{domain_of, cut_has, to_cut, side_levell
 module _ (j : Job) (fits : AcceptedFits j) (z : Hazard) (m : Memᴰ z j.hazards) where
   is_reached : (t : Traffic) → reaches j.header z t ≡ true → reached j.header z ≡ true
   unfolding reached
-  is_reached forward r = or_left (reaches j.header z opposite) r
-  is_reached opposite r = or_right (reaches j.header z forward) r
+  is_reached forward r = or_left _ (reaches j.header z opposite) r
+  is_reached opposite r = or_right (reaches j.header z forward) _ r
 
   -- A distance below the approach length in whole panels is below the lengthening, and no other is.
   nearer : (t : Traffic) → reaches j.header z t ≡ true → (d : ℕ) → BelowApproach j.header z t d → d < lengthening j.header z t

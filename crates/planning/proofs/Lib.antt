@@ -4,6 +4,7 @@ pub mod EnvelopeLaws
 pub mod WindowLaws
 pub mod TestedLaws
 pub mod WalkLaws
+pub mod TakerLaws
 pub mod AcceptLaws
 pub mod FormulaLaws
 pub mod JobRunLaws

@@ -11,7 +11,7 @@ use mathlib.Core.List.Memᴰ
 use mathlib.Core.List.{List, [], ◌∷◌, Memᴰ}
 use lib.Dec.{eqb}
 use borrow.Author.Tests.{eqb-true, eq-eqb}
-use Rattle.base.proofs.TestLaws.{and_left, and_right, and_intro}
+use Rattle.std.proofs.lemmas.Bool.{and_from, and_parts}
 use Rattle.job.specs.declared.Header.{Header}
 use Rattle.job.specs.declared.Hazard.{Hazard}
 use Rattle.job.specs.Job.{Job}
@@ -75,7 +75,7 @@ module _ (h : Header) (side : ℕ) (end : Overhangs → ℕ) (nothing : end no_o
           → (x : Hazard) × SideHazard (job_with (z ∷ zs)) side x × (end (overhang h x) ≡ end (greater (overhang h z) r))
       pick (yes l) some = (
         z,
-        record { member = Memᴰ.head refl; on_side = eqb-true _ _ (and_left _ (reached h z) on); reach = and_right (eqb z.side side) _ on },
+        record { member = Memᴰ.head refl; on_side = eqb-true _ _ ((and_parts _ (reached h z) on).0); reach = (and_parts (eqb z.side side) _ on).1 },
         omega (arith, picks (overhang h z) r),
       )
       pick (no l) some =
@@ -88,7 +88,7 @@ module _ (h : Header) (side : ℕ) (end : Overhangs → ℕ) (nothing : end no_o
       record { none_greater = λ x s. below x s (Memᴰ.cases_cons s.member); attained = λ some. let w = g.attained some in (w.0, later w.1, w.2) }
     where
       below : (x : Hazard) → SideHazard (job_with (z ∷ zs)) side x → (x ≡ z) ⊎ Memᴰ x zs → end (overhang h x) ≤ n
-      below x s (inl q) = absurd (false≢true (sym off ∙ and_intro (eq-eqb _ _ (ap (λ (y : Hazard). y.side) (sym q) ∙ s.on_side)) (rw q at s.reach)))
+      below x s (inl q) = absurd (false≢true (sym off ∙ and_from _ _ (eq-eqb _ _ (ap (λ (y : Hazard). y.side) (sym q) ∙ s.on_side)) (rw q at s.reach)))
       below x s (inr m) = g.none_greater x (record { member = m; on_side = s.on_side; reach = s.reach })
 
   greatest : (zs : List Hazard) → Greatest (job_with zs) side end (end (overhangs h side zs))

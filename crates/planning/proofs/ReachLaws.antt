@@ -10,7 +10,8 @@ use mathlib.Core.Logic.{◌⊎◌, inl, inr}
 use mathlib.Core.Bool.{Bool, true, false, ◌&&◌, ◌||◌, and-false}
 use lib.Dec.{ltb, eqb}
 use borrow.Author.Tests.{ltb-true, lt-ltb, le-ltb, eq-eqb}
-use Rattle.base.proofs.TestLaws.{and_left, and_right, and_intro, or_cases, or_left, or_right, same_test}
+use Rattle.base.proofs.TestLaws.{same_test}
+use Rattle.std.proofs.lemmas.Bool.{and_from, and_parts, or_cases, or_left, or_right}
 use Rattle.approach.specs.Approach.{approach_length, Domain}
 use Rattle.base.specs.Least.{LeastMultiple}
 use Rattle.approach.specs.Panel.{raised_length}
@@ -41,11 +42,11 @@ reaches_far h z t e = rw e (refl, refl, refl)
 
 in_zone : (h : Header) (z : Hazard) (t : Traffic) → reaches h z t ≡ true → z.near + farther h z.side t < h.zone
 unfolding reaches
-in_zone h z t r = ltb-true (z.near + farther h z.side t) h.zone (and_right (present h t) _ r)
+in_zone h z t r = ltb-true (z.near + farther h z.side t) h.zone ((and_parts (present h t) _ r).1)
 
 adjacent_reaches_lem : (h : Header) (z : Hazard) (t : Traffic) → present h t ≡ true → adjacent h z.side t ≡ true → ltb z.near h.zone ≡ true
     → reaches h z t ≡ true
-adjacent_reaches_lem h z t p a l = rw (reaches_adjacent h z t a).0 (and_intro p l)
+adjacent_reaches_lem h z t p a l = rw (reaches_adjacent h z t a).0 (and_from _ _ p l)
 
 -- A hazard is reached exactly if n < C: far traffic reaches only where adjacent traffic does.
 pub reached_near : (h : Header) (z : Hazard) → z.side ≤ 1 → reached h z ≡ ltb z.near h.zone
@@ -63,10 +64,10 @@ reached_near h z s = same_test (reached h z) (ltb z.near h.zone) to from
     from l = go (ℕ_discrete z.side 0) (ℕ_discrete h.opposite 0)
       where
         go : Dec (z.side ≡ 0) → Dec (h.opposite ≡ 0) → (reaches h z forward || reaches h z opposite) ≡ true
-        go (yes a) b = or_left _ (adjacent_reaches_lem h z forward refl (or_left _ (eq-eqb _ _ a)) l)
-        go (no a) (yes b) = or_left _ (adjacent_reaches_lem h z forward refl (or_right (eqb z.side 0) (eq-eqb _ _ b)) l)
+        go (yes a) b = or_left _ _ (adjacent_reaches_lem h z forward refl (or_left _ _ (eq-eqb _ _ a)) l)
+        go (no a) (yes b) = or_left _ _ (adjacent_reaches_lem h z forward refl (or_right (eqb z.side 0) _ (eq-eqb _ _ b)) l)
         go (no a) (no b) =
-            or_right (reaches h z forward) (adjacent_reaches_lem h z opposite (lt-ltb 0 h.opposite (omega arith)) (eq-eqb z.side 1 (omega arith)) l)
+            or_right (reaches h z forward) _ (adjacent_reaches_lem h z opposite (lt-ltb 0 h.opposite (omega arith)) (eq-eqb z.side 1 (omega arith)) l)
 
 -- The approach length of a traffic
 
@@ -94,7 +95,7 @@ module _ (h : Header) (z : Hazard) (hf : HeaderFits h) (zf : HazardFits h z) (cl
   unfolding reaches reach_of offset_of
   reaching_domain r =
       let bounds = header_bounds h hf in
-      let runs : ltb 0 (runout h t) ≡ true = sym (present_runout h hf t) ∙ and_left (present h t) _ r in
+      let runs : ltb 0 (runout h t) ≡ true = sym (present_runout h hf t) ∙ (and_parts (present h t) _ r).0 in
       record {
         along_low = bounds.along_low;
         along_top = bounds.along_top;
@@ -132,7 +133,7 @@ module _ (h : Header) (z : Hazard) (hf : HeaderFits h) (zf : HazardFits h z) (cl
       (near : z.near + w < h.zone) where
     asked_reaches : reaches h z t ≡ true
     unfolding reaches
-    asked_reaches = and_intro (present_runout h hf t ∙ lt-ltb 0 (runout h t) (omega arith)) (lt-ltb (z.near + farther h z.side t) h.zone (omega arith))
+    asked_reaches = and_from _ _ (present_runout h hf t ∙ lt-ltb 0 (runout h t) (omega arith)) (lt-ltb (z.near + farther h z.side t) h.zone (omega arith))
 
     pub lengthening_domain : Domain h.along h.across h.straight L R (h.offset + w)
     unfolding reach_of offset_of

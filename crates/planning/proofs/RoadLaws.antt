@@ -8,7 +8,7 @@ use mathlib.Core.Path.{◌≡◌, refl}
 use mathlib.Core.Bool.{Bool, true, false, ◌&&◌}
 use mathlib.Core.List.{List, [], ◌∷◌, map, Memᴰ}
 use lib.Dec.{eqb}
-use Rattle.base.proofs.TestLaws.{and_right}
+use Rattle.std.proofs.lemmas.Bool.{and_parts}
 use Rattle.job.specs.declared.Header.{Header}
 use Rattle.job.specs.declared.Hazard.{Hazard}
 use Rattle.job.specs.Job.{Job}
@@ -91,7 +91,7 @@ module _ (h : Header) (side : ℕ) where
           → map (cut_to_road h) (if b then envelope h z ∷ envelopes h side zs else envelopes h side zs)
           ≡ (if b then envelope h z ∷ envelopes h side zs else envelopes h side zs)
       go true on r =
-          let own = uncut h z (and_right (eqb z.side side) _ on) (s z (Memᴰ.head refl)) in
+          let own = uncut h z ((and_parts (eqb z.side side) _ on).1) (s z (Memᴰ.head refl)) in
           λ i. own i ∷ r i
       go false off r = r
 
@@ -102,7 +102,7 @@ module _ (h : Header) (side : ℕ) where
     where
       go : (b : Bool) → (eqb z.side side && reached h z) ≡ b → overhangs h side zs ≡ no_overhang
           → (if b then greater (overhang h z) (overhangs h side zs) else overhangs h side zs) ≡ no_overhang
-      go true on r = rw (no_overhang_lem h z (and_right (eqb z.side side) _ on) (s z (Memᴰ.head refl)), r)
+      go true on r = rw (no_overhang_lem h z ((and_parts (eqb z.side side) _ on).1) (s z (Memᴰ.head refl)), r)
       go false off r = r
 
 -- The cut envelopes of a job none of whose envelopes leaves the road are the uncut ones, and both overhangs are 0.

@@ -26,7 +26,6 @@ use Rattle.planning.specs.Envelope.{reached, stands_near, test_hazard, test_haza
 use Rattle.planning.specs.Rows.{Near, Passed, FirstNear, FirstNearOf, JobRow, of_reading, near_barrier}
 use Rattle.planning.proofs.EnvelopeLaws.{hazard_passed}
 use Rattle.planning.proofs.AcceptedLaws.{hazards_pass}
-use Rattle.base.proofs.TestLaws.{impossible}
 
 test_exactly : (h : Header) (i n v : ℕ) (z : Hazard) → (test_hazard h i z ≡ refused n v) ↔ ((n ≡ 5) × (v ≡ i) × Near h z)
 unfolding test_hazard stands_near
@@ -35,8 +34,8 @@ test_exactly h i n v z = (λ e. to _ _ refl refl e, λ w. back w.2 ∙ ap₂ ref
     to : (r near : Bool) → reached h z ≡ r → ltb z.near (h.offset + h.deflection) ≡ near
         → unless_refuse (not (r && near)) (Row.NearBarrier i) ≡ refused n v → (n ≡ 5) × (v ≡ i) × Near h z
     to true true p q e = ((cc), (cc), record { reach = p; near = ltb-true _ _ q })
-    to true false p q e = impossible cc
-    to false near p q e = impossible cc
+    to true false p q e = cc
+    to false near p q e = cc
 
     back : Near h z → test_hazard h i z ≡ refused 5 i
     back f = simp (f.reach, lt-ltb z.near (h.offset + h.deflection) f.near)
@@ -52,7 +51,7 @@ first_refused h zs i v f =
 
 refused_first : (h : Header) (zs : List Hazard) (i n v : ℕ) → test_hazards h i zs ≡ refused n v → (n ≡ 5) × ((k : ℕ) × (v ≡ i + k) × FirstNear h zs k)
 unfolding test_hazards
-refused_first h [] i n v e = impossible cc
+refused_first h [] i n v e = cc
 refused_first h (z ∷ zs) i n v e = go (test_hazard h i z) refl e (refused_first h zs (i + 1) n v)
   where
     later : Passed h z → (n ≡ 5) × ((k : ℕ) × (v ≡ i + 1 + k) × FirstNear h zs k) → (n ≡ 5) × ((k : ℕ) × (v ≡ i + k) × FirstNear h (z ∷ zs) k)
@@ -95,7 +94,7 @@ module _ (s : List ℕ) where
   job_exactly n v = (to (read_job s) refl, back)
     where
       tests : (j : Job) (a : Answer (Unit {0})) → (a >>= λ _. accepted j) ≡ refused n v → a ≡ refused n v
-      tests j (accepted u) e = impossible cc
+      tests j (accepted u) e = cc
       tests j (refused m w) e = ap₂ refused (cc) (cc)
 
       to : (a : Answer Job) → read_job s ≡ a → (a >>= λ j. test_hazards j.header 0 j.hazards >>= λ _. accepted j) ≡ refused n v

@@ -3,20 +3,18 @@
 use Rattle.std.specs.Prelude.{if◌then◌else◌}
 use Prim.Native.Nat.{ℕ, ◌+◌, ◌-◌, ◌≤◌, ◌<◌, min, max}
 use native.Mathlib.Omega.{arith}
-use mathlib.Core.Path.{◌≡◌, refl, ap, ◌∙◌}
-use mathlib.Core.Bool.{Bool, true, false, ◌&&◌, and-false}
+use mathlib.Core.Path.{◌≡◌, refl, sym, ap, ◌∙◌}
+use mathlib.Core.Bool.{Bool, true, false, ◌&&◌, ◌||◌, and-false, or-true}
 use mathlib.Core.List.{List, [], ◌∷◌}
 use lib.Dec.{ltb, eqb}
 use borrow.Author.Tests.{ltb-false, lt-ltb, le-ltb, eq-eqb, ne_eqb}
-use Rattle.base.specs.Answer.{accepted, refused}
 use Rattle.job.specs.declared.Header.{Header}
 use Rattle.job.specs.declared.Hazard.{Hazard}
 use Rattle.planning.specs.declared.envelope.CutEnvelope.{CutEnvelope}
 use Rattle.planning.specs.declared.window.Window.{Window}
-use Rattle.planning.specs.Envelope.{forward, opposite, reached, lengthening, envelope, envelopes, cut_to_road, cut_envelope, overhang, overhangs, stands_near}
-use Rattle.planning.specs.Envelope.{test_hazard}
+use Rattle.planning.specs.Envelope.{Traffic, forward, opposite, reaches, reached, lengthening, envelope, envelopes, cut_to_road, cut_envelope, overhang, overhangs, stands_near}
 use Rattle.planning.specs.Window.{stands_in, standing_in}
-use Rattle.planning.specs.Reply.{no_cuts, cuts_of, tested_hazard}
+use Rattle.planning.specs.Reply.{no_cuts, cuts_of}
 use Rattle.planning.proofs.ReachLaws.{reached_near}
 use Rattle.planning.proofs.WindowLaws.{standing_one}
 use Rattle.planning.proofs.OverhangLaws.{greater_none}
@@ -48,6 +46,18 @@ none_cuts h side w z none = cuts_one h side w z ∙ go (stands_in w z)
     go true = none
     go false = refl
 
+-- A hazard that stands clear of the barrier passes it.
+pub clear_passes : (h : Header) (z : Hazard) → h.offset + h.deflection ≤ z.near → stands_near h z ≡ false
+unfolding stands_near
+clear_passes h z l = rw (le-ltb z.near (h.offset + h.deflection) l) (and-false (reached h z))
+
+-- And one that passes and that a traffic reaches stands clear.
+pub reaching_clear : (h : Header) (z : Hazard) → stands_near h z ≡ false → (t : Traffic) → reaches h z t ≡ true → h.offset + h.deflection ≤ z.near
+unfolding stands_near reached
+reaching_clear h z e forward r = ltb-false _ _ (rw r at e)
+reaching_clear h z e opposite r = ltb-false _ _ (let w : (reaches h z forward || true) && ltb z.near (h.offset + h.deflection) ≡ false = rw r at e in
+    rw (or-true (reaches h z forward)) at w)
+
 module _ (h : Header) (z : Hazard) (side : z.side ≤ 1) where
   -- The test by numbers.
   pub near_numbers : ltb z.near h.zone && ltb z.near (h.offset + h.deflection) ≡ stands_near h z
@@ -59,40 +69,25 @@ module _ (h : Header) (z : Hazard) (side : z.side ≤ 1) where
   stands_clear e l = ltb-false _ _ (let w : ltb z.near h.zone && ltb z.near (h.offset + h.deflection) ≡ false = near_numbers ∙ e in
       rw (lt-ltb z.near h.zone l) at w)
 
-  -- One that nobody reaches passes it too.
-  unreached_passes : reached h z ≡ false → stands_near h z ≡ false
-  unfolding stands_near
-  unreached_passes e = rw e
+  module _ (asked : ℕ) (w : Window) where
+    -- It stands on the other side, or outside of the window.
+    pub other_cuts : (z.side ≡ asked → ⊥) → no_cuts ≡ cuts_of h asked (standing_in w (z ∷ []))
+    other_cuts off = sym (none_cuts h asked w z (no_cuts_lem h asked z (rw (ne_eqb z.side asked off))))
 
-  module _ (asked : ℕ) (w : Window) (i : ℕ) where
-    -- 5
-    pub tested_near : stands_near h z ≡ true → refused 5 i ≡ tested_hazard h asked w i z
-    unfolding tested_hazard test_hazard
-    tested_near e = rw e
+    pub outside_none : stands_in w z ≡ false → no_cuts ≡ cuts_of h asked (standing_in w (z ∷ []))
+    outside_none out = sym (outside_cuts h asked w z out)
 
-    module _ (clear : stands_near h z ≡ false) where
-      tested_clear : tested_hazard h asked w i z ≡ accepted (cuts_of h asked (standing_in w (z ∷ [])))
-      unfolding tested_hazard test_hazard
-      tested_clear = rw clear
-
-      -- It stands on the other side, or outside of the window.
-      pub tested_other : (z.side ≡ asked → ⊥) → accepted no_cuts ≡ tested_hazard h asked w i z
-      tested_other off = rw (tested_clear, none_cuts h asked w z (no_cuts_lem h asked z (rw (ne_eqb z.side asked off))))
-
-      pub tested_outside : stands_in w z ≡ false → accepted no_cuts ≡ tested_hazard h asked w i z
-      tested_outside out = rw (tested_clear, outside_cuts h asked w z out)
-
-      -- Its envelope, cut.
-      pub tested_envelope : z.near < h.zone → z.side ≡ asked → stands_in w z ≡ true
-          → accepted (record { envelopes = cut_envelope h z ∷ []; overhangs = overhang h z }) ≡ tested_hazard h asked w i z
-      tested_envelope l on stands = let e : reached h z ≡ true = rw (reached_near h z side) (lt-ltb z.near h.zone l) in
-          rw (tested_clear, cuts_one h asked w z, stands, own_cuts h asked z on e)
+    -- Its envelope, cut.
+    pub given_envelope : z.near < h.zone → z.side ≡ asked → stands_in w z ≡ true
+        → record { envelopes = cut_envelope h z ∷ []; overhangs = overhang h z } ≡ cuts_of h asked (standing_in w (z ∷ []))
+    given_envelope l on stands = let e : reached h z ≡ true = rw (reached_near h z side) (lt-ltb z.near h.zone l) in
+        sym (cuts_one h asked w z ∙ rw stands (own_cuts h asked z on e))
 
     -- Nobody reaches it.
-    pub tested_unreached : h.zone ≤ z.near → accepted no_cuts ≡ tested_hazard h asked w i z
-    tested_unreached l =
+    pub unreached_none : h.zone ≤ z.near → no_cuts ≡ cuts_of h asked (standing_in w (z ∷ []))
+    unreached_none l =
         let e : reached h z ≡ false = rw (reached_near h z side) (le-ltb z.near h.zone l) in
-        rw (tested_clear (unreached_passes e), none_cuts h asked w z (no_cuts_lem h asked z (rw e (and-false (eqb z.side asked)))))
+        sym (none_cuts h asked w z (no_cuts_lem h asked z (rw e (and-false (eqb z.side asked)))))
 
 -- The cut ends by sums: what hangs over is taken off again.
 module _ (h : Header) (z : Hazard) {before behind early late : ℕ} (p : before ≡ lengthening h z forward) (q : behind ≡ lengthening h z opposite)

@@ -8,7 +8,8 @@ use mathlib.Core.Bool.{true}
 use mathlib.Core.List.{List, [], ◌∷◌, ◌++◌, Memᴰ}
 use borrow.Author.Tests.{le-leb}
 use Rattle.base.specs.Choice.{filter}
-use Rattle.base.proofs.TestLaws.{and_intro, filter_elim, filter_intro, filter_append}
+use Rattle.base.proofs.TestLaws.{filter_elim, filter_intro, filter_append}
+use Rattle.std.proofs.lemmas.Bool.{and_from}
 use Rattle.job.specs.declared.Header.{Header}
 use Rattle.job.specs.declared.Hazard.{Hazard}
 use Rattle.job.specs.Job.{Job}
@@ -72,7 +73,7 @@ module _ (h : Header) (z : Hazard) (hf : HeaderFits h) (zf : HazardFits h z) (cl
       let G = (header_bounds h hf).continuity_top in
       let road = (header_bounds h hf).road_end in
       let own = hazard_bounds h z zf in
-      and_intro (le-leb z.start (min t last_station + window_reach) (omega (arith, before, early, G, road, own.long, own.ends)))
+      and_from _ _ (le-leb z.start (min t last_station + window_reach) (omega (arith, before, early, G, road, own.long, own.ends)))
       (le-leb (min t last_station - window_reach) z.end (omega (arith, behind, late, G)))
 
 -- The hazards about a station require what all require there.

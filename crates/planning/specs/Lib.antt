@@ -5,6 +5,7 @@ pub mod Required
 pub mod Approached
 pub mod Reply
 pub mod Walk
+pub mod Taker
 pub mod Accept
 pub mod Own
 pub mod Rows

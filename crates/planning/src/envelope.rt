@@ -1,15 +1,14 @@
-// Which traffic reaches a hazard, the hazard's envelope, cut at the road's ends, and its test.
-ghost use Rattle.std.specs.Prelude.{◌≡◌, ◌+◌, ◌≤◌, ◌<◌, min};
-ghost use Rattle.job.specs.Fits.{HeaderFits, HazardFits};
+// Which traffic reaches a hazard, what its approach goes by, and the hazard's envelope, cut at the road's ends.
+ghost use Rattle.std.specs.Prelude.{◌≡◌, ◌<◌, min, [], ◌∷◌};
 ghost use Rattle.planning.specs.Envelope.{adjacent, adjacent_traffic, runout, farther, lengthening, cut_envelope, overhang};
-ghost use Rattle.planning.specs.Reply.{traffic_of, tested_answer, tested_hazard};
+ghost use Rattle.planning.specs.Reply.{traffic_of, cuts_of, cuts_given};
+ghost use Rattle.planning.specs.Window.{standing_in};
 
 use super::Overhangs;
-use super::near::stands_near;
+use super::tested::Tested;
 use super::window::{Window, stands_in};
-use base::{min, saturating_sub};
+use approach::Approach;
 use job::{Hazard, Header};
-use refusal::Refusal;
 use runs::Stretch;
 
 // Forward traffic drives by rising stations, opposite traffic by falling ones.
@@ -24,16 +23,6 @@ pub enum Traffic {
 pub struct CutEnvelope {
     pub stretch: Stretch,
     pub overhangs: Overhangs,
-}
-
-// What the test of a hazard says, to a side.
-#[derive(Clone, Copy)]
-pub enum Tested {
-    // Not 5: the hazard has this envelope on the side.
-    Envelope(CutEnvelope),
-    // It gives the side none: nobody reaches it, or it stands on the other one, or outside of the window.
-    Without,
-    Refused(Refusal),
 }
 
 // The runout length of a traffic; 0 where there is none.
@@ -81,86 +70,82 @@ fn farther_by(header: Header, side: u8, traffic: Traffic) -> u64
 pub fn adjacent_reach(header: Header, hazard: Hazard) -> u64
     ensures { result ≡ min hazard.far header.zone }
 {
-    min(hazard.far as u64, header.zone)
+    (hazard.far as u64).min(header.zone)
 }
 
-// By how much a traffic lengthens the envelope of a hazard that stands clear of the barrier.
-fn lengthened_by(header: Header, hazard: Hazard, traffic: Traffic) -> u64
-    requires header_fits { HeaderFits header }
-    requires hazard_fits { HazardFits header hazard }
-    requires stands_clear { header.offset + header.deflection ≤ hazard.near }
-    ensures { (result ≡ lengthening header hazard (traffic_of traffic)) × (result < 210000) }
+// What an approach length goes by: the header's flare and straight part, the runout length of a traffic, and a reach and a barrier offset.
+pub fn approach_of(header: &Header, traffic: Traffic, reach: u64, offset: u64) -> Approach
+    ensures { result ≡ record { along = header.now.along; across = header.now.across; straight = header.now.straight; runout = runout header.now (traffic_of traffic); reach = reach; offset = offset } }
 {
-    let runout = runout_length(header, traffic);
-    let farther = farther_by(header, hazard.side, traffic);
-    if runout == 0 {
-        return 0;
-    }
-    if header.zone <= hazard.near as u64 + farther {
-        return 0;
-    }
-    let reach = min(hazard.far as u64 + farther, header.zone);
-    let offset = header.offset + farther;
-    approach::raised_length(
-        header.panel,
-        header.along,
-        header.across,
-        header.straight,
-        runout,
+    Approach {
+        along: header.along,
+        across: header.across,
+        straight: header.straight,
+        runout: runout_length(*header, traffic),
         reach,
         offset,
-    )
-}
-
-// A reached hazard that stands clear of the barrier: its envelope, cut, and its overhangs. No sum below 0: the overhang is added before the
-// approach is taken off.
-fn cut_envelope(header: Header, hazard: Hazard) -> CutEnvelope
-    requires header_fits { HeaderFits header }
-    requires hazard_fits { HazardFits header hazard }
-    requires stands_clear { header.offset + header.deflection ≤ hazard.near }
-    ensures { result ≡ record { stretch = cut_envelope header hazard; overhangs = overhang header hazard } }
-{
-    let before = lengthened_by(header, hazard, Traffic::Forward);
-    let behind = lengthened_by(header, hazard, Traffic::Opposite);
-    let early = saturating_sub(header.begin + before, hazard.start);
-    let late = saturating_sub(hazard.end + behind, header.end);
-    CutEnvelope {
-        stretch: Stretch {
-            start: hazard.start + early - before,
-            end: hazard.end + behind - late,
-            level: hazard.level as u32,
-        },
-        overhangs: Overhangs {
-            before: early,
-            after: late,
-        },
     }
 }
 
-// The hazard with this index: refusal 5, else what it gives to the side where it stands in the window. It is reached if its near offset lies in the
-// clear zone; one that nobody reaches isn't refused.
-pub fn test_hazard(
-    header: Header,
-    side: u64,
-    window: Window,
-    index: usize,
-    hazard: Hazard,
-) -> Tested
-    requires header_fits { HeaderFits header }
-    requires hazard_fits { HazardFits header hazard }
-    ensures { tested_answer result ≡ tested_hazard header side window index hazard }
-{
-    if header.zone <= hazard.near as u64 {
-        return Tested::Without;
+impl Tested<'_> {
+    // By how much a traffic lengthens the hazard's envelope.
+    fn lengthened_by(self, traffic: Traffic) -> u64
+        ensures { (result ≡ lengthening self.entry.header.now self.entry.hazard (traffic_of traffic)) × (result < 210000) }
+    {
+        let header = self.header;
+        let hazard = self.hazard;
+        let farther = farther_by(*header, hazard.side, traffic);
+        if runout_length(*header, traffic) == 0 {
+            return 0;
+        }
+        if header.zone <= hazard.near as u64 + farther {
+            return 0;
+        }
+        let reach = (hazard.far as u64 + farther).min(header.zone);
+        let approach = approach_of(header, traffic, reach, header.offset + farther);
+        approach.raised_length(header.panel)
     }
-    if stands_near(header, hazard) {
-        return Tested::Refused(Refusal::NearBarrier(index));
+
+    // The hazard's envelope, cut, and its overhangs. No sum below 0: the overhang is added before the approach is taken off.
+    #[inline(always)]
+    pub fn cut_envelope(self) -> CutEnvelope
+        ensures { result ≡ record { stretch = cut_envelope self.entry.header.now self.entry.hazard; overhangs = overhang self.entry.header.now self.entry.hazard } }
+    {
+        let header = self.header;
+        let hazard = self.hazard;
+        let before = self.lengthened_by(Traffic::Forward);
+        let behind = self.lengthened_by(Traffic::Opposite);
+        let early = (header.begin + before).saturating_sub(hazard.start);
+        let late = (hazard.end + behind).saturating_sub(header.end);
+        CutEnvelope {
+            stretch: Stretch {
+                start: hazard.start + early - before,
+                end: hazard.end + behind - late,
+                level: hazard.level as u32,
+            },
+            overhangs: Overhangs {
+                before: early,
+                after: late,
+            },
+        }
     }
-    if hazard.side as u64 != side {
-        return Tested::Without;
+
+    // What the hazard gives to a side: its envelope where it stands on the side, is reached and is in the window. It is reached if its near offset lies
+    // in the clear zone.
+    #[inline(always)]
+    pub fn side_envelope(self, side: u64, window: Window) -> Option<CutEnvelope>
+        ensures { cuts_given result ≡ cuts_of self.entry.header.now side (standing_in window (self.entry.hazard ∷ [])) }
+    {
+        let hazard = self.hazard;
+        if self.header.zone <= hazard.near as u64 {
+            return None;
+        }
+        if stands_in(window, hazard) {
+            if hazard.side as u64 != side {
+                return None;
+            }
+            return Some(self.cut_envelope());
+        }
+        None
     }
-    if stands_in(window, hazard) {
-        return Tested::Envelope(cut_envelope(header, hazard));
-    }
-    Tested::Without
 }

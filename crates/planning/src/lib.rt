@@ -2,10 +2,12 @@
 #![tactic(auto)]
 
 pub mod accept; // the entrances: a side, and a hazard, of an accepted job
-pub mod envelope; // a hazard's envelope, cut at the road's ends, and its test
+pub mod envelope; // a hazard's envelope, cut at the road's ends
 pub mod near; // a hazard too near to the barrier
 pub mod own; // the envelope of one hazard
 pub mod side; // the runs of a side
+pub mod taker; // what is taken of the hazards that a walk gives
+pub mod tested; // a hazard that passes refusal 5
 pub mod walk; // one walk over a job's hazards
 pub mod window; // which hazards it takes the envelopes of
 

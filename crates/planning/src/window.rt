@@ -2,7 +2,6 @@
 ghost use Rattle.std.specs.Prelude.{◌≡◌};
 ghost use Rattle.planning.specs.Window.{stands_in, window_about};
 
-use base::{min, saturating_sub};
 use job::Hazard;
 
 #[derive(Clone, Copy)]
@@ -17,9 +16,9 @@ pub enum Window {
 pub fn window_about(station: u64) -> Window
     ensures { result ≡ window_about station }
 {
-    let middle = min(station, 1000000000000);
+    let middle = station.min(1000000000000);
     Window::Between {
-        from: saturating_sub(middle, 410000),
+        from: middle.saturating_sub(410000),
         to: middle + 410000,
     }
 }

@@ -35,6 +35,18 @@ module _ {starts sums : List ℕ} {n end : ℕ} (w : Noted starts sums n end) wh
       go (yes l) = omega (arith, w.apart i j l k)
       go (no l) = let same : i ≡ j = omega arith in rw same (omega arith)
 
+pub noted_none : Noted (replicate 512 0) (replicate 512 0) 0 0
+noted_none = record {
+  start_places = refl;
+  sum_places = refl;
+  few = omega arith;
+  first = refl;
+  grow = λ i h. absurd (omega arith);
+  apart = λ i j h k. absurd (omega arith);
+  ends = λ i h. absurd (omega arith);
+  total = omega arith;
+}
+
 pub below_nothing : (starts sums : List ℕ) (t : ℕ) → below starts sums 0 t ≡ 0
 unfolding below
 below_nothing starts sums t = refl

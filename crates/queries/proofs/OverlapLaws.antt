@@ -11,7 +11,7 @@ use lib.ListN.{length}
 use lib.Dec.{eqb}
 use borrow.Author.Tests.{ne_eqb}
 use Rattle.base.specs.Answer.{accepted}
-use Rattle.number.specs.Number.{Reading}
+use Rattle.number.specs.declared.Reading.{Reading}
 use Rattle.runs.specs.declared.Stretch.{Stretch}
 use Rattle.runs.specs.RunList.{shown_level, MayFollow, Rising}
 use Rattle.runs.specs.Count.{count_from}
@@ -20,7 +20,8 @@ use Rattle.runs.proofs.CountLaws.{count_none, count_run}
 use Rattle.schedule.specs.Schedule.{ReadRun}
 use Rattle.queries.specs.Walk.{head_at, record_at, overlap, overlap_at, overlaps, overlap_sum}
 use Rattle.queries.specs.Quantity.{millimetres}
-use Rattle.queries.proofs.StepLaws.{Rest, walk_start, walk_passed, walk_over}
+use Rattle.queries.proofs.StepLaws.{walk_start, walk_passed, walk_over}
+use Rattle.queries.specs.Visits.{Summed}
 
 -- A quantity is the sum of the overlaps of the runs of that level.
 count_overlaps : (e u : ℕ) (rs : List Stretch) → Rising e u rs → (v : ℕ) → 1 ≤ v → (p n : ℕ)
@@ -69,18 +70,15 @@ overlap_most e u r n v p q = go (eqb r.level v)
 
 -- Between two records, the overlaps are the sum so far and those of the runs from here on.
 module _ (s : List ℕ) (v p q : ℕ) where
-  abbrev pub Summed : (sum k e last at : ℕ) → Type 0
-  Summed sum k e last at = Rest s (λ rs. overlaps rs v p q) k e last at (λ rs. sum + overlaps rs v p q)
-
-  pub summed_start : (sum : ℕ) (n : Reading) → sum ≡ 0 → head_at s ≡ accepted n → Summed sum n.value 0 0 n.next
+  pub summed_start : (sum : ℕ) (n : Reading) → sum ≡ 0 → head_at s ≡ accepted n → Summed s v p q sum n.value 0 0 n.next
   summed_start sum n none h = walk_start s n h (λ rs. overlaps rs v p q) (λ rs. sum + overlaps rs v p q) (λ rs e. omega arith)
 
-  pub summed_turn : (sum sum' : ℕ) {k e last at : ℕ} (r : ReadRun) → Summed sum k e last at → 0 < k → record_at e last s at ≡ accepted r
+  pub summed_turn : (sum sum' : ℕ) {k e last at : ℕ} (r : ReadRun) → Summed s v p q sum k e last at → 0 < k → record_at e last s at ≡ accepted r
       → sum' ≡ sum + overlap_at r.run v p q
-      → Summed sum' (k - 1) r.run.end r.run.level r.next
+      → Summed s v p q sum' (k - 1) r.run.end r.run.level r.next
   unfolding overlaps
   summed_turn sum sum' r w some read m = walk_passed w r (λ rs. sum' + overlaps rs v p q) some read (λ rs. omega arith)
 
-  pub summed_over : {sum k e last at : ℕ} → Summed sum k e last at → k ≡ 0 → at ≡ length s → accepted sum ≡ overlap_sum s v p q
+  pub summed_over : {sum k e last at : ℕ} → Summed s v p q sum k e last at → k ≡ 0 → at ≡ length s → accepted sum ≡ overlap_sum s v p q
   unfolding overlap_sum overlaps
   summed_over {sum} w none over = ap accepted (let e : sum ≡ sum + 0 = omega arith in e) ∙ walk_over w none over

@@ -1,6 +1,6 @@
--- Laws of the record's place: a turn of lookup's walk, and that the place lies within the schedule.
+-- Laws of the record's place: lookup's walk, and that the place lies within the schedule.
 -- Assumes nothing.
-use Rattle.std.specs.Prelude.{if◌then◌else◌}
+use Rattle.std.specs.Prelude.{if◌then◌else◌, Option, Some, None, is_some}
 use Prim.Native.Nat.{ℕ, ◌+◌, ◌-◌, ◌≤◌, ◌<◌}
 use native.Mathlib.Omega.{arith}
 use mathlib.Core.Path.{◌≡◌, refl, sym, subst, ap, ◌∙◌}
@@ -14,81 +14,98 @@ use Rattle.base.specs.Answer.{Answer, accepted, refused}
 use Rattle.refusal.specs.Refusal.{unless_refuse}
 use Rattle.refusal.specs.declared.Refusal.TheVariants as Row
 use Rattle.base.proofs.AnswerLaws.{bound}
-use Rattle.number.specs.Number.{Reading, write_number}
+use Rattle.number.specs.Number.{write_number}
+use Rattle.number.specs.declared.Reading.{Reading}
 use Rattle.number.specs.Form.{Bytes}
 use Rattle.number.proofs.WriteLaws.{small_length}
 use Rattle.runs.specs.declared.Stretch.{Stretch}
-use Rattle.runs.specs.RunList.{Rising}
+use Rattle.runs.specs.RunList.{MayFollow, Rising}
 use Rattle.schedule.specs.Schedule.{write_record, write_records, write_schedule, ReadRun, read_schedule}
-use Rattle.queries.specs.Walk.{head_at, record_at}
-use Rattle.queries.specs.Lookup.{Part, Found, found, nowhere, find_record, place_in, asked, lookup, part_of}
-use Rattle.queries.specs.Place.{IsPart, part_between}
-use Rattle.queries.specs.Query.{so_far, or_later}
+use Rattle.queries.specs.Walk.{head_at, run_count, Between, at_first, after, Next}
+use Rattle.queries.specs.Lookup.{Part, Found, found, nowhere, find_record, place_in, asked, lookup, part_of, outcome_of}
+use Rattle.queries.specs.Place.{IsPart, part_between, found_at, companion}
+use Rattle.queries.specs.Visits.{or_later, so_far, Seeking}
+use Rattle.queries.specs.declared.reply.Place.{Place}
+use Rattle.queries.specs.declared.walk.Record.{Record}
 use Rattle.schedule.proofs.ScheduleLaws.{or_ten_lem, record_stands, schedule_read}
 use Rattle.queries.proofs.QuantityLaws.{read_rising}
-use Rattle.queries.proofs.StepLaws.{Rest, walk_start, head_length, record_follows, walk_passed, walk_over}
-use Rattle.base.proofs.TestLaws.{impossible}
+use Rattle.queries.proofs.StepLaws.{walk_start, head_length, count_refused, next_follows, walk_passed, walk_over}
 
-pub so_far_lem : (from to reached t : ℕ) → t < reached → so_far from to reached t ≡ found (part_between from to)
-so_far_lem from to reached t h = rw (lt-ltb t reached h)
+-- A record, as it is written.
+abbrev as_read : Record → ReadRun
+as_read r = record { run = r.run; next = r.next }
 
-pub so_far_none : (from to reached t : ℕ) → reached ≤ t → so_far from to reached t ≡ nowhere
-so_far_none from to reached t h = rw (le-ltb t reached h)
+-- What was found, where its run reaches beyond t, and where it does not.
+pub so_far_here : (p : Place) (reached t : ℕ) → t < reached → so_far p reached t ≡ found_at (Some p)
+so_far_here p reached t h = rw (lt-ltb t reached h)
 
--- What a walk finds: what it found so far, or what the runs behind have.
-abbrev pub finding : (from to reached e at t : ℕ) → List Stretch → Found
-finding from to reached e at t rs = or_later (so_far from to reached t) (find_record e at rs t)
+pub so_far_none : (p : Place) (reached t : ℕ) → reached ≤ t → so_far p reached t ≡ nowhere
+so_far_none p reached t h = rw (le-ltb t reached h)
 
--- Between two records, where the record is among all runs is what was found so far, or what the runs from here on have.
-abbrev pub Sought : (s : List ℕ) (t from to reached k e v at : ℕ) → Type 0
-Sought s t from to reached k e v at = Rest s (λ rs. find_record 0 (length (write_number (length rs))) rs t) k e v at (finding from to reached e at t)
+-- Before the first record.
+pub seek_start : (s : List ℕ) (t : ℕ) (h : Reading) → Bytes s → head_at s ≡ accepted h → (p : Place) → Seeking s t (at_first h) p 0
+seek_start s t h b e p = record {
+  sought = walk_start s h e (λ rs. find_record 0 (length (write_number (length rs))) rs t)
+      (λ rs. or_later (so_far p 0 t) (find_record 0 h.next rs t))
+      (λ rs q. rw (so_far_none p 0 t (omega arith)) (ap (λ (i : ℕ). find_record 0 i rs t) (head_length s h e rs b q)));
+  near = omega arith;
+}
 
-pub place_start : (s : List ℕ) (t : ℕ) (n : Reading) → Bytes s → head_at s ≡ accepted n → Sought s t 0 0 0 n.value 0 0 n.next
-place_start s t n b h =
-    walk_start s n h (λ rs. find_record 0 (length (write_number (length rs))) rs t) (finding 0 0 0 0 n.next t)
-    (λ rs e. rw (so_far_none 0 0 0 t (omega arith)) (ap (λ (i : ℕ). find_record 0 i rs t) (head_length s n h rs b e)))
+-- A record passed: a run that starts after the station does not have it, nor does any that ended before this one starts.
+module _ (s : List ℕ) (t : ℕ) (b : Between) (at : ℕ) (r : Record) (n : Next s b at r) (p : Place) (reached : ℕ) (w : Seeking s t b p reached) where
+  stands : r.next ≡ b.at + length (write_record b.end r.run)
+  stands = (record_stands s n.bytes b.end b.level b.at (as_read r) (or_ten_lem _ (as_read r) n.reads)).next
 
--- A turn of the walk: a run that starts behind the station does not have it, nor does any that ended before this one starts.
-module _ (s : List ℕ) (t from to reached k e v at : ℕ) (p : ReadRun) (b : Bytes s) (some : 0 < k) (r : record_at e v s at ≡ accepted p)
-    (w : Sought s t from to reached k e v at) where
-  abbrev pub Turn : (from' to' reached' : ℕ) → Type 0
-  Turn from' to' reached' = Sought s t from' to' reached' (k - 1) p.run.end p.run.level p.next
+  may : MayFollow b.end b.level r.run
+  may = next_follows s b at r n
 
-  next : p.next ≡ at + length (write_record e p.run)
-  next = (record_stands s b e v at p (or_ten_lem _ p r)).next
+  turned : (p' : Place) (reached' : ℕ)
+      → ((rs : List Stretch) → or_later (so_far p reached t) (find_record b.end b.at (r.run ∷ rs) t)
+      ≡ or_later (so_far p' reached' t) (find_record r.run.end (b.at + length (write_record b.end r.run)) rs t))
+      → reached' ≤ r.run.end
+      → Seeking s t (after b r) p' reached'
+  turned p' reached' same near = record {
+    sought = walk_passed w.sought (as_read r) (λ rs. or_later (so_far p' reached' t) (find_record r.run.end r.next rs t)) n.some n.reads
+        (λ rs. same rs ∙ ap (λ (i : ℕ). or_later (so_far p' reached' t) (find_record r.run.end i rs t)) (sym stands));
+    near = near;
+  }
 
-  turned : (from' to' reached' : ℕ)
-      → ((rs : List Stretch) → finding from to reached e at t (p.run ∷ rs)
-      ≡ or_later (so_far from' to' reached' t) (find_record p.run.end (at + length (write_record e p.run)) rs t))
-      → Turn from' to' reached'
-  turned from' to' reached' same = walk_passed w p (finding from' to' reached' p.run.end p.next t) some r
-      (λ rs. same rs ∙ ap (λ (i : ℕ). or_later (so_far from' to' reached' t) (find_record p.run.end i rs t)) (sym next))
-
-  pub passed_by : t < p.run.start → Turn from to reached
+  pub seek_by : t < r.run.start → Seeking s t (after b r) p reached
   unfolding find_record
-  passed_by h = turned from to reached (λ rs. rw (lt-leb p.run.start t h))
+  seek_by h = turned p reached (λ rs. rw (lt-leb r.run.start t h)) (omega (arith, w.near, may.after, may.long))
 
-  pub passed_here : reached ≤ e → p.run.start ≤ t → Turn at p.next p.run.end
+  pub seek_here : r.run.start ≤ t → Seeking s t (after b r) (record { start = at; end = r.next }) r.run.end
   unfolding find_record
-  passed_here before h =
-      let none = so_far_none from to reached t (omega (arith, (record_follows e v s at p r).after)) in
-      let long : p.next - at ≡ length (write_record e p.run) = omega (arith, next) in
-      turned at p.next p.run.end (λ rs. rw (none, le-leb p.run.start t h, long) (go rs (ltb t p.run.end)))
+  seek_here h = rw n.here at (turned (record { start = b.at; end = r.next }) r.run.end
+      (λ rs. rw (so_far_none p reached t (omega (arith, w.near, may.after)), le-leb r.run.start t h, long) (go rs (ltb t r.run.end))) (omega arith))
     where
-      go : (rs : List Stretch) (c : Bool) → let n = length (write_record e p.run) in let rest = find_record p.run.end (at + n) rs t in
-          (if true && c then found (record { at = at; len = n }) else rest) ≡ or_later (if c then found (record { at = at; len = n }) else nowhere) rest
+      long : r.next - b.at ≡ length (write_record b.end r.run)
+      long = omega (arith, stands)
+
+      go : (rs : List Stretch) (c : Bool) → let m = length (write_record b.end r.run) in let rest = find_record r.run.end (b.at + m) rs t in
+          (if true && c then found (record { at = b.at; len = m }) else rest) ≡ or_later (if c then found (record { at = b.at; len = m }) else nowhere) rest
       go rs true = refl
       go rs false = refl
 
--- Behind the last record: what was found.
-pub place_over : (s : List ℕ) (t from to reached k e v at : ℕ) → Sought s t from to reached k e v at → k ≡ 0 → at ≡ length s
-    → accepted (so_far from to reached t) ≡ place_in s t
+-- After the last record: what was found.
+pub seek_over : (s : List ℕ) (t : ℕ) (b : Between) (p : Place) (reached : ℕ) → Seeking s t b p reached → b.left ≡ 0 → b.at ≡ length s
+    → accepted (so_far p reached t) ≡ place_in s t
 unfolding place_in find_record
-place_over s t from to reached k e v at w none over = go (so_far from to reached t) ∙ walk_over w none over
+seek_over s t b p reached w none over = go (so_far p reached t) ∙ walk_over w.sought none over
   where
     go : (f : Found) → accepted f ≡ accepted (or_later f nowhere)
     go (found p) = refl
     go nowhere = refl
+
+pub place_refused : (s : List ℕ) (t x y : ℕ) → refused x y ≡ run_count s → refused x y ≡ place_in s t
+unfolding place_in
+place_refused s t x y q = rw (count_refused s x y q)
+
+-- What the companion says.
+pub outcome_at : (o : Option Place) → companion (accepted (is_some o)) ≡ outcome_of (accepted (found_at o))
+unfolding outcome_of
+outcome_at None = refl
+outcome_at (Some p) = refl
 
 -- By side
 module _ (right left : List ℕ) (side t : ℕ) where
@@ -110,7 +127,7 @@ pub record Within (i n : ℕ) (p : Part) : Type 0 where
 
 find_within : (e v i : ℕ) (rs : List Stretch) (t : ℕ) (p : Part) → Rising e v rs → find_record e i rs t ≡ found p → Within i (i + length (write_records e rs)) p
 unfolding find_record write_records write_record
-find_within e v i [] t p up q = impossible cc
+find_within e v i [] t p up q = cc
 find_within e v i (r ∷ rs) t p up q = go (leb r.start t && ltb t r.end) q (find_within r.end r.level (i + length (write_record e r)) rs t p up.1)
   where
     all : length (write_record e r ++ write_records r.end rs) ≡ length (write_record e r) + length (write_records r.end rs)
@@ -150,6 +167,11 @@ lookup_within right left side t p br bl e =
     go : (b : Bool) → Bytes (if b then left else right)
     go true = bl
     go false = br
+
+pub place_inside : (right left : List ℕ) (side t : ℕ) (p : Place) → Bytes right → Bytes left → accepted (found (part_between p.start p.end)) ≡ lookup right left side t
+    → (p.start ≤ p.end) × (p.end ≤ length (asked side right left))
+place_inside right left side t p br bl e =
+    let w = lookup_within right left side t (part_between p.start p.end) br bl (sym e) in (omega (arith, w.some), omega (arith, w.some, w.ends))
 
 -- The slice of the side asked for
 

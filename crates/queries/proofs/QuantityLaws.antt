@@ -11,7 +11,7 @@ use Rattle.base.specs.Answer.{Answer, accepted, refused, ◌>>=◌}
 use Rattle.refusal.specs.Refusal.{unless_refuse}
 use Rattle.refusal.specs.declared.Refusal.TheVariants as Row
 use Rattle.base.proofs.AnswerLaws.{bind_same}
-use Rattle.base.proofs.TestLaws.{and_left, and_right, and_intro}
+use Rattle.std.proofs.lemmas.Bool.{and_from, and_parts}
 use Rattle.runs.specs.declared.Stretch.{Stretch}
 use Rattle.runs.specs.RunList.{shown_level, Rising}
 use Rattle.runs.proofs.RunLaws.{run_list_rising}
@@ -28,9 +28,9 @@ read_rising s rs e = run_list_rising rs (read_list s rs e)
 -- A test of the level, and then of a range or of many.
 pub level_tested : {P : Type 0} (v : ℕ) (t : Bool) → (t ≡ true) ↔ P → ((leb 1 v && leb v 6 && t) ≡ true) ↔ ((1 ≤ v) × (v ≤ 6) × P)
 level_tested v t is = (
-  λ e. let levels = and_left (leb 1 v && leb v 6) t e in
-      (leb-true 1 v (and_left (leb 1 v) (leb v 6) levels), leb-true v 6 (and_right (leb 1 v) (leb v 6) levels), is.0 (and_right (leb 1 v && leb v 6) t e)),
-  λ h. and_intro (and_intro (le-leb 1 v h.0) (le-leb v 6 h.1)) (is.1 h.2),
+  λ e. let levels = (and_parts (leb 1 v && leb v 6) t e).0 in
+      (leb-true 1 v ((and_parts (leb 1 v) (leb v 6) levels).0), leb-true v 6 ((and_parts (leb 1 v) (leb v 6) levels).1), is.0 ((and_parts (leb 1 v && leb v 6) t e).1)),
+  λ h. and_from _ _ (and_from _ _ (le-leb 1 v h.0) (le-leb v 6 h.1)) (is.1 h.2),
 )
 
 pub argument_refused : {A P : Type 0} (t : Bool) (f : Unit {0} → Answer A) → (t ≡ true → P) → (P → ⊥) → (unless_refuse t Row.Argument >>= f) ≡ refused 8 0

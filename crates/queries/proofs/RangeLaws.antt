@@ -1,6 +1,6 @@
 -- Laws of ranges given as numbers p, q, p, q, ..: one after the other, and by index; and of the 64 places of a reply.
 -- Assumes nothing.
-use Prim.Native.Nat.{ℕ, zero, suc, ◌+◌, ◌-◌, ◌*◌, ◌/◌, ◌≤◌, ◌<◌}
+use Prim.Native.Nat.{ℕ, zero, suc, ◌+◌, ◌-◌, ◌*◌, ◌/◌, ◌%◌, ◌≤◌, ◌<◌}
 use native.Mathlib.Omega.{arith}
 use native.Mathlib.Numerals.{add-one}
 use mathlib.Core.Path.{◌≡◌, refl, sym, subst, ap, ◌∙◌}
@@ -9,9 +9,10 @@ use mathlib.Core.Bool.{true, false, false≢true}
 use mathlib.Core.List.{List, [], ◌∷◌}
 use lib.ListN.{length, get_or, drop, replicate, length-append, length-replicate, drop_of_length-le, get_or-append}
 use lib.Seq.{drop-cons, get_or-append-add}
-use lib.Dec.{leb}
-use borrow.Author.Tests.{le-leb, lt-leb, leb-true}
-use Rattle.base.proofs.TestLaws.{and_left, and_right, and_intro}
+use lib.Dec.{leb, eqb}
+use native.Mathlib.Decide.{ℕ_discrete}
+use borrow.Author.Tests.{le-leb, lt-leb, leb-true, eq-eqb, ne_eqb}
+use Rattle.std.proofs.lemmas.Bool.{and_from, and_parts}
 use Rattle.runs.proofs.IndexLaws.{zeros}
 use Rattle.queries.specs.Ranges.{Range, ranges_of, are_ranges, most_ranges, quantity_places, range_at, WholeRanges}
 
@@ -23,11 +24,11 @@ module _ (l : List ℕ) (i : ℕ) where
       let next : i + 2 ≡ suc (i + 1) = omega arith in
       drop-cons l i 0 (omega arith) ∙ ap (λ (r : List ℕ). get_or l i 0 ∷ r) (ap (λ (k : ℕ). drop k l) (sym (add-one i)) ∙ drop-cons l (i + 1) 0 h ∙ rw next)
 
-  pub ranges_end : length l ≤ i → are_ranges (drop i l) ≡ true
+  ranges_end : length l ≤ i → are_ranges (drop i l) ≡ true
   unfolding are_ranges
   ranges_end h = rw (drop_of_length-le l h)
 
-  pub ranges_odd : length l ≡ i + 1 → are_ranges (drop i l) ≡ false
+  ranges_odd : length l ≡ i + 1 → are_ranges (drop i l) ≡ false
   unfolding are_ranges
   ranges_odd h = rw (drop-cons l i 0 (omega arith), drop_of_length-le l {i = suc i} (omega arith))
 
@@ -38,6 +39,14 @@ module _ (l : List ℕ) (i : ℕ) where
   pub ranges_none : i + 1 < length l → get_or l (i + 1) 0 < get_or l i 0 → are_ranges (drop i l) ≡ false
   unfolding are_ranges
   ranges_none h p = rw (two h, lt-leb (get_or l i 0) (get_or l (i + 1) 0) p)
+
+-- After the last whole range, one number is left or none.
+pub ranges_over : (l : List ℕ) (i : ℕ) → i ≡ length l / 2 → eqb (length l % 2) 0 ≡ are_ranges (drop (2 * i) l)
+ranges_over l i e = go (ℕ_discrete (length l % 2) 0)
+  where
+    go : Dec (length l % 2 ≡ 0) → eqb (length l % 2) 0 ≡ are_ranges (drop (2 * i) l)
+    go (yes q) = rw (eq-eqb (length l % 2) 0 q) (sym (ranges_end l (2 * i) (omega arith)))
+    go (no q) = rw (ne_eqb (length l % 2) 0 q) (sym (ranges_odd l (2 * i) (omega arith)))
 
 -- By index
 
@@ -67,8 +76,8 @@ unfolding are_ranges ranges_of
 are_whole [] e = record { pairs = refl; ordered = λ i h. absurd (omega arith) }
 are_whole (p ∷ []) e = absurd (false≢true e)
 are_whole (p ∷ q ∷ l) e =
-    let rest = are_whole l (and_right (leb p q) (are_ranges l) e) in
-    let first = leb-true p q (and_left (leb p q) (are_ranges l) e) in
+    let rest = are_whole l ((and_parts (leb p q) (are_ranges l) e).1) in
+    let first = leb-true p q ((and_parts (leb p q) (are_ranges l) e).0) in
     record { pairs = omega (arith, rest.pairs); ordered = λ i h. at i h first rest }
   where
     at : (i : ℕ) → i < suc (length (ranges_of l)) → p ≤ q → WholeRanges l → (range_at (p ∷ q ∷ l) i).p ≤ (range_at (p ∷ q ∷ l) i).q
@@ -80,7 +89,7 @@ unfolding are_ranges ranges_of
 whole_are [] a = refl
 whole_are (p ∷ []) a = absurd (omega (arith, a.pairs))
 whole_are (p ∷ q ∷ l) a =
-    and_intro (le-leb p q (a.ordered 0 (omega arith)))
+    and_from _ _ (le-leb p q (a.ordered 0 (omega arith)))
     (whole_are l (record {
       pairs = omega (arith, a.pairs);
       ordered = λ i h. subst (λ (z : Range). z.p ≤ z.q) (shifted p q l i) (a.ordered (suc i) (omega arith));

@@ -1,63 +1,36 @@
--- The walk for the single queries, quantity and lookup: what it knows between two records, and a turn of it.
+-- The walk for a quantity: its start, a record passed, and its end.
 -- Assumes nothing.
-use Prim.Native.Nat.{ℕ, ◌+◌, ◌-◌, ◌≤◌, ◌<◌}
+use Prim.Native.Nat.{ℕ, ◌+◌, ◌≤◌}
 use native.Mathlib.Omega.{arith}
-use mathlib.Core.Path.{◌≡◌, refl}
-use mathlib.Core.Logic.{◌⊎◌, inl, inr}
+use mathlib.Core.Path.{◌≡◌, refl, sym, ◌∙◌}
 use mathlib.Core.List.{List}
-use Rattle.base.specs.Answer.{accepted}
-use Rattle.number.specs.Number.{Reading}
-use Rattle.number.specs.Form.{Bytes}
-use Rattle.runs.specs.RunList.{last_station}
-use Rattle.schedule.specs.Schedule.{ReadRun}
-use Rattle.queries.specs.Walk.{head_at, record_at, overlap_at}
-use Rattle.queries.proofs.StepLaws.{record_follows}
-use Rattle.queries.proofs.OverlapLaws.{overlap_most, Summed, summed_start, summed_turn}
-use Rattle.queries.proofs.PlaceLaws.{Sought, place_start, passed_by, passed_here}
+use lib.ListN.{length}
+use Rattle.queries.specs.Quantity.{Ranged, quantity}
+use Rattle.base.specs.Answer.{accepted, refused}
+use Rattle.queries.specs.Walk.{head_at, overlap_at, overlap_sum, run_count, Between, at_first, after, Next}
+use Rattle.queries.specs.Visits.{Summing}
+use Rattle.number.specs.declared.Reading.{Reading}
+use Rattle.queries.specs.declared.walk.Record.{Record}
+use Rattle.queries.proofs.StepLaws.{count_refused, next_follows}
+use Rattle.queries.proofs.OverlapLaws.{overlap_most, summed_start, summed_turn, summed_over}
+use Rattle.queries.proofs.QuantityLaws.{quantity_sum}
 
--- For each query, what was found so far and what the rest of the walk finds; the sum, and where the run found ends, are at most the last run's end.
-pub record Walking (s : List ℕ) (level p q station left at end last sum from to reached : ℕ) : Type 0 where
-  pub summed : Summed s level p q sum left end last at
-  pub fits : sum ≤ end
-  pub sought : Sought s station from to reached left end last at
-  pub near : reached ≤ end
-  pub ends : end ≤ last_station
+pub summing_start : (s : List ℕ) (v p q : ℕ) (h : Reading) → head_at s ≡ accepted h → Summing s v p q (at_first h) 0
+summing_start s v p q h e = record { summed = summed_start s v p q 0 h refl e; fits = omega arith }
 
-pub walking_start : (s : List ℕ) (level p q station : ℕ) (n : Reading) → Bytes s → head_at s ≡ accepted n
-    → Walking s level p q station n.value n.next 0 0 0 0 0 0
-walking_start s level p q station n b h =
-    record { summed = summed_start s level p q 0 n refl h; fits = omega arith; sought = place_start s station n b h; near = omega arith; ends = omega arith }
+module _ (s : List ℕ) (v p q : ℕ) (b : Between) (at : ℕ) (r : Record) (n : Next s b at r) (sum : ℕ) (w : Summing s v p q b sum) where
+  -- The sum grows by the run's overlap, and has room.
+  pub summing_most : sum + overlap_at r.run v p q ≤ r.run.end
+  summing_most = omega (arith, overlap_most b.end b.level r.run (next_follows s b at r n) v p q, w.fits)
 
-module _ (s : List ℕ) (level p q station left at end last sum from to reached : ℕ) (w : Walking s level p q station left at end last sum from to reached)
-    (b : Bytes s) (r : ReadRun) (some : 0 < left) (read : record_at end last s at ≡ accepted r) where
-  abbrev After : (sum' from' to' reached' : ℕ) → Type 0
-  After sum' from' to' reached' = Walking s level p q station (left - 1) r.next r.run.end r.run.level sum' from' to' reached'
+  pub summing_turn : (sum' : ℕ) → sum' ≡ sum + overlap_at r.run v p q → Summing s v p q (after b r) sum'
+  summing_turn sum' m = record { summed = summed_turn s v p q sum sum' (record { run = r.run; next = r.next }) w.summed n.some n.reads m; fits = omega (arith, m, summing_most) }
 
-  -- The sum grows by the run's overlap, wherever the place is.
-  grows : (sum' from' to' reached' : ℕ) → sum' ≡ sum + overlap_at r.run level p q
-      → Sought s station from' to' reached' (left - 1) r.run.end r.run.level r.next → reached' ≤ r.run.end
-      → After sum' from' to' reached'
-  grows sum' from' to' reached' added sought near =
-      let next = record_follows end last s at r read in
-      record {
-        summed = summed_turn s level p q sum sum' r w.summed some read added;
-        fits = omega (arith, overlap_most end last r.run next level p q, added, w.fits);
-        sought = sought;
-        near = near;
-        ends = next.ends;
-      }
+-- What the call gives.
+module _ (s : List ℕ) (v p q : ℕ) (a : Ranged v p q) where
+  pub quantity_refused : (x y : ℕ) → refused x y ≡ run_count s → refused x y ≡ quantity s v p q
+  unfolding overlap_sum
+  quantity_refused x y e = sym (quantity_sum s v p q a ∙ rw (count_refused s x y e) refl)
 
-  -- The place is this record's where its run starts at the station or before it, else what it was.
-  abbrev pub Chosen : (from' to' reached' : ℕ) → Type 0
-  Chosen from' to' reached' =
-      ((r.run.start ≤ station) × (from' ≡ at) × (to' ≡ r.next) × (reached' ≡ r.run.end))
-      ⊎ ((station < r.run.start) × (from' ≡ from) × (to' ≡ to) × (reached' ≡ reached))
-
-  pub walking_turn : (sum' from' to' reached' : ℕ) → sum' ≡ sum + overlap_at r.run level p q → Chosen from' to' reached' → After sum' from' to' reached'
-  walking_turn sum' from' to' reached' added (inl c) =
-      rw (c.1, c.2, c.3) (grows sum' at r.next r.run.end added
-      (passed_here s station from to reached left end last at r b some read w.sought w.near c.0) (omega arith))
-  walking_turn sum' from' to' reached' added (inr c) =
-      let next = record_follows end last s at r read in
-      rw (c.1, c.2, c.3) (grows sum' from to reached added (passed_by s station from to reached left end last at r b some read w.sought c.0)
-      (omega (arith, w.near, next.after, next.long)))
+  pub quantity_given : (b : Between) (sum : ℕ) → Summing s v p q b sum → b.left ≡ 0 → b.at ≡ length s → accepted sum ≡ quantity s v p q
+  quantity_given b sum w none over = summed_over s v p q w.summed none over ∙ sym (quantity_sum s v p q a)

@@ -3,21 +3,19 @@
 use Prim.Native.Nat.{ℕ, ◌+◌, ◌≤◌, ◌<◌}
 use native.Mathlib.Omega.{arith}
 use native.Mathlib.Decide.{dec_lt}
+use Rattle.std.specs.Prelude.{Result, Ok, Err}
 use mathlib.Core.Path.{◌≡◌, refl, sym, ◌∙◌}
-use mathlib.Core.Logic.{inl, inr}
 use mathlib.Core.Bool.{Bool, true, false}
-use mathlib.Core.List.{List, [], ◌∷◌, ◌++◌}
+use mathlib.Core.List.{List, ◌∷◌, ◌++◌}
 use lib.ListN.{length, get_or, drop}
 use lib.Seq.{drop-cons}
-use denote.Enum.Declared.{tag_of}
-use types.Run.{OneOf}
 use Rattle.base.specs.Answer.{Answer, accepted, refused, ◌>>=◌}
 use Rattle.refusal.specs.Refusal.{unless_refuse}
 use Rattle.refusal.specs.declared.Refusal.TheVariants as Row
-use Rattle.number.specs.Number.{Reading, reading_of, number_at, read_number, write_number}
-use Rattle.number.specs.declared.Read.{Read}
-use Rattle.number.specs.declared.Read.TheVariants.{Number, Ended, Malformed}
-use Rattle.number.specs.contracts.Read
+use Rattle.number.specs.Number.{number, number_at, read_number, write_number}
+use Rattle.number.specs.declared.Reading.{Reading}
+use Rattle.refusal.specs.Refusal.{answer_of}
+use Rattle.refusal.specs.declared.Refusal.{Refusal}
 use Rattle.number.specs.Form.{Bytes}
 use Rattle.number.proofs.WriteLaws.{write_one}
 use Rattle.number.proofs.ReadLaws.{read_stands}
@@ -28,27 +26,27 @@ use Rattle.schedule.specs.Schedule.{or_ten, ReadRun, read_record}
 use Rattle.schedule.proofs.ScheduleLaws.{run_after, may_follow_lem}
 use Rattle.queries.specs.Walk.{record_at, following_run, run_with_level_at}
 
--- Where a `let` finds no number, by the tag that it tests.
-pub no_number : {B : Type 0} (at : ℕ) (f : Reading → Answer B) (r : Read) → OneOf (1 ∷ 2 ∷ []) (tag_of Read.the_type r)
-    → or_ten (reading_of at r >>= f) ≡ refused 10 0
-no_number at f (Number v n) (inl e) = absurd (omega arith)
-no_number at f (Number v n) (inr e) = absurd (omega arith)
-no_number at f Ended k = refl
-no_number at f Malformed k = refl
+-- What a `let` finds that is no number.
+abbrev pub NoNumber : Result Reading Refusal → Type 0
+NoNumber r = (a : Reading) → r ≡ Ok a → ⊥
+
+pub no_number : {B : Type 0} (at : ℕ) (f : Reading → Answer B) (r : Result Reading Refusal) → NoNumber r → or_ten (answer_of r >>= f) ≡ refused 10 0
+no_number at f (Ok a) k = absurd (k a refl)
+no_number at f (Err x) k = refl
 
 -- The first two numbers
 
 module _ (e v : ℕ) (s : List ℕ) (at : ℕ) where
-  pub no_gap : (r : Read) → read_number s at ≡ r → OneOf (1 ∷ 2 ∷ []) (tag_of Read.the_type r) → record_at e v s at ≡ refused 10 0
+  pub no_gap : (r : Result Reading Refusal) → read_number s at ≡ r → NoNumber r → record_at e v s at ≡ refused 10 0
   unfolding read_record number_at
   no_gap r q k = rw q (no_number at _ r k)
 
-  module _ (gap i : ℕ) (first : read_number s at ≡ Number gap i) where
-    pub no_length : (r : Read) → read_number s i ≡ r → OneOf (1 ∷ 2 ∷ []) (tag_of Read.the_type r) → record_at e v s at ≡ refused 10 0
+  module _ (gap i : ℕ) (first : read_number s at ≡ number gap i) where
+    pub no_length : (r : Result Reading Refusal) → read_number s i ≡ r → NoNumber r → record_at e v s at ≡ refused 10 0
     unfolding read_record number_at
     no_length r q k = rw (first, q) (no_number i _ r k)
 
-    pub two_numbers : (len j : ℕ) → read_number s i ≡ Number len j → record_at e v s at ≡ run_with_level_at e v gap len s j
+    pub two_numbers : (len j : ℕ) → read_number s i ≡ number len j → record_at e v s at ≡ run_with_level_at e v gap len s j
     unfolding read_record run_with_level_at following_run number_at
     two_numbers len j second = rw (first, second)
 
@@ -97,14 +95,13 @@ module _ (e v gap len : ℕ) (s : List ℕ) (at : ℕ) where
       go (yes h) = rw (read_one s at there h) (or_ten_run (get_or s at 0) (at + 1))
       go (no h) = turn (read_number s at) refl ∙ sym (no_level (get_or s at 0) (at + 1) (omega arith))
         where
-          above : (x n : ℕ) → read_number s at ≡ Number x n → Dec (x < 128) → 128 ≤ x
+          above : (x n : ℕ) → read_number s at ≡ number x n → Dec (x < 128) → 128 ≤ x
           above x n e (yes l) =
               let one : write_number x ++ drop n s ≡ x ∷ drop n s = rw (write_one x l) in
               let two = sym (drop-cons s at 0 there) ∙ (read_stands s at x n b e).split ∙ one in
               let same : get_or s at 0 ≡ x = cc in absurd (omega arith)
           above x n e (no l) = omega arith
 
-          turn : (r : Read) → read_number s at ≡ r → or_ten (reading_of at r >>= λ lev. following_run e v gap len lev.value lev.next) ≡ refused 10 0
-          turn (Number x n) e = rw (no_level x n (omega (arith, above x n e (dec_lt x 128))))
-          turn Ended e = refl
-          turn Malformed e = refl
+          turn : (r : Result Reading Refusal) → read_number s at ≡ r → or_ten (answer_of r >>= λ lev. following_run e v gap len lev.value lev.next) ≡ refused 10 0
+          turn (Ok a) e = rw (no_level a.value a.next (omega (arith, above a.value a.next e (dec_lt a.value 128))))
+          turn (Err x) e = refl

@@ -5,5 +5,5 @@ pub mod Lookup
 pub mod Place
 -- Steps of the code, proved equal to them.
 pub mod Walk
-pub mod Query
+pub mod Visits
 pub mod Sums

@@ -3,13 +3,12 @@
 use Rattle.std.specs.Prelude.{ℕ, ◌+◌, ◌≡◌, length, drop, take, leb, eqb, if◌then◌else◌}
 use mathlib.Core.List.{List, [], ◌∷◌, ◌++◌, Memᴰ}
 use Rattle.base.specs.Answer.{Answer, accepted, refused, ◌>>=◌}
-use Rattle.refusal.specs.Refusal.{unless_refuse, refusal}
+use Rattle.refusal.specs.Refusal.{unless_refuse}
 use Rattle.refusal.specs.declared.Refusal.TheVariants as Row
 use Rattle.number.specs.Number.{write_number}
 use Rattle.runs.specs.declared.Stretch.{Stretch}
 use Rattle.runs.specs.Level.{Has, has}
 use Rattle.runs.specs.RunList.{shown_level, last_end}
-use Rattle.queries.specs.declared.reply.Lookup.{Lookup}
 use Rattle.schedule.specs.Schedule.{write_record, write_records, read_schedule}
 
 -- A part of the bytes: its first index and its length.
@@ -57,11 +56,6 @@ unfoldable pub outcome_of : Answer Found → Answer Companion
 outcome_of (accepted (found p)) = accepted some_run
 outcome_of (accepted nowhere) = accepted no_run
 outcome_of (refused k v) = refused k v
-
-abbrev pub lookup_reply : Lookup → Answer Companion
-lookup_reply Lookup.Found = accepted some_run
-lookup_reply Lookup.Nothing = accepted no_run
-lookup_reply (Lookup.Refused r) = refusal r
 
 -- The bytes that a part has.
 abbrev pub part_bytes : Part → List ℕ → List ℕ

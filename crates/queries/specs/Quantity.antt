@@ -2,11 +2,10 @@
 -- Assumes nothing.
 use Rattle.std.specs.Prelude.{ℕ, ◌-◌, ◌≤◌, ◌&&◌, List, leb, eqb}
 use Rattle.base.specs.Answer.{Answer, accepted, ◌>>=◌}
-use Rattle.refusal.specs.Refusal.{unless_refuse, refusal}
+use Rattle.refusal.specs.Refusal.{unless_refuse}
 use Rattle.refusal.specs.declared.Refusal.TheVariants as Row
 use Rattle.runs.specs.RunList.{shown_level}
 use Rattle.runs.specs.Count.{count_from}
-use Rattle.queries.specs.declared.reply.Quantity.{Quantity}
 use Rattle.schedule.specs.Schedule.{read_schedule}
 
 -- "How many millimetres of [p, q) have exactly that level."
@@ -23,7 +22,3 @@ quantity s level p q =
     unless_refuse (leb 1 level && leb level 6 && leb p q) Row.Argument >>= λ _.
     read_schedule s >>= λ rs.
     accepted (millimetres (shown_level rs) level p q)
-
-abbrev pub quantity_reply : Quantity → Answer ℕ
-quantity_reply (Quantity.Millimetres n) = accepted n
-quantity_reply (Quantity.Refused r) = refusal r

@@ -2,7 +2,7 @@
 -- Assumes nothing.
 use Rattle.std.specs.Prelude.{ℕ, ◌+◌, ◌*◌, ◌≤◌, ◌<◌, ◌≡◌, Bool, true, false, ◌&&◌, List, [], ◌∷◌, map, length, get_or, leb}
 use Rattle.base.specs.Answer.{Answer, accepted, refused, ◌>>=◌}
-use Rattle.refusal.specs.Refusal.{unless_refuse, outcome}
+use Rattle.refusal.specs.Refusal.{unless_refuse}
 use Rattle.refusal.specs.declared.Refusal.TheVariants as Row
 use Rattle.base.specs.Stored.{padded}
 use Rattle.runs.specs.RunList.{shown_level}
@@ -71,5 +71,6 @@ unfoldable pub quantities_replied : Answer Counted → QuantitiesReplied
 quantities_replied (accepted c) = record { answer = accepted tt; records = c.records; places = quantity_places c.quantities }
 quantities_replied (refused number value) = record { answer = refused number value; records = 0; places = quantity_places [] }
 
-abbrev pub quantities_reply : Quantities → QuantitiesReplied
-quantities_reply r = record { answer = outcome r.outcome tt; records = r.records; places = r.quantities }
+-- The same as the code's struct.
+abbrev pub replies : Answer Counted → Answer Quantities
+replies a = a >>= λ c. accepted (record { records = c.records; quantities = quantity_places c.quantities })

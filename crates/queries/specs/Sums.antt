@@ -2,15 +2,10 @@
 -- behind the last, how many there are. What the walk keeps, what it comes to, and the quantities that the lists give.
 -- Assumes nothing.
 use Rattle.std.specs.Prelude.{ℕ, zero, suc, ◌+◌, ◌-◌, ◌*◌, ◌/◌, ◌≤◌, ◌<◌, min, ◌≡◌, List, length, get_or}
-use Rattle.base.specs.Answer.{Answer, accepted, ◌>>=◌}
 use Rattle.runs.specs.declared.Stretch.{Stretch}
-use Rattle.runs.specs.RunList.{most_runs, last_station}
-use Rattle.schedule.specs.Schedule.{read_schedule}
-use Rattle.queries.specs.Walk.{overlap_at, overlap_sum}
+use Rattle.runs.specs.RunList.{most_runs}
+use Rattle.queries.specs.Walk.{overlap_at}
 use Rattle.queries.specs.Ranges.{most_ranges}
-use Rattle.queries.specs.declared.quantities.Tally.{Tally}
-use Rattle.refusal.specs.Refusal.{refusal}
-use Rattle.refusal.specs.declared.Refusal.TheVariants as Row
 
 -- How many millimetres the run at i has.
 abbrev pub own : (sums : List ℕ) (i : ℕ) → ℕ
@@ -48,21 +43,6 @@ pub record Halved (starts : List ℕ) (n t low high : ℕ) : Type 0 where
   pub within : high ≤ n
   pub sooner : (i : ℕ) → i < low → get_or starts i 0 < t
   pub later : (i : ℕ) → high ≤ i → i < n → t ≤ get_or starts i 0
-
--- How many runs a schedule has.
-unfoldable pub run_count : List ℕ → Answer ℕ
-run_count s = read_schedule s >>= λ rs. accepted (length rs)
-
--- What stands where a walk has come to its end: by the records read, and the runs noted.
-abbrev pub tally_reply : {A : Type 0} → (ℕ → ℕ → A) → Tally → Answer A
-tally_reply f (Tally.Over records noted) = accepted (f records noted)
-tally_reply f Tally.Bad = refusal Row.Schedule
-
--- What a walk comes to.
-pub record Tallied (s : List ℕ) (level : ℕ) (starts sums : List ℕ) (r : Tally) : Type 0 where
-  pub count : tally_reply (λ records n. records) r ≡ run_count s
-  pub runs : (t : ℕ) → tally_reply (λ records n. below starts sums n t) r ≡ overlap_sum s level 0 t
-  pub noted : (records n : ℕ) → r ≡ Tally.Over records n → Noted starts sums n last_station
 
 -- Each range has the millimetres below its q that do not lie below its p; the places behind the ranges are 0.
 pub record Differences (starts sums : List ℕ) (n : ℕ) (numbers r : List ℕ) : Type 0 where

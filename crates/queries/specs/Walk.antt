@@ -1,12 +1,14 @@
 -- The steps of the code that walks a schedule's records: what each part of it answers, and the sums that a walk makes.
 -- Assumes nothing.
-use Rattle.std.specs.Prelude.{ℕ, ◌+◌, ◌-◌, min, max, List, [], ◌∷◌, eqb, if◌then◌else◌}
+use Rattle.std.specs.Prelude.{ℕ, ◌+◌, ◌-◌, ◌≤◌, ◌<◌, min, max, ◌≡◌, List, [], ◌∷◌, length, eqb, if◌then◌else◌}
 use Rattle.base.specs.Answer.{Answer, accepted, ◌>>=◌}
-use Rattle.refusal.specs.Refusal.{unless_refuse, refusal}
+use Rattle.refusal.specs.Refusal.{unless_refuse}
 use Rattle.refusal.specs.declared.Refusal.TheVariants as Row
-use Rattle.number.specs.Number.{Reading, number_at}
+use Rattle.number.specs.Number.{number_at}
+use Rattle.number.specs.declared.Reading.{Reading}
+use Rattle.number.specs.Form.{Bytes}
 use Rattle.runs.specs.declared.Stretch.{Stretch}
-use Rattle.runs.specs.RunList.{may_follow}
+use Rattle.runs.specs.RunList.{last_station, may_follow}
 use Rattle.schedule.specs.Schedule.{or_ten, read_head, ReadRun, read_record, read_schedule}
 use Rattle.queries.specs.declared.walk.Head.{Head}
 use Rattle.queries.specs.declared.walk.Record.{Record}
@@ -16,16 +18,8 @@ use Rattle.queries.specs.declared.walk.Record.{Record}
 abbrev pub head_at : List ℕ → Answer Reading
 head_at s = or_ten (read_head s)
 
-abbrev pub head_reply : Head → Answer Reading
-head_reply (Head.Count count next) = accepted (record { value = count; next = next })
-head_reply Head.Bad = refusal Row.Schedule
-
 abbrev pub record_at : (e v : ℕ) → List ℕ → (at : ℕ) → Answer ReadRun
 record_at e v s at = or_ten (read_record e v s at)
-
-abbrev pub record_reply : Record → Answer ReadRun
-record_reply (Record.Next run next) = accepted (record { run = run; next = next })
-record_reply Record.Bad = refusal Row.Schedule
 
 -- A record's run from its three numbers; and from two of them, where the level is still to be read.
 unfoldable pub following_run : (e v gap len lev next : ℕ) → Answer ReadRun
@@ -35,6 +29,49 @@ following_run e v gap len lev next =
 
 unfoldable pub run_with_level_at : (e v gap len : ℕ) → List ℕ → (at : ℕ) → Answer ReadRun
 run_with_level_at e v gap len s at = or_ten (number_at s at >>= λ lev. following_run e v gap len lev.value lev.next)
+
+-- The same as the code's structs.
+
+abbrev pub as_head : Answer Reading → Answer Head
+as_head a = a >>= λ n. accepted (record { next = n.next; count = n.value })
+
+abbrev pub as_record : Answer ReadRun → Answer Record
+as_record a = a >>= λ p. accepted (record { next = p.next; run = p.run })
+
+-- The walk
+
+-- How many runs a schedule has.
+unfoldable pub run_count : List ℕ → Answer ℕ
+run_count s = read_schedule s >>= λ rs. accepted (length rs)
+
+-- Between two records: how many are left, the end and the level of the run before (0 for the first), and the index of the next.
+pub record Between : Type 0 where
+  pub left : ℕ
+  pub end : ℕ
+  pub level : ℕ
+  pub at : ℕ
+
+-- Before the first record, and after one.
+abbrev pub at_first : Reading → Between
+at_first n = record { left = n.value; end = 0; level = 0; at = n.next }
+
+abbrev pub after : Between → Record → Between
+after b r = record { left = b.left - 1; end = r.run.end; level = r.run.level; at = r.next }
+
+-- The next record of the bytes s is r, at an index.
+pub record Next (s : List ℕ) (b : Between) (at : ℕ) (r : Record) : Type 0 where
+  pub bytes : Bytes s
+  pub some : 0 < b.left
+  pub here : b.at ≡ at
+  pub reads : record_at b.end b.level s b.at ≡ accepted (record { run = r.run; next = r.next })
+
+-- A walk came to the end of the schedule s, and this is known there.
+pub record Walked (s : List ℕ) (Knows : Between → Type 0) : Type 0 where
+  pub last : Between
+  pub none : last.left ≡ 0
+  pub over : last.at ≡ length s
+  pub ends : last.end ≤ last_station
+  pub known : Knows last
 
 -- Sums
 

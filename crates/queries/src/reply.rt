@@ -1,38 +1,17 @@
 // The queries' replies.
-use refusal::{Outcome, Refusal};
-
-#[derive(Clone, Copy)]
-pub enum Quantity {
-    Millimetres(u64),
-    Refused(Refusal),
-}
 
 // The quantities of up to 64 ranges.
 #[derive(Clone, Copy)]
 pub struct Quantities {
-    pub outcome: Outcome,
-    // The records read; 0 after a refusal.
+    // The records read.
     pub records: u64,
-    // One for each range, in the ranges' order; 0 behind them, and after a refusal.
+    // Millimetres, one for each range, in the ranges' order; 0 after them.
     pub quantities: [u64; 64],
 }
 
-// What lookup's companion says.
+// Where a record is in a schedule: the index of its first byte, and the index after its last.
 #[derive(Clone, Copy)]
-pub enum Lookup {
-    // A run has the station, and lookup returns its record.
-    Found,
-    // No run has the station.
-    Nothing,
-    Refused(Refusal),
-}
-
-// Where lookup's record is, in the schedule of the side asked for.
-#[derive(Clone, Copy)]
-pub enum Located {
-    // From the first index to before the second.
-    Found { start: usize, end: usize },
-    // No run has the station.
-    Nothing,
-    Refused(Refusal),
+pub struct Place {
+    pub start: usize,
+    pub end: usize,
 }

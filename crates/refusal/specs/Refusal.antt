@@ -1,11 +1,9 @@
 -- Document 01's table of refusals, and document 02's: the number of each row, and what it returns. "Number 6 no longer occurs anywhere."
 -- Assumes nothing.
-use Rattle.std.specs.Prelude.{ℕ, Bool, true, false}
+use Rattle.std.specs.Prelude.{ℕ, Bool, true, false, Result, Ok, Err}
 use Rattle.refusal.specs.declared.Refusal.{Refusal}
 use Rattle.refusal.specs.declared.Refusal.TheVariants.{Ended, Malformed, HeaderRange, HazardRange, NearBarrier, LeftOver, Argument, Room, Schedule}
 use Rattle.refusal.specs.declared.Refusal.TheVariants.{Ranges, Name, State, Hazard, Full, Lengths, Tries}
-use Rattle.refusal.specs.declared.Outcome.{Outcome}
-use Rattle.refusal.specs.declared.Outcome.TheVariants.{Done, Refused}
 use Rattle.base.specs.Answer.{Answer, accepted, refused}
 
 abbrev pub row : Refusal → ℕ × ℕ
@@ -41,7 +39,7 @@ abbrev pub unless_refuse : Bool → Refusal → Answer (Unit {0})
 unless_refuse true r = accepted tt
 unless_refuse false r = refusal r
 
--- A value beside an outcome: it says nothing where the outcome is a refusal.
-abbrev pub outcome : {A : Type 0} → Outcome → A → Answer A
-outcome Done a = accepted a
-outcome (Refused r) a = refusal r
+-- What a function returned, as an answer.
+abbrev pub answer_of : {A : Type 0} → Result A Refusal → Answer A
+answer_of (Ok a) = accepted a
+answer_of (Err r) = refusal r

@@ -40,57 +40,52 @@ pub enum Refusal {
     Tries,
 }
 
-// The row's number in the table.
-pub fn refusal_number(refusal: Refusal) -> u64
-    ensures { result ≡ number_of refusal }
-{
-    match refusal {
-        Refusal::Ended(_) => 1,
-        Refusal::Malformed(_) => 2,
-        Refusal::HeaderRange(_) => 3,
-        Refusal::HazardRange(_) => 4,
-        Refusal::NearBarrier(_) => 5,
-        Refusal::LeftOver(_) => 7,
-        Refusal::Argument => 8,
-        Refusal::Room(_) => 9,
-        Refusal::Schedule => 10,
-        Refusal::Ranges => 11,
-        Refusal::Name(_) => 12,
-        Refusal::State => 13,
-        Refusal::Hazard => 14,
-        Refusal::Full => 15,
-        Refusal::Lengths => 16,
-        Refusal::Tries => 17,
+impl Refusal {
+    // The row's number in the table.
+    pub fn number(self) -> u64
+        ensures { result ≡ number_of self }
+    {
+        match self {
+            Refusal::Ended(_) => 1,
+            Refusal::Malformed(_) => 2,
+            Refusal::HeaderRange(_) => 3,
+            Refusal::HazardRange(_) => 4,
+            Refusal::NearBarrier(_) => 5,
+            Refusal::LeftOver(_) => 7,
+            Refusal::Argument => 8,
+            Refusal::Room(_) => 9,
+            Refusal::Schedule => 10,
+            Refusal::Ranges => 11,
+            Refusal::Name(_) => 12,
+            Refusal::State => 13,
+            Refusal::Hazard => 14,
+            Refusal::Full => 15,
+            Refusal::Lengths => 16,
+            Refusal::Tries => 17,
+        }
     }
-}
 
-// What the row returns.
-pub fn refusal_value(refusal: Refusal) -> u64
-    ensures { result ≡ value_of refusal }
-{
-    match refusal {
-        Refusal::Ended(at) => at as u64,
-        Refusal::Malformed(at) => at as u64,
-        Refusal::HeaderRange(number) => number as u64,
-        Refusal::HazardRange(index) => index as u64,
-        Refusal::NearBarrier(index) => index as u64,
-        Refusal::LeftOver(at) => at as u64,
-        Refusal::Argument => 0,
-        Refusal::Room(needed) => needed as u64,
-        Refusal::Schedule => 0,
-        Refusal::Ranges => 0,
-        Refusal::Name(name) => name as u64,
-        Refusal::State => 0,
-        Refusal::Hazard => 0,
-        Refusal::Full => 0,
-        Refusal::Lengths => 0,
-        Refusal::Tries => 0,
+    // What the row returns.
+    pub fn value(self) -> u64
+        ensures { result ≡ value_of self }
+    {
+        match self {
+            Refusal::Ended(at) => at as u64,
+            Refusal::Malformed(at) => at as u64,
+            Refusal::HeaderRange(number) => number as u64,
+            Refusal::HazardRange(index) => index as u64,
+            Refusal::NearBarrier(index) => index as u64,
+            Refusal::LeftOver(at) => at as u64,
+            Refusal::Argument => 0,
+            Refusal::Room(needed) => needed as u64,
+            Refusal::Schedule => 0,
+            Refusal::Ranges => 0,
+            Refusal::Name(name) => name as u64,
+            Refusal::State => 0,
+            Refusal::Hazard => 0,
+            Refusal::Full => 0,
+            Refusal::Lengths => 0,
+            Refusal::Tries => 0,
+        }
     }
-}
-
-// How a step ended whose value stands beside it: an enum holds no array.
-#[derive(Clone, Copy)]
-pub enum Outcome {
-    Done,
-    Refused(Refusal),
 }

@@ -1,3 +1,1 @@
-pub mod EndedLaws
-pub mod OpenLaws
-pub mod ShellLaws
+pub mod ToldLaws

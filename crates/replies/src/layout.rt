@@ -1,25 +1,49 @@
-// The call layout, and what C is told.
+// What C is told of the call layout.
 ghost use Rattle.std.specs.Prelude.{◌≡◌};
-ghost use Rattle.panels.specs.Panels.{panels_for};
-ghost use Rattle.replies.specs.Interface.{layout_of};
+ghost use Rattle.refusal.specs.Refusal.{answer_of};
+ghost use Rattle.replies.specs.Interface.{layout_told};
 
-use super::{LayoutReply, ended};
+use super::LayoutReply;
+use panels::reply::Layout;
+use refusal::Refusal;
 
-// Panels for one run: the smallest overrun among the layouts tried, its first layout, the tries made, and the floor.
-pub fn layout(lengths: &[u64], run: u64, limit: u64) -> LayoutReply
-    ensures { result ≡ layout_of (panels_for lengths.now run limit) }
-{
-    let reply = panels::layout::layout(lengths, run, limit);
-    let outcome = reply.outcome;
-    let how = ended(outcome);
-    let counts = reply.counts;
-    LayoutReply {
-        number: how.number,
-        value: how.value,
-        found: reply.found as u64,
-        overrun: reply.overrun,
-        counts,
-        tries: reply.tries,
-        floor: reply.floor,
+impl From<Result<Layout, Refusal>> for LayoutReply {
+    ghost from_gives = { λ tried reply. reply ≡ layout_told (answer_of tried) };
+
+    fn from(tried: Result<Layout, Refusal>) -> LayoutReply {
+        match tried {
+            Ok(layout) => match layout.best {
+                Some(best) => {
+                    let counts = best.counts;
+                    LayoutReply {
+                        number: 0,
+                        value: 0,
+                        found: 1,
+                        overrun: best.overrun,
+                        counts,
+                        tries: layout.tries,
+                        floor: layout.floor,
+                    }
+                }
+                None => LayoutReply {
+                    number: 0,
+                    value: 0,
+                    found: 0,
+                    overrun: 0,
+                    counts: [0; 4],
+                    tries: layout.tries,
+                    floor: layout.floor,
+                },
+            },
+            Err(refusal) => LayoutReply {
+                number: refusal.number(),
+                value: refusal.value(),
+                found: 0,
+                overrun: 0,
+                counts: [0; 4],
+                tries: 0,
+                floor: 0,
+            },
+        }
     }
 }

@@ -1,21 +1,19 @@
-// What C is told: each answer as a plain struct.
+// What C is told: a plain struct for each answer of the calls, made from it by `From`.
 #![tactic(auto)]
 
 ghost use Rattle.std.specs.Prelude.{◌≡◌};
-ghost use Rattle.refusal.specs.Refusal.{number_of, value_of, outcome};
-ghost use Rattle.schedule.specs.Plan.{plan_reply};
-ghost use Rattle.withdrawal.specs.Reach.{reach_reply};
-ghost use Rattle.replies.specs.Interface.{reply, reply_of, plan_reply_of, reach_reply_of};
+ghost use Rattle.base.specs.Answer.{replied};
+ghost use Rattle.refusal.specs.Refusal.{number_of, value_of, answer_of};
+ghost use Rattle.clear_offset.specs.Offset.{offset_reply};
+ghost use Rattle.replies.specs.Interface.{reply, reply_of, plan_reply_of, corners_told, smallest_of, reach_reply_of};
 
 use corners::reply::Corner;
-use refusal::{Outcome, Refusal};
-use schedule::reply::Plan;
-use withdrawal::reply::Reached;
+use refusal::Refusal;
+use schedule::reply::Written;
+use withdrawal::reply::Reach;
 
-pub mod calls; // the calls on job and schedule bytes
-pub mod hazard; // the calls smallest offset and reach
-pub mod layout; // the call layout
-pub mod open; // the calls on the parts of an open job
+mod layout; // the call layout
+mod records; // the calls on a schedule's bytes
 
 // Number 0: done, with the bytes written and the greatest overhangs before A and behind B; else the refusal, and 0 for both.
 #[repr(C)]
@@ -109,74 +107,144 @@ fn refused(refusal: Refusal) -> Reply
     ensures { result ≡ reply (number_of refusal) (value_of refusal) }
 {
     Reply {
-        number: refusal::refusal_number(refusal),
-        value: refusal::refusal_value(refusal),
+        number: refusal.number(),
+        value: refusal.value(),
     }
 }
 
-// A call that is done and whose reply has no value there: number 0 and value 0; else the refusal.
-fn ended(how: Outcome) -> Reply
-    ensures { result ≡ reply_of (outcome how 0) }
-{
-    match how {
-        Outcome::Done => Reply {
-            number: 0,
-            value: 0,
-        },
-        Outcome::Refused(refusal) => refused(refusal),
-    }
-}
+impl From<Result<Written, Refusal>> for PlanReply {
+    ghost from_gives = { λ planned reply. reply ≡ plan_reply_of (answer_of planned) };
 
-fn plan_reply(reply: Plan) -> PlanReply
-    ensures { result ≡ plan_reply_of (plan_reply reply) }
-{
-    match reply {
-        Plan::Done(written) => {
-            let overhangs = written.overhangs;
-            PlanReply {
+    #[tactic(auto, unfolding(crate::specs::Interface::plan_reply_of))]
+    fn from(planned: Result<Written, Refusal>) -> PlanReply {
+        match planned {
+            Ok(written) => PlanReply {
                 number: 0,
                 value: written.bytes as u64,
-                before: overhangs.before,
-                after: overhangs.after,
-            }
+                before: written.overhangs.before,
+                after: written.overhangs.after,
+            },
+            Err(refusal) => PlanReply {
+                number: refusal.number(),
+                value: refusal.value(),
+                before: 0,
+                after: 0,
+            },
         }
-        Plan::Refused(refusal) => PlanReply {
-            number: refusal::refusal_number(refusal),
-            value: refusal::refusal_value(refusal),
-            before: 0,
-            after: 0,
-        },
     }
 }
 
-fn reach_reply(reply: Reached) -> ReachReply
-    ensures { result ≡ reach_reply_of (reach_reply reply) }
-{
-    match reply {
-        Reached::Hazard(reach) => {
-            let overhangs = reach.overhangs;
-            ReachReply {
+// Number 0 and value 0 where the call is done; else the refusal's number and what it returns.
+impl From<Result<(), Refusal>> for Reply {
+    ghost from_gives = { λ how r. r ≡ reply_of (replied (answer_of how)) };
+
+    #[tactic(auto, unfolding(crate::specs::Interface::reply_of))]
+    fn from(how: Result<(), Refusal>) -> Reply {
+        match how {
+            Ok(()) => Reply {
+                number: 0,
+                value: 0,
+            },
+            Err(refusal) => refused(refusal),
+        }
+    }
+}
+
+// A level as value.
+impl From<Result<u32, Refusal>> for Reply {
+    ghost from_gives = { λ required reply. reply ≡ reply_of (answer_of required) };
+
+    #[tactic(auto, unfolding(crate::specs::Interface::reply_of))]
+    fn from(required: Result<u32, Refusal>) -> Reply {
+        match required {
+            Ok(level) => Reply {
+                number: 0,
+                value: level as u64,
+            },
+            Err(refusal) => refused(refusal),
+        }
+    }
+}
+
+impl From<Result<corners::reply::Corners, Refusal>> for Corners {
+    ghost from_gives = { λ found reply. reply ≡ corners_told (answer_of found) };
+
+    fn from(found: Result<corners::reply::Corners, Refusal>) -> Corners {
+        match found {
+            Ok(corners) => Corners {
+                number: 0,
+                value: 0,
+                upstream: corners.upstream,
+                flare: corners.flare,
+                hazard: corners.hazard,
+            },
+            Err(refusal) => {
+                let none = corners::reply::Corners::none();
+                Corners {
+                    number: refusal.number(),
+                    value: refusal.value(),
+                    upstream: none.upstream,
+                    flare: none.flare,
+                    hazard: none.hazard,
+                }
+            }
+        }
+    }
+}
+
+impl From<Result<Option<u64>, Refusal>> for SmallestOffset {
+    ghost from_gives = { λ smallest reply. reply ≡ smallest_of (offset_reply smallest) };
+
+    #[tactic(auto, unfolding(crate::specs::Interface::smallest_of))]
+    fn from(smallest: Result<Option<u64>, Refusal>) -> SmallestOffset {
+        match smallest {
+            Ok(Some(millimetres)) => SmallestOffset {
+                number: 0,
+                value: millimetres,
+                found: 1,
+            },
+            Ok(None) => SmallestOffset {
+                number: 0,
+                value: 0,
+                found: 0,
+            },
+            Err(refusal) => SmallestOffset {
+                number: refusal.number(),
+                value: refusal.value(),
+                found: 0,
+            },
+        }
+    }
+}
+
+impl From<Result<Reach, Refusal>> for ReachReply {
+    ghost from_gives = { λ reached reply. reply ≡ reach_reply_of (answer_of reached) };
+
+    #[tactic(auto, unfolding(crate::specs::Interface::reach_reply_of))]
+    fn from(reached: Result<Reach, Refusal>) -> ReachReply {
+        match reached {
+            Ok(reach) => ReachReply {
                 number: 0,
                 value: 0,
                 side: reach.side,
                 start: reach.start,
                 end: reach.end,
-                before: overhangs.before,
-                after: overhangs.after,
+                before: reach.overhangs.before,
+                after: reach.overhangs.after,
                 from: reach.from,
                 to: reach.to,
-            }
+            },
+            Err(refusal) => ReachReply {
+                number: refusal.number(),
+                value: refusal.value(),
+                side: 0,
+                start: 0,
+                end: 0,
+                before: 0,
+                after: 0,
+                from: 0,
+                to: 0,
+            },
         }
-        Reached::Refused(refusal) => ReachReply {
-            number: refusal::refusal_number(refusal),
-            value: refusal::refusal_value(refusal),
-            side: 0,
-            start: 0,
-            end: 0,
-            before: 0,
-            after: 0,
-            from: 0,
-            to: 0,
-        },
     }
 }

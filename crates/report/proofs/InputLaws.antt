@@ -13,12 +13,13 @@ use lib.Seq.{take_all, length-take-le}
 use lib.Dec.{ltb, leb, eqb}
 use borrow.Author.Tests.{leb-true, lt-leb}
 use Rattle.base.specs.Answer.{accepted}
-use Rattle.refusal.specs.Refusal.{unless_refuse}
+use Rattle.refusal.specs.Refusal.{unless_refuse, answer_of}
 use Rattle.refusal.specs.declared.Refusal.{Refusal}
-use Rattle.base.proofs.TestLaws.{and_right}
+use Rattle.std.proofs.lemmas.Bool.{and_parts}
 use Rattle.base.proofs.AnswerLaws.{bound, bind_same}
 use Rattle.refusal.proofs.RefuseLaws.{passed}
-use Rattle.number.specs.Number.{Scan, whole, prefixed, scan, read_number, Reading, read_of, reading_of, number_at}
+use Rattle.number.specs.Number.{Scan, whole, prefixed, scan, read_number, read_of, number_at}
+use Rattle.number.specs.declared.Reading.{Reading}
 use Rattle.number.proofs.ReadLaws.{found, answered, read_bounds}
 use Rattle.number.proofs.WriteLaws.{small_length}
 use Rattle.job.specs.declared.Bounds.{Bounds}
@@ -49,11 +50,11 @@ scan_cut k (suc at) (suc n) (x ∷ xs) h = scan_cut k at n xs (omega arith)
 -- A number that was read takes at most six bytes, one below 128 one.
 number_near : (s : List ℕ) (at : ℕ) (x : Reading) → number_at s at ≡ accepted x → x.next ≤ at + 6
 unfolding number_at
-number_near s at x e = (read_bounds s at x.value x.next (answered at (read_number s at) x e)).near
+number_near s at x e = (read_bounds s at x.value x.next (answered (read_number s at) x e)).near
 
 small_near : (s : List ℕ) (at : ℕ) (x : Reading) → number_at s at ≡ accepted x → x.value < 128 → x.next ≡ at + 1
 unfolding number_at
-small_near s at x e small = omega (arith, (found s at x.value x.next (answered at (read_number s at) x e)).next, small_length x.value small)
+small_near s at x e small = omega (arith, (found s at x.value x.next (answered (read_number s at) x e)).next, small_length x.value small)
 
 fields_near : (range_of : List ℕ → Bounds) (outside : List ℕ → Refusal) (k : ℕ) (got s : List ℕ) (at : ℕ) (f : Fields)
     → read_fields range_of outside k got s at ≡ accepted f → f.next ≤ at + 6 * k
@@ -74,7 +75,7 @@ hazard_near h outside s at f e =
     let b = bound (number_at s at) _ f e in
     let x = b.first in
     let p = passed (within (next_in_hazard h []) x.value) (outside []) _ f b.rest in
-    let side : x.value ≤ 1 = leb-true x.value 1 (and_right (leb 0 x.value) (leb x.value 1) p.0) in
+    let side : x.value ≤ 1 = leb-true x.value 1 (and_parts (leb 0 x.value) (leb x.value 1) p.0).1 in
     omega (arith, small_near s at x b.taken (omega arith), fields_near (next_in_hazard h) outside 5 (x.value ∷ []) s x.next f p.1)
 
 hazards_near : (h : Header) (k : ℕ) (got : List Hazard) (s : List ℕ) (at : ℕ) (r : Hazards) → read_hazards h k got s at ≡ accepted r → r.next ≤ at + 31 * k
@@ -108,7 +109,7 @@ header_near s f e =
 module _ (n : ℕ) (s : List ℕ) where
   number_cut : (at : ℕ) → at + 6 ≤ n → number_at (take n s) at ≡ number_at s at
   unfolding number_at read_number
-  number_cut at h = ap (λ (c : Scan). reading_of at (read_of at c)) (scan_cut 6 at n s h)
+  number_cut at h = ap (λ (c : Scan). answer_of (read_of at c)) (scan_cut 6 at n s h)
 
   fields_cut : (range_of : List ℕ → Bounds) (outside : List ℕ → Refusal) (k : ℕ) (got : List ℕ) (at : ℕ) → at + 6 * k ≤ n
       → read_fields range_of outside k got (take n s) at ≡ read_fields range_of outside k got s at

@@ -3,5 +3,5 @@ pub mod DigitLaws
 pub mod LineLaws
 pub mod CoveredLaws
 pub mod ReportLaws
-pub mod CallLaws
 pub mod InputLaws
+pub mod CallLaws

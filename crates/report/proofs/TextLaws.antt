@@ -1,15 +1,18 @@
 -- Writing piece by piece: bytes one after the other, and numbers.
 -- Assumes nothing.
-use Prim.Native.Nat.{ℕ, ◌+◌, ◌≤◌, ◌<◌}
+use Prim.Native.Nat.{ℕ, ◌+◌, ◌-◌, ◌≤◌, ◌<◌}
 use native.Mathlib.Omega.{arith}
 use native.Mathlib.Numerals.{add-one}
 use mathlib.Core.Path.{◌≡◌, refl, sym, ap, ◌∙◌}
 use mathlib.Core.List.{List, [], ◌∷◌, ◌++◌, append_assoc, append-nil}
 use lib.ListN.{length, take, drop, get_or, set, length-append, take-append-drop}
-use lib.Seq.{take-suc, length-take-le}
-use Rattle.number.proofs.PlaceLaws.{placed_append, placed_length, placed_none, placed_sets}
+use lib.Seq.{take-suc}
+use borrow.Rule.Slice.PartMut.{put_mid, Post-is}
+use Rattle.number.specs.Number.{placed}
+use Rattle.number.proofs.PlaceLaws.{placed_append, placed_fits, placed_length, placed_none, placed_sets}
 use Rattle.report.specs.Text.{field, fields}
-use Rattle.report.specs.Writing.{Written}
+use Rattle.report.specs.Writing.{Written, Wrote}
+use Rattle.report.specs.declared.text.Writer.{Writer}
 
 -- Writing
 
@@ -42,13 +45,25 @@ pub written_room : {s : List ℕ} {at : ℕ} {v : List ℕ} {next : ℕ} {t : Li
     → next + length w ≤ length t
 written_room {s} {at} {v} first w room = omega (arith, first.index, written_length first, length-append v w)
 
--- Bytes one after the other.
-module _ (bytes : List ℕ) (i : ℕ) (more : i < length bytes) where
-  pub bytes_more : take (i + 1) bytes ≡ take i bytes ++ get_or bytes i 0 ∷ []
-  bytes_more = rw (add-one i) (take-suc bytes i 0 more)
+-- Bytes copied into a part of the memory are placed there.
+pub copied : (s : List ℕ) (at : ℕ) (w : List ℕ) → at + length w ≤ length s → put_mid at (at + length w - at) s w ≡ placed s at w
+copied s at w h =
+    ap (λ (l : List ℕ). take at s ++ (w ++ l)) (Post-is at (at + length w) s (omega arith)) ∙ sym (placed_fits s at w h)
 
-  pub bytes_within : length (take i bytes ++ get_or bytes i 0 ∷ []) ≤ length bytes
-  bytes_within = rw (length-append (take i bytes) (get_or bytes i 0 ∷ []), length-take-le i bytes (omega arith)) (omega arith)
+-- The same of a writer.
+
+pub wrote_none : (w : Writer) → Wrote w [] w
+wrote_none w = record { same_memory = refl; written = written_none w.text.now w.at }
+
+module _ {a b : Writer} {v : List ℕ} (first : Wrote a v b) (w : List ℕ) (room : a.at + length (v ++ w) ≤ length a.text.now) where
+  pub wrote_more : {c : Writer} → Wrote b w c → Wrote a (v ++ w) c
+  wrote_more second = record {
+    same_memory = second.same_memory ∙ first.same_memory;
+    written = written_more first.written second.written room;
+  }
+
+  pub wrote_room : b.at + length w ≤ length b.text.now
+  wrote_room = written_room first.written w room
 
 -- Fields
 

@@ -1,9 +1,7 @@
 -- The call's complete reply, and the text memory.
 -- Assumes nothing.
-use Rattle.std.specs.Prelude.{ℕ, List, length, leb, if◌then◌else◌}
+use Rattle.std.specs.Prelude.{ℕ, List, Option, None, Some, length, leb, if◌then◌else◌}
 use Rattle.number.specs.Number.{placed}
-use Rattle.report.specs.declared.Reply.{Reply}
-use Rattle.report.specs.declared.Reply.TheVariants.{Printed, Short}
 use Rattle.report.specs.Text.{reported}
 
 -- Every report fits into this many bytes.
@@ -11,8 +9,8 @@ abbrev pub most_text : ℕ
 most_text = 32768
 
 -- How many bytes were printed; memory shorter than `most_text` is refused whatever the job.
-unfoldable pub printing : (s text : List ℕ) → Reply
-printing s text = if leb most_text (length text) then Printed (length (reported s)) else Short
+unfoldable pub printing : (s text : List ℕ) → Option ℕ
+printing s text = if leb most_text (length text) then Some (length (reported s)) else None
 
 -- The memory afterwards: the report from the first byte on, and the bytes behind it untouched; unchanged where the memory is short.
 unfoldable pub text_after : (s text : List ℕ) → List ℕ

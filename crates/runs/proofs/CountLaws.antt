@@ -4,7 +4,7 @@ use Rattle.std.proofs.Common.{◌≡◌, ℕ, zero, suc, ◌+◌, ◌-◌, ◌<�
 use native.Mathlib.Decide.{dec_lt}
 use mathlib.Core.Path.{fun_ext}
 use borrow.Author.Tests.{lt-leb}
-use Rattle.base.proofs.TestLaws.{and_right, not_both}
+use Rattle.std.proofs.lemmas.Bool.{and_parts, both_ways}
 use Rattle.runs.specs.declared.Stretch.{Stretch}
 use Rattle.runs.specs.Level.{has}
 use Rattle.runs.specs.RunList.{shown_level, Rising}
@@ -29,7 +29,7 @@ count_or f g k h d p (suc n) = rw (h p) (go (f p) refl (g p) refl (count_or f g 
     go : (a : Bool) → f p ≡ a → (b : Bool) → g p ≡ b → count_from k (suc p) n ≡ count_from f (suc p) n + count_from g (suc p) n
         → (if a || b then suc (count_from k (suc p) n) else count_from k (suc p) n) ≡ (if a then suc (count_from f (suc p) n) else count_from f (suc p) n)
         + (if b then suc (count_from g (suc p) n) else count_from g (suc p) n)
-    go true x true y r = absurd (not_both y (d p x))
+    go true x true y r = absurd (both_ways _ (d p x) y)
     go true x false y r = omega arith
     go false x true y r = omega arith
     go false x false y r = r
@@ -75,7 +75,7 @@ count_run e u r rs up passes zero-fails p n = go (passes r.level) refl
 
     -- In the first run the others show nothing.
     alone : (t : ℕ) → has r t ≡ true → rest t ≡ false
-    alone t h = ap passes (shown_zero r.end r.level rs up.1 t (ltb-true _ _ (and_right (leb r.start t) _ h))) ∙ zero-fails
+    alone t h = ap passes (shown_zero r.end r.level rs up.1 t (ltb-true _ _ ((and_parts (leb r.start t) _ h).1))) ∙ zero-fails
 
     go : (b : Bool) → passes r.level ≡ b → count_from here p n ≡ (if b then min (p + n) r.end - max p r.start else 0) + count_from rest p n
     go true q = count_or (has r) rest here (λ t. either t (has r t)) alone p n

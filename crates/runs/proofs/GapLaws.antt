@@ -3,14 +3,14 @@
 use Rattle.std.proofs.Common.{◌≡◌, ℕ, suc, ◌+◌, ◌-◌, ◌<◌, ◌≤◌, true, false, ◌⊎◌, List, subst, inl, inr, arith}
 use native.Mathlib.Decide.{dec_lt}
 use Rattle.base.specs.Choice.{some_of}
-use Rattle.base.proofs.TestLaws.{decided, not_both}
+use Rattle.std.proofs.lemmas.Bool.{both_ways, cases_Bool}
 use Rattle.runs.specs.declared.Stretch.{Stretch}
 use Rattle.runs.specs.Level.{InSet, Gap, Filled, Highest, has, at_least, required_level, Proper}
 use Rattle.base.proofs.OrderLaws.{le_of_not_lt}
 use Rattle.base.proofs.LeastLaws.{LeastTo, least_to}
 use Rattle.runs.proofs.LevelLaws.{Joined, covered, bridged, test→set, set→test, level_top, level→joined, joined→level}
 
--- A set of which it is decided what it has.
+-- A set of which it is cases_Bool what it has.
 module _ (S : ℕ → Type 0) (dec : (t : ℕ) → Dec (S t)) where
   -- Between a member p and a member q, the gap around a millimetre that is not one.
   pub record Around (p t q : ℕ) : Type 0 where
@@ -57,11 +57,11 @@ module _ (S : ℕ → Type 0) (dec : (t : ℕ) → Dec (S t)) where
 
 module _ (es : List Stretch) (v : ℕ) where
   set? : (t : ℕ) → Dec (InSet es v t)
-  set? t = go (decided (some_of (λ (e : Stretch). has e t) (at_least v es)))
+  set? t = go (cases_Bool (some_of (λ (e : Stretch). has e t) (at_least v es)))
     where
       go : (some_of (λ (e : Stretch). has e t) (at_least v es) ≡ true) ⊎ (some_of (λ (e : Stretch). has e t) (at_least v es) ≡ false) → Dec (InSet es v t)
       go (inl h) = yes (test→set es v t h)
-      go (inr h) = no (λ s. not_both (set→test es v t s) h)
+      go (inr h) = no (λ s. both_ways _ h (set→test es v t s))
 
   module _ (G : ℕ) where
     joined→Filled : Proper es → (t : ℕ) → Joined es v G t → Filled G (InSet es v) t

@@ -10,7 +10,7 @@ use Rattle.runs.specs.declared.Stretch.{Stretch}
 use Rattle.runs.specs.RunList.{is_run_list}
 use Rattle.runs.specs.Required.{required_runs}
 use Rattle.runs.specs.Keys.{key_of, envelope_of, keyed_envelopes, Keyed}
-use Rattle.runs.specs.Sorted.{Sortable, Sorted}
+use Rattle.runs.specs.Sorted.{Sorted}
 use Rattle.runs.specs.Sweep.{AllSound}
 use Rattle.runs.specs.Steps.{envelopes_to, Sweepable}
 use Rattle.base.proofs.ListLaws.{cons_each}
@@ -143,13 +143,6 @@ key_indexed keys ends (suc n) =
 
 -- Keys sorted: they have the same members, and an envelope is that of its key, so the envelopes are the same.
 module _ (keys ends : List ℕ) (n : ℕ) (size : length keys ≡ 256) (few : n ≤ 256) (sound : AllSound (keyed_envelopes keys ends n)) where
-  pub sortable : Sortable n keys
-  sortable = record {
-    size = size;
-    within = few;
-    fit = λ i h. let s = sound _ (keyed_among keys ends n _ (among keys n i 0 h (omega arith))) in omega (arith, s.long, s.ends);
-  }
-
   module _ (sorted-keys : List ℕ) (sorted : Sorted n keys sorted-keys) where
     to : (x : Stretch) → Memᴰ x (envelopes_to sorted-keys ends n) → Memᴰ x (keyed_envelopes keys ends n)
     to x m =

@@ -5,7 +5,8 @@ use mathlib.Core.List.{Memᴰ}
 use Rattle.base.specs.Choice.{some_of, Passing}
 use Rattle.runs.specs.declared.Stretch.{Stretch}
 use Rattle.runs.specs.Level.{Has, InSet, Proper, has, between, at_least, filled, highest, required_level}
-use Rattle.base.proofs.TestLaws.{and_left, and_right, and_intro, or_cases, or_left, or_right, not_both, any_elim, any_intro, filter_elim, filter_intro}
+use Rattle.base.proofs.TestLaws.{any_elim, any_intro, filter_elim, filter_intro}
+use Rattle.std.proofs.lemmas.Bool.{and_from, and_parts, both_ways, or_cases, or_left, or_right}
 use Rattle.base.proofs.OrderLaws.{le_of_not_lt}
 
 -- t is in an envelope of level v or higher, or between two that are less than G apart.
@@ -35,12 +36,12 @@ module _ (es : List Stretch) (v t : ℕ) where
         one = w.one;
         member = k.0;
         high = leb-true _ _ k.1;
-        has = (leb-true _ _ (and_left _ _ w.passes), ltb-true _ _ (and_right (leb w.one.start t) _ w.passes));
+        has = (leb-true _ _ ((and_parts _ _ w.passes).0), ltb-true _ _ ((and_parts (leb w.one.start t) _ w.passes).1));
       }
 
   pub set→test : InSet es v t → some_of (λ (e : Stretch). has e t) (at_least v es) ≡ true
   set→test s = any_intro (λ (e : Stretch). has e t) (filter_intro (reaches v) s.member (le-leb _ _ s.high))
-      (and_intro (le-leb _ _ s.has.0) (lt-ltb _ _ s.has.1))
+      (and_from _ _ (le-leb _ _ s.has.0) (lt-ltb _ _ s.has.1))
 
   module _ (G : ℕ) where
     in_pair : (a : Stretch) → Memᴰ a (at_least v es) → Passing (between G t a) (at_least v es) → Joined es v G t
@@ -50,8 +51,8 @@ module _ (es : List Stretch) (v t : ℕ) where
         let h = w.passes in
         let b = w.one in
         bridged a b k.0 l.0 (leb-true _ _ k.1) (leb-true _ _ l.1)
-        (leb-true _ _ (and_left _ _ (and_left _ _ h))) (ltb-true _ _ (and_right (leb a.end t) _ (and_left _ _ h)))
-        (ltb-true _ _ (and_right (leb a.end t && ltb t b.start) _ h))
+        (leb-true _ _ ((and_parts _ _ ((and_parts _ _ h).0)).0)) (ltb-true _ _ ((and_parts (leb a.end t) _ ((and_parts _ _ h).0)).1))
+        (ltb-true _ _ ((and_parts (leb a.end t && ltb t b.start) _ h).1))
 
     filled→joined : filled (at_least v es) G t ≡ true → Joined es v G t
     unfolding filled
@@ -66,11 +67,11 @@ module _ (es : List Stretch) (v t : ℕ) where
 
     joined→filled : Joined es v G t → filled (at_least v es) G t ≡ true
     unfolding filled
-    joined→filled (covered e m h x) = or_left _ (set→test (record { one = e; member = m; high = h; has = x }))
+    joined→filled (covered e m h x) = or_left _ _ (set→test (record { one = e; member = m; high = h; has = x }))
     joined→filled (bridged a b m n h k x y z) =
-        or_right (some_of (λ (e : Stretch). has e t) (at_least v es))
+        or_right (some_of (λ (e : Stretch). has e t) (at_least v es)) _
         (any_intro (λ (a : Stretch). some_of (between G t a) (at_least v es)) (filter_intro (reaches v) m (le-leb _ _ h))
-        (any_intro (between G t a) (filter_intro (reaches v) n (le-leb _ _ k)) (and_intro (and_intro (le-leb _ _ x) (lt-ltb _ _ y)) (lt-ltb _ _ z))))
+        (any_intro (between G t a) (filter_intro (reaches v) n (le-leb _ _ k)) (and_from _ _ (and_from _ _ (le-leb _ _ x) (lt-ltb _ _ y)) (lt-ltb _ _ z))))
 
 -- Filling is monotone in the level and in the envelopes.
 joined_lower : {es : List Stretch} {u v G t : ℕ} → u ≤ v → Joined es v G t → Joined es u G t
@@ -99,7 +100,7 @@ module _ (es : List Stretch) (G t : ℕ) where
     where
       go : (b : Bool) → filled (at_least (suc n) es) G t ≡ b → (v ≤ n → Joined es v G t → v ≤ highest es G t n) → v ≤ (if b then suc n else highest es G t n)
       go true e r = q
-      go false e r = r (le_of_not_lt (λ h. not_both (joined→filled es (suc n) t G (let top : v ≡ suc n = omega arith in rw top at j)) e)) j
+      go false e r = r (le_of_not_lt (λ h. both_ways _ e (joined→filled es (suc n) t G (let top : v ≡ suc n = omega arith in rw top at j)))) j
 
   highest_joined : (n v : ℕ) → 1 ≤ v → v ≤ highest es G t n → Joined es v G t
   unfolding highest

@@ -1,6 +1,6 @@
 -- Break points and runs in arrays: one more, one less, what a store leaves alone.
 -- Assumes nothing.
-use Rattle.std.proofs.Common.{◌≡◌, ℕ, zero, suc, ◌+◌, ◌-◌, ◌<◌, ◌≤◌, Bool, true, false, ltb, ◌≢◌, List, [], ◌∷◌, ◌++◌, length, get_or, take, set, sym, refl, ap, ◌∙◌, add-zero, add-one, arith, length-take-le, get_or-set_other, get_or-set_same, take-suc-set, set-set, le-ltb, eq-eqb, ne_eqb, le-leb, if◌then◌else◌}
+use Rattle.std.proofs.Common.{replicate, ◌≡◌, ℕ, zero, suc, ◌+◌, ◌-◌, ◌<◌, ◌≤◌, Bool, true, false, ltb, ◌≢◌, List, [], ◌∷◌, ◌++◌, length, get_or, take, set, sym, refl, ap, ◌∙◌, add-zero, add-one, arith, length-take-le, get_or-set_other, get_or-set_same, take-suc-set, set-set, le-ltb, eq-eqb, ne_eqb, le-leb, if◌then◌else◌}
 use lib.ListN.{get_or-append}
 use lib.Seq.{take-set-le}
 use borrow.Author.Tests.{lt-leb}
@@ -9,7 +9,7 @@ use Rattle.base.proofs.StoredLaws.{padded_more, padded_clear}
 use Rattle.runs.specs.declared.Stretch.{Stretch}
 use Rattle.runs.specs.declared.RunList.{RunList}
 use Rattle.runs.specs.Stored.{stored_runs}
-use Rattle.runs.specs.Sweep.{bit}
+use Rattle.std.specs.Int.{from_bool}
 use Rattle.runs.specs.Breaks.{Break, level_of, breaks_to, breaks_before, set_from, runs_below}
 use Rattle.runs.proofs.TopLaws.{bit_small}
 use Rattle.runs.proofs.StoredLaws.{with_next, cleared, stored_more, stored_same}
@@ -96,13 +96,13 @@ module _ (starts levels : List ℕ) where
 module _ (starts levels : List ℕ) where
   -- One break point more, and its run where its level is not 0.
   pub runs_turn : (l : RunList) (i e d : ℕ) → cleared l ≡ stored_runs (runs_below (get_or starts i 0) (breaks_to starts levels i)) → l.count < 512
-      → d ≡ bit (ltb 0 (get_or levels i 0))
+      → d ≡ from_bool (ltb 0 (get_or levels i 0))
       → cleared (with_next l (record { start = get_or starts i 0; end = e; level = get_or levels i 0 }) (l.count + d))
       ≡ stored_runs (runs_below e (breaks_to starts levels (i + 1)))
   unfolding breaks_to runs_below
   runs_turn l i e d h room q = rw (add-one i, q) (go (ltb 0 (get_or levels i 0)))
     where
-      go : (f : Bool) → cleared (with_next l (record { start = get_or starts i 0; end = e; level = get_or levels i 0 }) (l.count + bit f))
+      go : (f : Bool) → cleared (with_next l (record { start = get_or starts i 0; end = e; level = get_or levels i 0 }) (l.count + from_bool f))
           ≡ stored_runs (if f then runs_below (get_or starts i 0) (breaks_to starts levels i) ++ record { start = get_or starts i 0; end = e; level = get_or levels i 0 }
           ∷ [] else runs_below (get_or starts i 0) (breaks_to starts levels i))
       go true = stored_more l (runs_below (get_or starts i 0) (breaks_to starts levels i)) _ h room
@@ -128,7 +128,7 @@ module _ (starts : List ℕ) (places : length starts ≡ 512) (k : ℕ) (room : 
 
   -- A start more, counted or not.
   front_next : (a : ℕ) (f : Bool)
-      → set (padded 512 0 (take (k + bit f) (set starts k a))) (k + bit f) 0 ≡ set (set (padded 512 0 (take k starts)) k a) (k + bit f) 0
+      → set (padded 512 0 (take (k + from_bool f) (set starts k a))) (k + from_bool f) 0 ≡ set (set (padded 512 0 (take k starts)) k a) (k + from_bool f) 0
   front_next a true =
       let more = ap (λ (n : ℕ). set (padded 512 0 (take k starts)) n a) (sym taken_length)
       ∙ padded_more 512 0 (take k starts) a (omega (arith, taken_length)) in
@@ -143,9 +143,15 @@ pub record InPlace (starts levels : List ℕ) (l : RunList) (k i start : ℕ) : 
   pub ahead : (j : ℕ) → i < j → get_or l.starts j 0 ≡ get_or starts j 0
   pub stored : cleared (front l k) ≡ stored_runs (runs_below (get_or starts i 0) (breaks_to starts levels i))
 
+-- None, in a list of zeros but for its starts.
+pub in_place_none : (starts levels : List ℕ) (l : RunList) → l.ends ≡ replicate 512 0 → l.levels ≡ replicate 512 0
+    → cleared (front l 0) ≡ stored_runs (runs_below (get_or starts 0 0) (breaks_to starts levels 0))
+unfolding runs_below breaks_to
+in_place_none starts levels l ends lows = rw (ends, lows) refl
+
 module _ (starts levels : List ℕ) (l : RunList) (places : length l.starts ≡ 512) (k i start : ℕ) (h : InPlace starts levels l k i start) where
   -- One break point more.
-  pub in_place_turn : (next d : ℕ) → k < 512 → next ≡ get_or l.starts (i + 1) 0 → d ≡ bit (ltb 0 (get_or levels i 0))
+  pub in_place_turn : (next d : ℕ) → k < 512 → next ≡ get_or l.starts (i + 1) 0 → d ≡ from_bool (ltb 0 (get_or levels i 0))
       → InPlace starts levels (put_at l k (record { start = start; end = next; level = get_or levels i 0 })) (k + d) (i + 1) next
   in_place_turn next d room e q =
       let f = ltb 0 (get_or levels i 0) in
@@ -156,12 +162,12 @@ module _ (starts levels : List ℕ) (l : RunList) (places : length l.starts ≡ 
         ahead = λ j b. get_or-set_other l.starts k j start 0 (λ x. omega (arith, h.within)) ∙ h.ahead j (omega arith);
         stored =
             rw q (ap (λ (x : List ℕ). record {
-              count = k + bit f;
+              count = k + from_bool f;
               starts = x;
-              ends = set (set l.ends k next) (k + bit f) 0;
-              levels = set (set l.levels k (get_or levels i 0)) (k + bit f) 0;
+              ends = set (set l.ends k next) (k + from_bool f) 0;
+              levels = set (set l.levels k (get_or levels i 0)) (k + from_bool f) 0;
             }) (front_next l.starts places k room start f)
-            ∙ rw (h.own, sym new) (runs_turn starts levels (front l k) i next (bit f) h.stored room refl));
+            ∙ rw (h.own, sym new) (runs_turn starts levels (front l k) i next (from_bool f) h.stored room refl));
       }
 
   -- All of them.

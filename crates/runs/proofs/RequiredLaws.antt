@@ -4,7 +4,7 @@ use Rattle.std.proofs.Common.{◌≡◌, ℕ, suc, ◌-◌, ◌<◌, ◌≤◌, 
 use native.Mathlib.Decide.{dec_lt}
 use mathlib.Core.List.Memᴰ
 use mathlib.Core.List.{Memᴰ}
-use Rattle.base.proofs.TestLaws.{and_left, and_right, and_intro, not_both}
+use Rattle.std.proofs.lemmas.Bool.{and_from, and_parts, both_ways}
 use Rattle.base.proofs.ListLaws.{cons_each}
 use Rattle.runs.specs.declared.Stretch.{Stretch}
 use Rattle.runs.specs.Level.{Has, required_level, Proper}
@@ -31,13 +31,13 @@ module _ (f : ℕ → ℕ) (r : Stretch) (order : r.start ≤ r.end) (top : r.le
   left_out e rs s = (runs_skip r.end 0 r.start 0 order (λ _. refl) (λ t a b. omega (arith, flat t (a, b), none t a b)) s, omega arith)
     where
       none : (t : ℕ) → r.start ≤ t → t < r.end → r.level ≤ 0
-      none t a b = le_of_not_lt (λ p. not_both (and_intro (lt-ltb r.start r.end (omega arith)) (lt-ltb 0 r.level p)) e)
+      none t a b = le_of_not_lt (λ p. both_ways _ e (and_from _ _ (lt-ltb r.start r.end (omega arith)) (lt-ltb 0 r.level p)))
 
   first_run : real ≡ true → MayFollow r.start 0 r
   unfolding real
   first_run e =
-      let long : r.start < r.end = ltb-true _ _ (and_left _ (ltb 0 r.level) e) in
-      let low : 0 < r.level = ltb-true _ _ (and_right (ltb r.start r.end) _ e) in
+      let long : r.start < r.end = ltb-true _ _ ((and_parts _ (ltb 0 r.level) e).0) in
+      let low : 0 < r.level = ltb-true _ _ ((and_parts (ltb r.start r.end) _ e).1) in
       record { after = omega arith; long = long; ends = ends; low = low; top = top; differs = λ _ q. absurd (omega arith) }
 
   in_front : real ≡ true → (rs : List Stretch) → RunsFrom f r.end r.level rs → Put rs (r ∷ rs)
@@ -72,11 +72,11 @@ module _ (f : ℕ → ℕ) (r : Stretch) (order : r.start ≤ r.end) (top : r.le
       go : (b : Bool) → real ≡ b → (c : Bool) → (eqb r.end x.start && eqb r.level x.level) ≡ c
           → Put (x ∷ xs) (if b then if c then record { start = r.start; end = x.end; level = r.level } ∷ xs else r ∷ x ∷ xs else x ∷ xs)
       go false e c d = left_out e (x ∷ xs) s
-      go true e true d = made_one e x xs (eqb-true _ _ (and_left _ (eqb r.level x.level) d)) (eqb-true _ _ (and_right (eqb r.end x.start) _ d)) s
+      go true e true d = made_one e x xs (eqb-true _ _ ((and_parts _ (eqb r.level x.level) d).0)) (eqb-true _ _ ((and_parts (eqb r.end x.start) _ d).1)) s
       go true e false d =
           let n = s.rising.0 in
           in_front e (x ∷ xs) (record {
-            rising = (follow_other n.after (λ p q. not_both (and_intro (eq-eqb _ _ p) (eq-eqb _ _ q)) d) n, s.rising.1);
+            rising = (follow_other n.after (λ p q. both_ways _ d (and_from _ _ (eq-eqb _ _ p) (eq-eqb _ _ q))) n, s.rising.1);
             shows = s.shows;
           })
 

@@ -3,13 +3,13 @@
 use Rattle.std.proofs.Common.{◌≡◌, ℕ, ◌<◌, ◌≤◌, Bool, true, false, not, ◌&&◌, eqb, ltb, leb, ◌≢◌, ◌⊎◌, List, [], ◌∷◌, ◌++◌, length, sym, refl, ap, ◌∙◌, inl, inr, arith, ltb-true, le-ltb, lt-ltb, eq-eqb, eqb-true, le-leb, leb-true, if◌then◌else◌}
 use native.Mathlib.Decide.{dec_lt}
 use borrow.Author.Tests.{lt-leb, not-true}
-use Rattle.base.proofs.TestLaws.{and_left, and_right, and_intro, decided, not_both}
+use Rattle.std.proofs.lemmas.Bool.{and_from, and_parts, both_ways, cases_Bool}
 use Rattle.runs.specs.declared.Stretch.{Stretch}
 use Rattle.runs.specs.Level.{Has}
 use Rattle.runs.specs.RunList.{most_runs, last_station, may_follow, rising_runs, is_run_list, shown_level, MayFollow, Rising}
 
 apart : (a b c d : ℕ) → (a ≡ b → c ≢ d) → not (eqb a b && eqb c d) ≡ true
-apart a b c d h = go (decided (eqb a b)) (decided (eqb c d))
+apart a b c d h = go (cases_Bool (eqb a b)) (cases_Bool (eqb c d))
   where
     go : (eqb a b ≡ true) ⊎ (eqb a b ≡ false) → (eqb c d ≡ true) ⊎ (eqb c d ≡ false) → not (eqb a b && eqb c d) ≡ true
     go (inl p) (inl q) = absurd (h (eqb-true _ _ p) (eqb-true _ _ q))
@@ -24,45 +24,45 @@ follows e v r h =
     let c3 = c2 && leb r.end last_station in
     let c4 = c3 && leb 1 r.level in
     let c5 = c4 && leb r.level 6 in
-    let h5 = and_left c5 _ h in
-    let h4 = and_left c4 _ h5 in
-    let h3 = and_left c3 _ h4 in
-    let h2 = and_left c2 _ h3 in
+    let h5 = (and_parts c5 _ h).0 in
+    let h4 = (and_parts c4 _ h5).0 in
+    let h3 = (and_parts c3 _ h4).0 in
+    let h2 = (and_parts c2 _ h3).0 in
     record {
-      after = leb-true _ _ (and_left (leb e r.start) _ h2);
-      long = ltb-true _ _ (and_right (leb e r.start) _ h2);
-      ends = leb-true _ _ (and_right c2 _ h3);
-      low = leb-true _ _ (and_right c3 _ h4);
-      top = leb-true _ _ (and_right c4 _ h5);
-      differs = λ p q. not_both (and_intro (eq-eqb _ _ p) (eq-eqb _ _ q)) (not-true _ (and_right c5 _ h));
+      after = leb-true _ _ ((and_parts (leb e r.start) _ h2).0);
+      long = ltb-true _ _ ((and_parts (leb e r.start) _ h2).1);
+      ends = leb-true _ _ ((and_parts c2 _ h3).1);
+      low = leb-true _ _ ((and_parts c3 _ h4).1);
+      top = leb-true _ _ ((and_parts c4 _ h5).1);
+      differs = λ p q. both_ways _ (not-true _ ((and_parts c5 _ h).1)) (and_from _ _ (eq-eqb _ _ p) (eq-eqb _ _ q));
     }
 
 pub rising : (e v : ℕ) (rs : List Stretch) → rising_runs e v rs ≡ true → Rising e v rs
 unfolding rising_runs
 rising e v [] h = tt
-rising e v (r ∷ rs) h = (follows e v r (and_left (may_follow e v r) _ h), rising r.end r.level rs (and_right (may_follow e v r) _ h))
+rising e v (r ∷ rs) h = (follows e v r ((and_parts (may_follow e v r) _ h).0), rising r.end r.level rs ((and_parts (may_follow e v r) _ h).1))
 
 pub rising_test : (e v : ℕ) (rs : List Stretch) → Rising e v rs → rising_runs e v rs ≡ true
 unfolding rising_runs may_follow
 rising_test e v [] h = refl
 rising_test e v (r ∷ rs) h =
     let n = h.0 in
-    and_intro (and_intro (and_intro (and_intro (and_intro (and_intro (le-leb _ _ n.after) (lt-ltb _ _ n.long)) (le-leb _ _ n.ends))
+    and_from _ _ (and_from _ _ (and_from _ _ (and_from _ _ (and_from _ _ (and_from _ _ (le-leb _ _ n.after) (lt-ltb _ _ n.long)) (le-leb _ _ n.ends))
     (le-leb _ _ n.low)) (le-leb _ _ n.top))
     (apart e r.start v r.level n.differs)) (rising_test r.end r.level rs h.1)
 
 -- A run list is short, and its runs rise.
 pub run_list_short : (rs : List Stretch) → is_run_list rs ≡ true → length rs ≤ most_runs
 unfolding is_run_list
-run_list_short rs h = leb-true (length rs) most_runs (and_left _ (rising_runs 0 0 rs) h)
+run_list_short rs h = leb-true (length rs) most_runs ((and_parts _ (rising_runs 0 0 rs) h).0)
 
 pub run_list_rising : (rs : List Stretch) → is_run_list rs ≡ true → Rising 0 0 rs
 unfolding is_run_list
-run_list_rising rs h = rising 0 0 rs (and_right (leb (length rs) most_runs) _ h)
+run_list_rising rs h = rising 0 0 rs ((and_parts (leb (length rs) most_runs) _ h).1)
 
 pub list_test : (rs : List Stretch) → length rs ≤ most_runs → Rising 0 0 rs → is_run_list rs ≡ true
 unfolding is_run_list
-list_test rs short h = and_intro (le-leb (length rs) most_runs short) (rising_test 0 0 rs h)
+list_test rs short h = and_from _ _ (le-leb (length rs) most_runs short) (rising_test 0 0 rs h)
 
 -- A run that follows one may follow another.
 pub follow_other : {e v p w : ℕ} {r : Stretch} → p ≤ r.start → (p ≡ r.start → w ≢ r.level) → MayFollow e v r → MayFollow p w r

@@ -8,7 +8,6 @@ use Rattle.runs.specs.Required.{required_runs}
 use Rattle.runs.specs.RunList.{last_station}
 use Rattle.runs.proofs.RunsOfLaws.{runs_of_unique}
 use Rattle.runs.proofs.RequiredLaws.{required_runs_lem}
-use Rattle.runs.proofs.SweepLaws.{tops_fall, above_small}
 use Rattle.runs.proofs.StandLaws.{stands_first, stands_last, last_zero}
 use Rattle.runs.proofs.PlaceLaws.{breaks_length, breaks_front, below_last}
 
@@ -30,14 +29,11 @@ module _ (keys ends : List ℕ) (n G : ℕ) where
       → Sweeping keys ends n G i tops level (breaks_to starts levels count) → count + distinct_to tops level ≤ 2 * i
   sweeping_room {i} starts levels count s = omega (arith, s.stands.room, breaks_length starts levels count, envelopes_length keys ends i)
 
-  pub room_left : {i free : ℕ} {tops : List ℕ} {level : ℕ} (starts levels : List ℕ) (count : ℕ) → Places starts levels → length tops ≡ 8
+  pub room_left : {i free : ℕ} {tops : List ℕ} {level : ℕ} (starts levels : List ℕ) (count : ℕ) → Places starts levels
       → 2 * i + free ≤ length starts → Sweeping keys ends n G i tops level (breaks_to starts levels count) → Room free starts levels tops count level
-  room_left starts levels count places eight h s =
+  room_left starts levels count places h s =
       record {
         places = places;
-        eight = eight;
-        falling = tops_fall s.stands.begun;
-        small = above_small s.stands.begun s.stands.above;
         within = omega (arith, sweeping_room starts levels count s);
       }
 

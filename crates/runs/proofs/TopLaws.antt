@@ -3,16 +3,17 @@
 use Rattle.std.proofs.Common.{◌≡◌, ℕ, zero, suc, ◌+◌, ◌<◌, ◌≤◌, max, Bool, true, false, ltb, List, length, get_or, set, refl, ap, ◌∙◌, arith, get_or-set_other, ltb-false, ltb-true, le-ltb, lt-ltb, le-leb}
 use native.Mathlib.Decide.{dec_le, dec_lt}
 use borrow.Author.Tests.{lt-leb}
-use Rattle.runs.specs.Sweep.{bit, above_to, Falling, raised_top, Raised, fresh, distinct_to}
+use Rattle.std.specs.Int.{from_bool}
+use Rattle.runs.specs.Sweep.{above_to, Falling, raised_top, Raised, fresh, distinct_to}
 use Rattle.base.proofs.OrderLaws.{le_of_not_lt}
 use Rattle.runs.proofs.IndexLaws.{store_next}
 
-pub bit_small : (b : Bool) → bit b ≤ 1
+pub bit_small : (b : Bool) → from_bool b ≤ 1
 bit_small true = omega arith
 bit_small false = omega arith
 
 module _ (tops : List ℕ) where
-  distinct_suc : (n : ℕ) → distinct_to tops (suc n) ≡ distinct_to tops n + bit (fresh tops n)
+  distinct_suc : (n : ℕ) → distinct_to tops (suc n) ≡ distinct_to tops n + from_bool (fresh tops n)
   unfolding distinct_to
   distinct_suc n = refl
 
@@ -28,9 +29,9 @@ module _ (tops : List ℕ) where
   distinct_falls : (d n : ℕ) → d < n → (0 < d → get_or tops (suc d) 0 < get_or tops d 0) → distinct_to tops d + 1 ≤ distinct_to tops n
   distinct_falls d n h l = omega (arith, distinct_suc d, distinct_more (suc d) n h, one d l)
     where
-      one : (d : ℕ) → (0 < d → get_or tops (suc d) 0 < get_or tops d 0) → bit (fresh tops d) ≡ 1
+      one : (d : ℕ) → (0 < d → get_or tops (suc d) 0 < get_or tops d 0) → from_bool (fresh tops d) ≡ 1
       one zero l = refl
-      one (suc d) l = ap bit (lt-ltb _ _ (l (omega arith)))
+      one (suc d) l = ap from_bool (lt-ltb _ _ (l (omega arith)))
 
   pub distinct_some : (n : ℕ) → 0 < n → 0 < distinct_to tops n
   distinct_some n h = omega (arith, distinct_falls 0 n h (λ p. absurd (omega arith)))
@@ -56,7 +57,7 @@ module _ (tops : List ℕ) (fall : Falling tops) where
   above_count t zero = record { most = omega arith; low = λ v p q. absurd (omega arith); high = λ v p q. omega arith }
   above_count t (suc n) = go (ltb t (get_or tops (suc n) 0)) refl (above_count t n)
     where
-      go : (b : Bool) → ltb t (get_or tops (suc n) 0) ≡ b → UpTo tops t n (above_to tops t n) → UpTo tops t (suc n) (above_to tops t n + bit b)
+      go : (b : Bool) → ltb t (get_or tops (suc n) 0) ≡ b → UpTo tops t n (above_to tops t n) → UpTo tops t (suc n) (above_to tops t n + from_bool b)
       go true e i =
           let h : t < get_or tops (suc n) 0 = ltb-true _ _ e in
           let k : n ≤ above_to tops t n = i.high n (omega arith) (omega (arith, fall n (suc n) (omega arith))) in
@@ -91,12 +92,12 @@ module _ (l e : ℕ) (tops tops' : List ℕ) (raised : Raised l e tops tops') wh
   pub raised_low : (v : ℕ) → l < v → get_or tops' v 0 ≡ get_or tops v 0
   raised_low v h = let q = raised v in rw (lt-leb v l h) at q
 
-  fresh_less : (n : ℕ) → suc n ≤ l → bit (fresh tops' n) ≤ bit (fresh tops n)
+  fresh_less : (n : ℕ) → suc n ≤ l → from_bool (fresh tops' n) ≤ from_bool (fresh tops n)
   fresh_less zero h = omega arith
   fresh_less (suc n) h = go (dec_lt (get_or tops' (suc (suc n)) 0) (get_or tops' (suc n) 0))
     where
       go : Dec (get_or tops' (suc (suc n)) 0 < get_or tops' (suc n) 0)
-          → bit (ltb (get_or tops' (suc (suc n)) 0) (get_or tops' (suc n) 0)) ≤ bit (ltb (get_or tops (suc (suc n)) 0) (get_or tops (suc n) 0))
+          → from_bool (ltb (get_or tops' (suc (suc n)) 0) (get_or tops' (suc n) 0)) ≤ from_bool (ltb (get_or tops (suc (suc n)) 0) (get_or tops (suc n) 0))
       go (yes k) =
           let a = raised_high (suc (suc n)) h in
           let b = raised_high (suc n) (omega arith) in
@@ -114,16 +115,16 @@ module _ (l e : ℕ) (tops tops' : List ℕ) (raised : Raised l e tops tops') wh
   distinct_skip zero h = omega arith
   distinct_skip (suc n) h = go (dec_le l n) (distinct_skip n)
     where
-      same : (n : ℕ) → l < n → bit (fresh tops' n) ≡ bit (fresh tops n)
+      same : (n : ℕ) → l < n → from_bool (fresh tops' n) ≡ from_bool (fresh tops n)
       same zero k = refl
       same (suc n) k = rw (raised_low (suc (suc n)) (omega arith), raised_low (suc n) k)
 
       go : Dec (l ≤ n) → (l ≤ n → distinct_to tops' n ≤ distinct_to tops n + 1)
-          → distinct_to tops' n + bit (fresh tops' n) ≤ distinct_to tops n + bit (fresh tops n) + 1
+          → distinct_to tops' n + from_bool (fresh tops' n) ≤ distinct_to tops n + from_bool (fresh tops n) + 1
       go (no k) r = omega (arith, distinct_within n (omega arith), fresh_less n (omega arith))
       go (yes k) r = pick (dec_lt l n)
         where
-          pick : Dec (l < n) → distinct_to tops' n + bit (fresh tops' n) ≤ distinct_to tops n + bit (fresh tops n) + 1
+          pick : Dec (l < n) → distinct_to tops' n + from_bool (fresh tops' n) ≤ distinct_to tops n + from_bool (fresh tops n) + 1
           pick (yes m) = omega (arith, r k, same n m)
           pick (no m) = omega (arith, distinct_within n (omega arith), bit_small (fresh tops' n))
 
@@ -131,9 +132,9 @@ module _ (l e : ℕ) (tops tops' : List ℕ) (raised : Raised l e tops tops') wh
     top_is : (v : ℕ) → c < v → v ≤ l → get_or tops' v 0 ≡ e
     top_is v k m = omega (arith, raised_high v m, low v k)
 
-    no_fresh : (n : ℕ) → c < n → suc n ≤ l → bit (fresh tops' n) ≡ 0
+    no_fresh : (n : ℕ) → c < n → suc n ≤ l → from_bool (fresh tops' n) ≡ 0
     no_fresh zero k m = absurd (omega arith)
-    no_fresh (suc n) k m = ap bit (le-ltb (get_or tops' (suc (suc n)) 0) (get_or tops' (suc n) 0)
+    no_fresh (suc n) k m = ap from_bool (le-ltb (get_or tops' (suc (suc n)) 0) (get_or tops' (suc n) 0)
         (omega (arith, top_is (suc (suc n)) (omega arith) m, top_is (suc n) k (omega arith))))
 
     distinct_flat : (n : ℕ) → c ≤ n → n ≤ l → distinct_to tops' n ≤ distinct_to tops' c + 1
@@ -174,3 +175,28 @@ raising_end l e v old new r h w = go (dec_lt w v)
     go : Dec (w < v) → get_or new w 0 ≡ raised_top l e w (get_or old w 0)
     go (yes k) = r.passed w k
     go (no k) = rw (lt-leb w l (omega arith)) (r.ahead w (omega arith))
+
+-- Where the first v tops are raised, from level 0 up, still none is above that of a lower level.
+top_grows : (l e v x : ℕ) → x ≤ raised_top l e v x
+top_grows l e v x = go (dec_le v l)
+  where
+    go : Dec (v ≤ l) → x ≤ raised_top l e v x
+    go (yes h) = rw (le-leb v l h) (omega arith)
+    go (no h) = rw (lt-leb v l (omega arith)) (omega arith)
+
+tops_order : (l e v w x y : ℕ) → v ≤ w → y ≤ x → raised_top l e w y ≤ raised_top l e v x
+tops_order l e v w x y h k = go (dec_le w l)
+  where
+    go : Dec (w ≤ l) → raised_top l e w y ≤ raised_top l e v x
+    go (yes m) = rw (le-leb w l m, le-leb v l (omega arith)) (omega arith)
+    go (no m) = rw (lt-leb w l (omega arith)) (omega (arith, top_grows l e v x))
+
+pub raising_falls : (l e n : ℕ) (old new : List ℕ) → Raising l e n old new → Falling old → Falling new
+raising_falls l e n old new r fall v w h = go (dec_lt v n) (dec_lt w n)
+  where
+    go : Dec (v < n) → Dec (w < n) → get_or new w 0 ≤ get_or new v 0
+    go (yes a) (yes b) = rw (r.passed v a, r.passed w b) (tops_order l e v w _ _ h (fall v w h))
+    go (yes a) (no b) =
+        rw (r.passed v a, r.ahead w (omega arith)) (omega (arith, fall v w h, top_grows l e v (get_or old v 0)))
+    go (no a) (yes b) = absurd (omega arith)
+    go (no a) (no b) = rw (r.ahead v (omega arith), r.ahead w (omega arith)) (fall v w h)

@@ -6,7 +6,7 @@ use Rattle.runs.specs.RunList.{last_station}
 use Rattle.runs.specs.Breaks.{Break, breaks_to}
 use Rattle.runs.specs.Keys.{envelope_of}
 use Rattle.runs.specs.Sorted.{RisingKeys}
-use Rattle.runs.specs.Sweep.{Sound, Raised, Falling, distinct_to, SweptTo}
+use Rattle.runs.specs.Sweep.{Sound, Raised, distinct_to, SweptTo}
 
 -- Places for break points: there is one for a level beside each for a start.
 abbrev pub Places : (starts levels : List ℕ) → Type 0
@@ -15,15 +15,11 @@ Places starts levels = length starts ≤ length levels
 -- Each top to which the level will fall takes a place: beside those and the ones in use, `free` places are left.
 pub record Room (free : ℕ) (starts levels tops : List ℕ) (count level : ℕ) : Type 0 where
   pub places : Places starts levels
-  pub eight : length tops ≡ 8
-  pub falling : Falling tops
-  pub small : level ≤ 6
   pub within : count + distinct_to tops level + free ≤ length starts
 
 -- The break points go on up to s.
 pub record Drained (tops : List ℕ) (s count level : ℕ) (bs : List Break) (count' level' : ℕ) (bs' : List Break) : Type 0 where
   pub within : count' + distinct_to tops level' ≤ count + distinct_to tops level
-  pub small : level' ≤ 6
   pub stands : (es : List Stretch) (G u : ℕ) → u ≤ s → SweptTo es G u tops level bs → SweptTo es G s tops level' bs'
 
 -- The break points go on up to s, where an envelope of level l starts, whatever its end is.

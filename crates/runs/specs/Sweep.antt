@@ -1,6 +1,7 @@
 -- The sweep over envelopes in order of their starts: what it knows after some of them.
 -- Assumes nothing.
-use Rattle.std.specs.Prelude.{◌≡◌, ℕ, zero, suc, ◌+◌, ◌-◌, ◌*◌, ◌<◌, ◌≤◌, min, max, Bool, true, false, List, length, nat_le, nat_lt, slice_index, if◌then◌else◌}
+use Rattle.std.specs.Prelude.{◌≡◌, ℕ, zero, suc, ◌+◌, ◌-◌, ◌*◌, ◌<◌, ◌≤◌, min, max, Bool, true, List, length, nat_le, nat_lt, slice_index, if◌then◌else◌}
+use Rattle.std.specs.Int.{from_bool}
 use mathlib.Core.List.{Memᴰ}
 use Rattle.runs.specs.declared.Stretch.{Stretch}
 use Rattle.runs.specs.Level.{required_level}
@@ -29,14 +30,10 @@ pub record Top (es : List Stretch) (v x : ℕ) : Type 0 where
   pub most : (e : Stretch) → Memᴰ e es → v ≤ e.level → e.end ≤ x
   pub met : 0 < x → Ending es v x
 
-abbrev pub bit : Bool → ℕ
-bit true = 1
-bit false = 0
-
 -- How many of the levels 1 to n have a top above t.
 unfoldable pub above_to : (tops : List ℕ) (t n : ℕ) → ℕ
 above_to tops t zero = 0
-above_to tops t (suc n) = above_to tops t n + bit (nat_lt t (slice_index tops (suc n)))
+above_to tops t (suc n) = above_to tops t n + from_bool (nat_lt t (slice_index tops (suc n)))
 
 -- The levels that have a top above t are those up to c.
 pub record Above (tops : List ℕ) (t c : ℕ) : Type 0 where
@@ -62,7 +59,7 @@ fresh tops (suc n) = nat_lt (slice_index tops (suc (suc n))) (slice_index tops (
 -- How many different tops the levels 1 to n have. So often the level will fall.
 unfoldable pub distinct_to : (tops : List ℕ) (n : ℕ) → ℕ
 distinct_to tops zero = 0
-distinct_to tops (suc n) = distinct_to tops n + bit (fresh tops n)
+distinct_to tops (suc n) = distinct_to tops n + from_bool (fresh tops n)
 
 -- Envelopes that have begun by station u, and their tops.
 pub record Begun (es : List Stretch) (u : ℕ) (tops : List ℕ) : Type 0 where

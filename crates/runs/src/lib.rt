@@ -1,10 +1,13 @@
 // Levels: envelopes, the level that they require at each millimetre, and its runs, by value.
 #![tactic(auto)]
 
+mod envelopes;
+pub mod listed;
 pub mod required;
 mod sort;
 mod spread; // keys brought near to order
 mod sweep;
+mod tops;
 
 // The millimetres [start, end) at a containment level.
 #[derive(Clone, Copy)]
@@ -14,7 +17,8 @@ pub struct Stretch {
     pub level: u32,
 }
 
-// The first `count` entries are the runs, rising.
+// The first `count` entries are the runs, rising. That they are a run list is a fact of `listed::Runs`: here it would not hold while the sweep fills a list
+// that is lent to it, and a list made from arrays filled before takes two copies and 15 KB of stack more in plan.
 #[derive(Clone, Copy)]
 pub struct RunList {
     pub count: usize,

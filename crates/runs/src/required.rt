@@ -7,6 +7,7 @@ ghost use Rattle.runs.specs.Stored.{stored_runs};
 ghost use Rattle.runs.specs.Sweep.{AllSound};
 
 use super::RunList;
+use super::envelopes::Envelopes;
 use super::sort::sort;
 use super::sweep::swept_runs;
 
@@ -27,6 +28,11 @@ pub fn required_runs(keys: &mut [u64; 256], ends: &[u64], count: usize, continui
     requires all_sound { AllSound (keyed_envelopes keys.old ends.now count) }
     ensures { result ≡ stored_runs (required_runs (keyed_envelopes keys.old ends.now count) continuity) }
 {
-    sort(keys, count);
-    swept_runs(&keys[..], ends, count, continuity)
+    sort(&mut keys[..count]);
+    let envelopes = Envelopes {
+        keys: &keys[..],
+        ends,
+        count,
+    };
+    swept_runs(envelopes, continuity)
 }

@@ -1,4 +1,5 @@
 pub mod WriteLaws
+pub mod RecordLaws
 pub mod ScheduleLaws
 pub mod LengthLaws
 pub mod PlanLaws

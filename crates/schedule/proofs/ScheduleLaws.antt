@@ -14,8 +14,9 @@ use Rattle.refusal.specs.declared.Refusal.TheVariants as Row
 use Rattle.base.proofs.AnswerLaws.{bound}
 use Rattle.base.proofs.ListLaws.{drop_after}
 use Rattle.refusal.proofs.RefuseLaws.{passed}
-use Rattle.base.proofs.TestLaws.{and_left, and_intro, impossible}
-use Rattle.number.specs.Number.{write_number, Reading, number_at}
+use Rattle.std.proofs.lemmas.Bool.{and_from, and_parts}
+use Rattle.number.specs.declared.Reading.{Reading}
+use Rattle.number.specs.Number.{write_number, number_at}
 use Rattle.number.proofs.ReadLaws.{read_number_lem, number_read}
 use Rattle.number.specs.Form.{Bytes}
 use Rattle.runs.specs.declared.Stretch.{Stretch}
@@ -26,7 +27,7 @@ use Rattle.schedule.specs.Schedule.{write_record, write_records, write_schedule,
 -- Which run may follow another.
 pub may_follow_lem : (e v : ℕ) (r : Stretch) → MayFollow e v r → may_follow e v r ≡ true
 unfolding rising_runs
-may_follow_lem e v r n = and_left (may_follow e v r) true (rising_test e v (r ∷ []) (n, tt))
+may_follow_lem e v r n = (and_parts (may_follow e v r) true (rising_test e v (r ∷ []) (n, tt))).0
 
 -- What is written is read
 
@@ -93,11 +94,11 @@ schedule_runs s w = ap read_schedule w.writes ∙ read_schedule_lem w.runs w.run
 
 pub or_ten_lem : {A : Type 0} (m : Answer A) (a : A) → or_ten m ≡ accepted a → m ≡ accepted a
 or_ten_lem (accepted x) a e = e
-or_ten_lem (refused k v) a e = impossible cc
+or_ten_lem (refused k v) a e = cc
 
 -- Whatever is wrong, 10 is returned.
 or_ten_refused : {A : Type 0} (m : Answer A) (k v : ℕ) → or_ten m ≡ refused k v → or_ten m ≡ refused 10 0
-or_ten_refused (accepted a) k v e = impossible cc
+or_ten_refused (accepted a) k v e = cc
 or_ten_refused (refused x y) k v e = refl
 
 pub refused_ten : (s : List ℕ) (k v : ℕ) → read_schedule s ≡ refused k v → read_schedule s ≡ refused 10 0
@@ -188,7 +189,7 @@ module _ (s : List ℕ) where
       let f = first_read k e v at rs q in
       let more = records_rise k f.first.run.end f.first.run.level f.first.next f.others f.others_read in
       subst (λ (x : List Stretch). (length x ≡ suc k) × (rising_runs e v x ≡ true)) f.is
-      (ap suc more.0, and_intro (record_read e v at f.first f.first_read).may more.1)
+      (ap suc more.0, and_from _ _ (record_read e v at f.first f.first_read).may more.1)
 
   -- What can be read is a run list.
   pub read_list : (rs : List Stretch) → read_schedule s ≡ accepted rs → is_run_list rs ≡ true
@@ -196,7 +197,7 @@ module _ (s : List ℕ) where
   read_list rs q =
       let w = schedule_parts rs q in
       let up = records_rise w.head.value 0 0 w.head.next rs w.records in
-      and_intro (ap (λ (n : ℕ). leb n most_runs) up.0 ∙ w.few) up.1
+      and_from _ _ (ap (λ (n : ℕ). leb n most_runs) up.0 ∙ w.few) up.1
 
 -- A record that was read stands there as the writing of its run.
 pub record RecordStands (s : List ℕ) (e at : ℕ) (p : ReadRun) : Type 0 where

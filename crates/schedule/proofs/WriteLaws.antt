@@ -14,44 +14,43 @@ use Rattle.runs.specs.declared.Stretch.{Stretch}
 use Rattle.runs.specs.RunList.{is_run_list, runs_to, last_end}
 use Rattle.runs.proofs.StoredLaws.{run, first_runs, behind, run_next}
 use Rattle.schedule.specs.Schedule.{write_record, write_records}
-use Rattle.schedule.specs.Writing.{RecordFits, stretch}
+use Rattle.schedule.specs.Writing.{RecordFits}
 
 -- The length of a record: the group counts of its three numbers.
-pub record_groups : (end start stop level : ℕ) → RecordFits end start stop level
-    → length (write_record end (stretch start stop level)) ≡ group_count (start - end) + group_count (stop - start) + group_count level
+pub record_groups : (end : ℕ) (r : Stretch) → RecordFits end r
+    → length (write_record end r) ≡ group_count (r.start - end) + group_count (r.end - r.start) + group_count r.level
 unfolding write_record
-record_groups end start stop level f =
+record_groups end r f =
     simp length-append (omega (
       arith,
-      group_count_lem (start - end) (omega (arith, f.long, f.ends)),
-      group_count_lem (stop - start) (omega (arith, f.ends)),
-      group_count_lem level (omega (arith, f.top)),
+      group_count_lem (r.start - end) (omega (arith, f.long, f.ends)),
+      group_count_lem (r.end - r.start) (omega (arith, f.ends)),
+      group_count_lem r.level (omega (arith, f.top)),
     ))
 
-pub record_sum : (end start stop level : ℕ)
-    → length (write_record end (stretch start stop level)) ≡ length (write_number (start - end)) + length (write_number (stop - start))
-    + length (write_number level)
+pub record_sum : (end : ℕ) (r : Stretch)
+    → length (write_record end r) ≡ length (write_number (r.start - end)) + length (write_number (r.end - r.start)) + length (write_number r.level)
 unfolding write_record
-record_sum end start stop level = simp length-append (omega arith)
+record_sum end r = simp length-append (omega arith)
 
 -- Three numbers placed one behind the other are the record placed.
-pub record_placed : (s : List ℕ) (at end start stop level : ℕ) → at + length (write_record end (stretch start stop level)) ≤ length s
-    → placed (placed (placed s at (write_number (start - end))) (at + length (write_number (start - end))) (write_number (stop - start)))
-    (at + length (write_number (start - end)) + length (write_number (stop - start))) (write_number level)
-    ≡ placed s at (write_record end (stretch start stop level))
+pub record_placed : (s : List ℕ) (at end : ℕ) (r : Stretch) → at + length (write_record end r) ≤ length s
+    → placed (placed (placed s at (write_number (r.start - end))) (at + length (write_number (r.start - end))) (write_number (r.end - r.start)))
+    (at + length (write_number (r.start - end)) + length (write_number (r.end - r.start))) (write_number r.level)
+    ≡ placed s at (write_record end r)
 unfolding write_record
-record_placed s at end start stop level h =
+record_placed s at end r h =
     placed_append (placed s at first) (at + length first) second third (omega (arith, placed_length s at first, room, length-append second third))
     ∙ placed_append s at first (second ++ third) (omega (arith, room, length-append second third))
   where
     first : List ℕ
-    first = write_number (start - end)
+    first = write_number (r.start - end)
 
     second : List ℕ
-    second = write_number (stop - start)
+    second = write_number (r.end - r.start)
 
     third : List ℕ
-    third = write_number level
+    third = write_number r.level
 
     room : at + (length first + (length second + length third)) ≤ length s
     room = simp length-append at h
@@ -78,7 +77,7 @@ records_split e (x ∷ rs) r ss = rw (records_split x.end rs r ss)
 module _ (starts ends levels : List ℕ) where
   -- Each run of a run list fits behind those before it.
   pub run_fits : (n i : ℕ) → is_run_list (first_runs starts ends levels n) ≡ true → i < n
-      → RecordFits (last_end 0 (first_runs starts ends levels i)) (get_or starts i 0) (get_or ends i 0) (get_or levels i 0)
+      → RecordFits (last_end 0 (first_runs starts ends levels i)) (run starts ends levels i)
   run_fits n i h l =
       let next = run_next starts ends levels n h i l in
       record { after = next.after; long = next.long; ends = next.ends; top = next.top }

@@ -2,13 +2,12 @@
 -- Assumes nothing.
 use Rattle.std.specs.Prelude.{ℕ, List, ◌++◌, length, drop, leb}
 use Rattle.base.specs.Answer.{Answer, accepted, refused, ◌>>=◌}
-use Rattle.refusal.specs.Refusal.{unless_refuse, refusal}
+use Rattle.refusal.specs.Refusal.{unless_refuse}
 use Rattle.refusal.specs.declared.Refusal.TheVariants as Row
 use Rattle.planning.specs.declared.Overhangs.{Overhangs}
 use Rattle.planning.specs.Envelope.{side_overhangs, accept_job}
 use Rattle.planning.specs.Required.{job_runs}
 use Rattle.schedule.specs.declared.reply.Written.{Written}
-use Rattle.schedule.specs.declared.reply.Plan.{Plan}
 use Rattle.schedule.specs.Schedule.{write_schedule}
 
 -- What plan gives for a side: the schedule, and "among the asked side's hazards, the greatest overhang in millimetres at each end".
@@ -31,10 +30,6 @@ plan s side room =
 -- "Gives the bytes written", "and the reply carries" the overhangs; a refusal carries none.
 unfoldable pub bytes_written : Answer PlannedSide → Answer Written
 bytes_written a = a >>= λ p. accepted (record { bytes = length p.schedule; overhangs = p.overhangs })
-
-abbrev pub plan_reply : Plan → Answer Written
-plan_reply (Plan.Done w) = accepted w
-plan_reply (Plan.Refused r) = refusal r
 
 -- The output memory afterwards: the schedule from its first byte and the bytes behind it untouched; unchanged after a refusal.
 abbrev pub output_after : Answer PlannedSide → (out : List ℕ) → List ℕ

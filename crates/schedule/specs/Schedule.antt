@@ -4,7 +4,8 @@ use Rattle.std.specs.Prelude.{ℕ, zero, suc, ◌+◌, ◌-◌, true, ◌≡◌,
 use Rattle.base.specs.Answer.{Answer, accepted, refused, ◌>>=◌}
 use Rattle.refusal.specs.Refusal.{unless_refuse, refusal}
 use Rattle.refusal.specs.declared.Refusal.TheVariants as Row
-use Rattle.number.specs.Number.{Reading, number_at, write_number}
+use Rattle.number.specs.declared.Reading.{Reading}
+use Rattle.number.specs.Number.{number_at, write_number}
 use Rattle.runs.specs.declared.Stretch.{Stretch}
 use Rattle.runs.specs.RunList.{most_runs, may_follow, is_run_list}
 

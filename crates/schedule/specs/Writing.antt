@@ -1,15 +1,16 @@
--- What the writer asks of a run before it writes its record.
+-- A run of a stored list, and what the writer asks of it before it writes its record.
 -- Assumes nothing.
-use Rattle.std.specs.Prelude.{ℕ, ◌≤◌, ◌<◌}
+use Rattle.std.specs.Prelude.{ℕ, ◌≤◌, ◌<◌, get_or}
 use Rattle.runs.specs.declared.Stretch.{Stretch}
+use Rattle.runs.specs.declared.RunList.{RunList}
 use Rattle.runs.specs.RunList.{last_station}
 
-abbrev pub stretch : (start end level : ℕ) → Stretch
-stretch s e l = record { start = s; end = e; level = l }
+abbrev pub run_at : RunList → ℕ → Stretch
+run_at l i = record { start = get_or l.starts i 0; end = get_or l.ends i 0; level = get_or l.levels i 0 }
 
--- The run [start, stop) lies behind `end`, and its numbers can be written.
-pub record RecordFits (end start stop level : ℕ) : Type 0 where
-  pub after : end ≤ start
-  pub long : start < stop
-  pub ends : stop ≤ last_station
-  pub top : level ≤ 6
+-- The run lies behind `end`, and its numbers can be written.
+pub record RecordFits (end : ℕ) (run : Stretch) : Type 0 where
+  pub after : end ≤ run.start
+  pub long : run.start < run.end
+  pub ends : run.end ≤ last_station
+  pub top : run.level ≤ 6

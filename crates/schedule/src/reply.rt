@@ -1,17 +1,11 @@
 // Plan's reply.
 use planning::Overhangs;
-use refusal::Refusal;
 
+// The schedule stands in the output.
 #[derive(Clone, Copy)]
 pub struct Written {
+    // The asked side's greatest overhangs.
+    pub overhangs: Overhangs,
     // How many bytes were written.
     pub bytes: usize,
-    pub overhangs: Overhangs,
-}
-
-#[derive(Clone, Copy)]
-pub enum Plan {
-    // The schedule stands in the output.
-    Done(Written),
-    Refused(Refusal),
 }

@@ -12,7 +12,7 @@ use lib.ListN.{length, get_or, set, replicate, get_or-replicate}
 use lib.Seq.{get_or-set_same, get_or-set_other}
 use lib.Dec.{ltb}
 use borrow.Author.Tests.{ltb-true, lt-ltb}
-use Rattle.base.proofs.TestLaws.{and_left, and_right, and_intro, or_cases, or_left, or_right, not_both}
+use Rattle.std.proofs.lemmas.Bool.{and_from, and_parts, both_ways, or_cases, or_left, or_right}
 use Rattle.runs.specs.declared.Stretch.{Stretch}
 use Rattle.runs.specs.Level.{required_level}
 use Rattle.runs.specs.RunList.{last_station}
@@ -168,8 +168,8 @@ module _ (es : List Stretch) (sound : AllSound es) (G t v end start : ℕ) (some
       gap : end ≤ t → (ltb t end ≡ true) ⊎ ((ltb 0 end && ltb start (end + G)) ≡ true) → Joined es v G t
       gap late (inl q) = absurd (omega (arith, ltb-true t end q))
       gap late (inr q) =
-          let close = ltb-true start (end + G) (and_right (ltb 0 end) _ q) in
-          let a = last.one (λ z. omega (arith, ltb-true 0 end (and_left _ (ltb start (end + G)) q))) in
+          let close = ltb-true start (end + G) ((and_parts (ltb 0 end) _ q).1) in
+          let a = last.one (λ z. omega (arith, ltb-true 0 end ((and_parts _ (ltb start (end + G)) q).0))) in
           let b = first.one (λ z. omega (arith, (sound a.0 a.1.0).ends, a.2)) in
           bridged a.0 b.0 a.1.0 b.1.0 (omega (arith, a.1.1)) (omega (arith, b.1.1)) (omega (arith, a.2)) b.1.2
           (omega (arith, a.2, b.2))
@@ -179,12 +179,12 @@ module _ (es : List Stretch) (sound : AllSound es) (G t v end start : ℕ) (some
       inside (no l) = gap (omega arith) (or_cases (ltb t end) _ h)
 
   joined→test : Joined es v G t → has_station end start G t ≡ true
-  joined→test (covered e m h k) = or_left _ (lt-ltb t end (omega (arith, last.each e (m, omega arith, k.0), k.1)))
+  joined→test (covered e m h k) = or_left _ _ (lt-ltb t end (omega (arith, last.each e (m, omega arith, k.0), k.1)))
   joined→test (bridged a b m o h k x y z) =
       let long = (sound a m).long in
       let ends = last.each a (m, omega arith, omega arith) in
       let starts = first.each b (o, omega arith, y) in
-      or_right (ltb t end) (and_intro (lt-ltb 0 end (omega arith)) (lt-ltb start (end + G) (omega arith)))
+      or_right (ltb t end) _ (and_from _ _ (lt-ltb 0 end (omega arith)) (lt-ltb start (end + G) (omega arith)))
 
 pub read_none : (es : List Stretch) → AllSound es → (G t : ℕ) → ReadTo es G t 6 0 no_start
 read_none es sound G t = record {
@@ -209,5 +209,5 @@ module _ (es : List Stretch) (sound : AllSound es) (near : Nearest) (G t v end s
   level_lower h = record { ends = last; starts = first; level = go (dec_le v (required_level es G t)) }
     where
       go : Dec (v ≤ required_level es G t) → required_level es G t ≤ v - 1
-      go (yes l) = absurd (not_both (joined→test es sound G t v e s some last first (level→joined es G t v (omega arith) l)) h)
+      go (yes l) = absurd (both_ways _ h (joined→test es sound G t v e s some last first (level→joined es G t v (omega arith) l)))
       go (no l) = omega arith

@@ -3,4 +3,3 @@
 
 pub mod level; // the call
 mod nearest; // the envelopes nearest to a station, and the level that they give
-pub mod reply;

@@ -8,8 +8,6 @@ ghost use Rattle.runs.specs.Keys.{keyed_envelopes, Keyed};
 ghost use Rattle.runs.specs.Sweep.{AllSound};
 ghost use Rattle.station_level.specs.Nearest.{NearestOf, has_station};
 
-use base::{max, min};
-
 // What a pass over envelopes keeps for a station, by level; a key could say level 7, but no envelope has it.
 #[derive(Clone, Copy)]
 pub struct Nearest {
@@ -26,17 +24,15 @@ fn nearest_to(keys: &[u64], lasts: &[u64], count: usize, station: u64) -> Neares
 {
     let mut ends: [u64; 8] = [0; 8];
     let mut starts: [u64; 8] = [18446744073709551615; 8];
-    let mut i = 0;
-    while i < count {
+    // By index, since an envelope stands in two slices.
+    for i in 0..count {
         let key = keys[i];
         let start = key / 2048;
-        let end = lasts[i];
         let level = (key % 8) as usize;
-        i += 1;
         if start <= station {
-            ends[level] = max(ends[level], end);
+            ends[level] = ends[level].max(lasts[i]);
         } else {
-            starts[level] = min(starts[level], start);
+            starts[level] = starts[level].min(start);
         }
     }
     Nearest { ends, starts }
@@ -59,14 +55,12 @@ fn highest_level(near: Nearest, continuity: u64, station: u64) -> u32
 {
     let mut end: u64 = 0;
     let mut start: u64 = 18446744073709551615;
-    let mut v: usize = 6;
-    while 0 < v {
-        end = max(end, near.ends[v]);
-        start = min(start, near.starts[v]);
+    for v in (1..7).rev() {
+        end = end.max(near.ends[v]);
+        start = start.min(near.starts[v]);
         if has_station(end, start, continuity, station) {
             return v as u32;
         }
-        v -= 1;
     }
     0
 }

@@ -1,75 +1,75 @@
 -- What is told of one hazard: by its envelope, and by its index in a job.
 -- Assumes nothing.
+use Rattle.std.specs.Prelude.{Some, None, if◌then◌else◌}
 use Prim.Native.Nat.{ℕ, ◌+◌, ◌-◌, ◌≤◌, max, min}
 use native.Mathlib.Omega.{arith}
 use mathlib.Core.Path.{◌≡◌, refl, sym, ap, ◌∙◌}
-use mathlib.Core.Logic.{◌⊎◌, inl, inr}
 use mathlib.Core.Bool.{Bool, true, false}
 use mathlib.Core.List.{List}
 use lib.ListN.{length}
 use lib.Dec.{ltb}
 use Rattle.base.specs.Answer.{Answer, accepted, refused, ◌>>=◌}
-use Rattle.base.proofs.TestLaws.{decided, impossible}
 use Rattle.refusal.specs.Refusal.{unless_refuse}
 use Rattle.refusal.specs.declared.Refusal.TheVariants as Row
 use Rattle.job.specs.declared.Header.{Header}
 use Rattle.job.specs.declared.Hazard.{Hazard}
 use Rattle.job.specs.Job.{Job}
-use Rattle.planning.specs.declared.own.Own.{Own}
+use Rattle.planning.specs.declared.envelope.CutEnvelope.{CutEnvelope}
+use Rattle.planning.specs.declared.accept.Indexed.{Indexed}
 use Rattle.planning.specs.Envelope.{reached, cut_to_road, cut_envelope, overhang, accept_job}
 use Rattle.planning.specs.Approached.{hazard_at}
-use Rattle.planning.specs.Own.{no_envelope, own_envelope}
-use Rattle.planning.specs.Accept.{AcceptedHazard, indexed_hazard}
+use Rattle.planning.specs.Own.{own_envelope}
+use Rattle.planning.specs.Accept.{indexed_hazard}
 use Rattle.withdrawal.specs.declared.reply.Reach.{Reach}
-use Rattle.withdrawal.specs.Reach.{lengthened_at_both_ends, withdrawal_reach, road_reach, hazard_reach, reach}
+use Rattle.withdrawal.specs.Reach.{lengthened_at_both_ends, withdrawal_reach, road_reach, no_reach, hazard_reach, reach}
 
 -- By its envelope
-module _ (h : Header) (z : Hazard) {o : Own} (is : o ≡ own_envelope h z) where
+module _ (h : Header) (z : Hazard) where
+  abbrev cut : CutEnvelope
+  cut = record { stretch = cut_envelope h z; overhangs = overhang h z }
+
   -- An envelope is found exactly where somebody reaches the hazard.
-  reached_so : (reached h z ≡ true) → o ≡ record { found = true; start = (cut_envelope h z).start; end = (cut_envelope h z).end; overhangs = overhang h z }
+  found : (e : CutEnvelope) → own_envelope h z ≡ Some e → (reached h z ≡ true) × (e ≡ cut)
   unfolding own_envelope
-  reached_so r = is ∙ rw r
+  found e is = go (reached h z) refl is
+    where
+      go : (b : Bool) → reached h z ≡ b → (if b then Some cut else None) ≡ Some e
+          → (reached h z ≡ true) × (e ≡ cut)
+      go true r q = (r, cc)
+      go false r q = cc
 
-  unreached_so : (reached h z ≡ false) → o ≡ no_envelope
+  missing : own_envelope h z ≡ None → reached h z ≡ false
   unfolding own_envelope
-  unreached_so r = is ∙ rw r
-
-  found_reached : o.found ≡ true → reached h z ≡ true
-  found_reached f = go (decided (reached h z))
+  missing is = go (reached h z) refl is
     where
-      go : (reached h z ≡ true) ⊎ (reached h z ≡ false) → reached h z ≡ true
-      go (inl r) = r
-      go (inr r) = impossible (let e = ap (λ (x : Own). x.found) (unreached_so r) in cc)
-
-  missing_unreached : o.found ≡ false → reached h z ≡ false
-  missing_unreached f = go (decided (reached h z))
-    where
-      go : (reached h z ≡ true) ⊎ (reached h z ≡ false) → reached h z ≡ false
-      go (inl r) = impossible (let e = ap (λ (x : Own). x.found) (reached_so r) in cc)
-      go (inr r) = r
+      go : (b : Bool) → reached h z ≡ b → (if b then Some cut else None) ≡ None
+          → reached h z ≡ false
+      go true r q = cc
+      go false r q = r
 
   -- It ends on the road.
-  pub found_end : o.found ≡ true → o.end ≤ h.end
+  pub found_end : (e : CutEnvelope) → own_envelope h z ≡ Some e → e.stretch.end ≤ h.end
   unfolding cut_envelope cut_to_road
-  found_end f = omega (arith, ap (λ (x : Own). x.end) (reached_so (found_reached f)))
+  found_end e is = omega (arith, ap (λ (x : CutEnvelope). x.stretch.end) (found e is).1)
 
   -- The stretch: lengthened by G at both ends, and cut.
-  pub told_found : {from to : ℕ} → o.found ≡ true → from ≡ max h.begin (o.start - h.continuity) → to ≡ min (o.end + h.continuity) h.end
-      → ◌≡◌ {A = Reach} (record { side = z.side; start = o.start; end = o.end; overhangs = o.overhangs; from = from; to = to }) (hazard_reach h z)
-  unfolding hazard_reach road_reach withdrawal_reach lengthened_at_both_ends cut_to_road
-  told_found f a b = rw (a, b, found_reached f, reached_so (found_reached f))
-
-  pub told_missing : o.found ≡ false → ◌≡◌ {A = Reach} (record { side = z.side; start = 0; end = 0; overhangs = o.overhangs; from = 0; to = 0 })
+  pub told_found : (e : CutEnvelope) → own_envelope h z ≡ Some e → {from to : ℕ} → from ≡ max h.begin (e.stretch.start - h.continuity)
+      → to ≡ min (e.stretch.end + h.continuity) h.end
+      → ◌≡◌ {A = Reach} (record { side = z.side; start = e.stretch.start; end = e.stretch.end; overhangs = e.overhangs; from = from; to = to })
       (hazard_reach h z)
+  unfolding hazard_reach road_reach withdrawal_reach lengthened_at_both_ends cut_to_road
+  told_found e is a b = rw (a, b, (found e is).0, (found e is).1)
+
+  pub told_missing : own_envelope h z ≡ None → ◌≡◌ {A = Reach} (no_reach z.side) (hazard_reach h z)
   unfolding hazard_reach
-  told_missing f = rw (missing_unreached f, unreached_so (missing_unreached f))
+  told_missing is = rw (missing is)
 
 -- By its index
 
-abbrev tell : AcceptedHazard → Answer Reach
+abbrev tell : Indexed → Answer Reach
 tell a = accepted (hazard_reach a.header a.hazard)
 
-abbrev own : Job → (i : ℕ) → AcceptedHazard
+abbrev own : Job → (i : ℕ) → Indexed
 own j i = record { header = j.header; hazard = hazard_at j i }
 
 told_indexed : (s : List ℕ) (i : ℕ) → reach s i ≡ (indexed_hazard s i >>= tell)
@@ -89,7 +89,7 @@ told_indexed s i = go (accept_job s)
     go (refused k v) = refl
 
 module _ (s : List ℕ) (i : ℕ) where
-  pub told_there : {a : AcceptedHazard} {r : Reach} → indexed_hazard s i ≡ accepted a → r ≡ hazard_reach a.header a.hazard → accepted r ≡ reach s i
+  pub told_there : {a : Indexed} {r : Reach} → indexed_hazard s i ≡ accepted a → r ≡ hazard_reach a.header a.hazard → accepted r ≡ reach s i
   told_there e q = ap accepted q ∙ sym (told_indexed s i ∙ rw e)
 
   pub told_refused : (k v : ℕ) → indexed_hazard s i ≡ refused k v → refused k v ≡ reach s i

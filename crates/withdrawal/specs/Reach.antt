@@ -2,7 +2,7 @@
 -- Assumes nothing.
 use Rattle.std.specs.Prelude.{ℕ, ◌+◌, ◌-◌, List, length, ltb, if◌then◌else◌}
 use Rattle.base.specs.Answer.{Answer, accepted, ◌>>=◌}
-use Rattle.refusal.specs.Refusal.{unless_refuse, refusal}
+use Rattle.refusal.specs.Refusal.{unless_refuse}
 use Rattle.refusal.specs.declared.Refusal.TheVariants as Row
 use Rattle.job.specs.declared.Header.{Header}
 use Rattle.job.specs.declared.Hazard.{Hazard}
@@ -10,7 +10,6 @@ use Rattle.runs.specs.declared.Stretch.{Stretch}
 use Rattle.planning.specs.Envelope.{reached, cut_to_road, cut_envelope, overhang, no_overhang, accept_job}
 use Rattle.planning.specs.Approached.{hazard_at}
 use Rattle.withdrawal.specs.declared.reply.Reach.{Reach}
-use Rattle.withdrawal.specs.declared.reply.Reached.{Reached}
 
 -- The stretch
 
@@ -54,7 +53,3 @@ reach s index =
     accept_job s >>= λ j.
     unless_refuse (ltb index (length j.hazards)) Row.Hazard >>= λ _.
     accepted (hazard_reach j.header (hazard_at j index))
-
-abbrev pub reach_reply : Reached → Answer Reach
-reach_reply (Reached.Hazard r) = accepted r
-reach_reply (Reached.Refused r) = refusal r

@@ -1,6 +1,5 @@
 // The call's reply.
 use planning::Overhangs;
-use refusal::Refusal;
 
 // How far the withdrawal of a hazard reaches; but for the side, zeros where nobody reaches the hazard.
 #[derive(Clone, Copy)]
@@ -14,10 +13,4 @@ pub struct Reach {
     // The stretch of the road outside which no level alters.
     pub from: u64,
     pub to: u64,
-}
-
-#[derive(Clone, Copy)]
-pub enum Reached {
-    Hazard(Reach),
-    Refused(Refusal),
 }

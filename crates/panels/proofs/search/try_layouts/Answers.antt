@@ -4,12 +4,12 @@ use Rattle.panels.proofs.OdometerLaws.{four_fit}
 use Rattle.panels.proofs.SearchLaws.{tried_none, tried_next}
 use Rattle.panels.proofs.search.try_layouts.Goals as goal
 
-pub loop-tries-init : goal.loop-tries-init
-loop-tries-init c = (tried_none _ _ _ c.four_lengths-panels.ensures, omega arith)
+pub loop-init : goal.loop-init
+loop-init c = tried_none _ _ _ c.four_lengths-panels.ensures
 
 pub advance-at-requires-clause-lengths_fit : goal.advance-at-requires-clause-lengths_fit
 advance-at-requires-clause-lengths_fit c = rw c.four_lengths-panels.ensures (four_fit _ c.requires.stock_lengths)
 
-pub loop-tries-preserved : goal.loop-tries-preserved
-loop-tries-preserved c =
-    (tried_next _ _ c.requires.stock_lengths (omega arith) c.loop-tries.invariant.0 c.judge-kept.ensures c.advance-at.ensures, omega arith)
+pub loop-preserved : goal.loop-preserved
+loop-preserved c =
+    tried_next _ _ c.requires.stock_lengths (omega arith) c.loop.invariant c.judge.ensures.covers c.judge.ensures.judged c.advance-at.ensures

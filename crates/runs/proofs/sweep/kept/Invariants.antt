@@ -1,11 +1,8 @@
 -- What is cut off from the first k break points leaves what it leaves of all.
 -- Assumes nothing.
-use Rattle.std.proofs.Common.{◌≡◌, ℕ, ◌≤◌, List}
+use Rattle.std.proofs.Common.{◌≡◌, ℕ, List}
 use Rattle.runs.specs.Breaks.{breaks_to, breaks_before}
 use Rattle.runs.proofs.sweep.kept.Given as goal
 
 abbrev pub invariant-loop-k : goal.invariant-loop-k
-invariant-loop-k l = (l.k ≤ l.count) × ((levels : List ℕ) → breaks_before l.t (breaks_to l.starts levels l.k) ≡ breaks_before l.t (breaks_to l.starts levels l.count))
-
-abbrev pub decreases-loop-k : goal.decreases-loop-k
-decreases-loop-k l = l.k
+invariant-loop-k l = (levels : List ℕ) → breaks_before l.t (breaks_to l.starts levels l.k) ≡ breaks_before l.t (breaks_to l.starts levels l.count)

@@ -8,7 +8,7 @@ returns-then-level_before-level c =
     let a = c.args in
     let k = c.kept-k in
     let before = c.level_before.ensures a.starts.now in
-    (omega arith, set_same a.starts.now a.levels.now a.t a.v k.result a.count (k.ensures.1 a.levels.now) (omega (arith, before)))
+    (omega arith, set_same a.starts.now a.levels.now a.t a.v.number k.result a.count (k.ensures.1 a.levels.now) (omega (arith, before)))
 
 pub returns : goal.returns
 returns c =
@@ -16,6 +16,6 @@ returns c =
     let k = c.kept-k in
     let before = c.level_before.ensures a.starts.now in (
       omega arith,
-      set_push a.starts.now a.levels.now a.t a.v k.result a.count (k.ensures.1 a.levels.now)
+      set_push a.starts.now a.levels.now a.t a.v.number k.result a.count (k.ensures.1 a.levels.now)
           (λ e. c.if-level_before-level.false (before ∙ e)) (omega arith) (omega arith),
     )
