@@ -7,7 +7,8 @@ ghost use Rattle.approach.specs.Approach.{formula_length, approach_length};
 ghost use Rattle.approach.specs.Panel.{raised_length};
 ghost use Rattle.approach.specs.Steps.{flare_across, InDomain};
 
-// What an approach length goes by, in millimetres but for the flare, which is a ratio.
+// What an approach length goes by, in millimetres but for the flare, which is a ratio. Its domain is asked by the methods, whose promises others name, and
+// is no fact of the struct.
 #[derive(Clone, Copy)]
 pub struct Approach {
     // The flare runs `across` for `along` (b for a), after a straight part T.

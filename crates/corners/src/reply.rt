@@ -19,7 +19,7 @@ pub struct Corners {
 }
 
 impl Corners {
-    // Zeros, for a reply that has no corners.
+    // Zeros, for a reply of C that has no corners.
     pub fn none() -> Corners
         ensures { result ≡ corners_as no_points }
     {

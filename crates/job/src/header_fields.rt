@@ -15,6 +15,7 @@ pub struct HeaderReading {
     pub next: usize,
 }
 
+// `open_memory` tests the same ranges, all at once; reading stops at the first number that is out of its range, so it goes by this table.
 // The header table's ranges of kind 2, where the road begins at 0. Kind 1 has no panel length, and its hazard count is number 14.
 const RANGES: [Bounds; 15] = [
     Bounds { low: 1, high: 2 }, // 1: kind

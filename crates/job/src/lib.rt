@@ -21,6 +21,7 @@ pub struct Bounds {
 #[repr(C)]
 #[derive(Clone, Copy)]
 pub struct Header {
+    // 1 or 2. Kind, side and level are numbers, because the structs of C and an open job's memory have them so.
     pub kind: u64,
     // A and B: the road is [begin, end).
     pub begin: u64,

@@ -47,7 +47,12 @@ pub struct Places<'a> {
 // The hazard with this index, read from byte index `at` on. Reading is compiled into each walk, because calls take 40 to 50 instructions
 // more per hazard; kept apart from `next`, because two exits there take up to 17 more.
 #[inline(always)]
-fn next_hazard(s: &[u8], at: usize, header: &Header, index: usize) -> Result<HazardReading, Refusal>
+pub fn next_hazard(
+    s: &[u8],
+    at: usize,
+    header: &Header,
+    index: usize,
+) -> Result<HazardReading, Refusal>
     requires { 0 < header.now.end }
     ensures { answer_of result ≡ read_hazard_at header.now index s.now at }
 {

@@ -84,7 +84,7 @@ fn read_stations(s: &[u8], at: usize) -> Option<Stations>
 }
 
 // The hazard whose first number begins at byte index first, if it is of the usual form, in its ranges, and 18 bytes stand from there on.
-// Compiled into each walk.
+// It is no twin of `read_hazard`: it reads words at once and gives up where the form is another. Compiled into each walk.
 #[inline(always)]
 pub fn read_usual(s: &[u8], first: usize, header: Header) -> Option<HazardReading>
     requires { 0 < header.end }

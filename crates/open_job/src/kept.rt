@@ -55,7 +55,8 @@ fn hazards_held(used: u64, count: u64) -> Option<usize>
     }
 }
 
-// Tests a kept state: it must be nothing, or an open job under the header that the limits are of.
+// Tests a kept state: it must be nothing, or an open job under the header that the limits are of. `above` is lent, because a constant would be made anew at
+// each place.
 pub fn is_sound(limits: Limits, kept: &KeptState, above: &u32) -> bool
     requires { above.now ≡ 65537 }
     ensures { result ≡ passes limits kept.now }

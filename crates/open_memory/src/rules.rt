@@ -18,7 +18,8 @@ pub struct Limits {
     pub near: u64,
 }
 
-// Each of the thirteen header numbers that every kind has lies in its range, in the table's order.
+// Each of the thirteen header numbers that every kind has lies in its range, in the table's order. All are tested at once, where a reader
+// stops at the first.
 fn shared_in_range(h: Header) -> bool
     ensures { result ≡ in_ranges next_in_header [] (shared_numbers h) }
 {

@@ -32,7 +32,7 @@ pub struct Indexed {
 
 // A side, 0 or 1, of the job behind a header, by its hazards in a window; or the first refusal of 1, 2, 4, 5 and 7. The envelopes' keys and ends stand
 // in the first places of the arrays.
-// The header's ranges stay a clause because `walk`, which this calls, has it so.
+// The header's ranges stay a clause because `walk`, which this calls, has it so. The side is a number, because the definitions speak of every number.
 pub fn side_behind<S: Hazards>(
     source: &mut S,
     header: Header,

@@ -17,7 +17,7 @@ pub struct Stretch {
     pub level: u32,
 }
 
-// The first `count` entries are the runs, rising. That they are a run list is a fact of `listed::Runs`: here it would not hold while the sweep fills a list
+// The first `count` entries are the runs, rising, in arrays of 512, which document 01 asks for. That they are a run list is a fact of `listed::Runs`: here it would not hold while the sweep fills a list
 // that is lent to it, and a list made from arrays filled before takes two copies and 15 KB of stack more in plan.
 #[derive(Clone, Copy)]
 pub struct RunList {

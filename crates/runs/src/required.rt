@@ -11,7 +11,7 @@ use super::envelopes::Envelopes;
 use super::sort::sort;
 use super::sweep::swept_runs;
 
-// Keys rise as the starts do; a key says where its envelope's end stands.
+// Keys rise as the starts do; a key says where its envelope's end stands. Three numbers are one, because they are sorted as one.
 pub fn key_of(start: u64, level: u8, index: usize) -> u64
     requires start_le_last_station { start ≤ last_station }
     requires index_bound { index < 256 }

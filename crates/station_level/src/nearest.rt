@@ -8,7 +8,8 @@ ghost use Rattle.runs.specs.Keys.{keyed_envelopes, Keyed};
 ghost use Rattle.runs.specs.Sweep.{AllSound};
 ghost use Rattle.station_level.specs.Nearest.{NearestOf, has_station};
 
-// What a pass over envelopes keeps for a station, by level; a key could say level 7, but no envelope has it.
+// What a pass over envelopes keeps for a station, by level; a key could say level 7, but no envelope has it. For none
+// there are numbers, which max and min leave out by themselves.
 #[derive(Clone, Copy)]
 pub struct Nearest {
     // The last end of the envelopes that start at or before the station: one that has it, or the nearest before it; 0 for none.
