@@ -1,5 +1,6 @@
 """against_machine.py LIBRARY SECONDS SEED RLIBS..: the calls of barrier.h, interpreted from the MIR (machine.py), beside the same calls of a shared library made from
-barrier_engine.c: the reply and every byte of lent memory. It goes on for the seconds, and until every function that the calls reach has run; it fails where one never does.
+barrier_engine.c: the reply and every byte of lent memory. It goes on for the seconds, and until every function that the calls reach has run, a generic one at all
+types and dictionaries that C has it for; it fails where one never does.
 """
 import ctypes
 import pathlib
@@ -10,7 +11,9 @@ import time
 from machine import Machine, Stuck
 
 sys.path.insert(0, str(pathlib.Path(__file__).resolve().parent.parent / 'translator'))
-from program import read_crates, origins  # noqa: E402
+from instantiate import Instances, text  # noqa: E402
+from layout import Types  # noqa: E402
+from program import read_crates, origins, reached  # noqa: E402
 
 PATIENCE = 300      # seconds, after which functions that have not run are a failure
 
@@ -108,7 +111,7 @@ class Compare:
         return b''.join(map(number, h)) + b''.join(number(x) for s in starts for x in [0, s, s + 1 + self.r.randrange(4), 1000, 2000, self.r.randint(1, 6)])
 
     def chosen(self):
-        """What random jobs seldom have: a hazard nearer than the barrier can deflect, an opening with a hazard, the sort's boxes."""
+        """What random jobs seldom have: a hazard nearer than the barrier can deflect, an opening with a hazard or without a header, the sort's boxes."""
         header = [1, 0, 1000000, 101000, 0, 9000, 0, 3000, 1000, 15, 1, 13340, 0]
         near = b''.join(map(number, header + [2, 0, 200000, 210000, 5000, 9000, 3, 1, 300000, 310000, 3999, 9000, 3]))
         for call, more in (('plan', (0, bytearray(20))), ('level', (0, 5)), ('corners', (0, 0, 0)), ('offset', (0, 0))):
@@ -116,6 +119,7 @@ class Compare:
         for kind in ([1], [2]):
             panel = [4000] if kind == [2] else []
             self.both('open', ('job', bytearray(OPEN_JOB)), b''.join(map(number, kind + header[1:] + panel + [1])))
+        self.both('open', ('job', bytearray(OPEN_JOB)), b'')
         self.both('plan', near[:-1], 0, bytearray(20))
         self.both('quantities', b'\0', 0, [])
         self.both('layout', [], 0, 1)
@@ -149,7 +153,7 @@ class Compare:
         self.both('open', ('job', memory), b''.join(map(number, header + [0])))
         for name, hazard in zip((7, 1020, 3, 65535), hazards):
             self.both('add', ('job', memory), ('u16', name), ('hazard', hazard))
-        for call, more in (('keep', 2), ('keep', 9), ('return', 3)):
+        for call, more in (('keep', 2), ('keep', 9), ('return', 3), ('return', 9)):
             self.both(call, ('job', memory), more)
         self.both('withdraw', ('job', memory), ('u16', 1020))
         self.both('withdraw', ('job', memory), ('u16', 1020))
@@ -217,21 +221,43 @@ class Compare:
 STUCK = 'core::assertions::unreachable'
 
 
+def dictionary(d):
+    impl, types, dicts = d['Impl']
+    return impl, tuple(map(text, types)), tuple(map(dictionary, dicts))
+
+
+def instance(name, types, dicts):
+    """A function at its arguments, without the lifetimes, which are written otherwise at each call."""
+    return name, tuple(map(text, types)), tuple(map(dictionary, dicts))
+
+
+def instances(functions):
+    """instance -> its name, of all that the calls reach but what no run can call: as many as C has functions of them."""
+    made = Instances(functions, Types())
+    names = [name for name in reached(made, functions.of('barrier_engine')) if made.origin(name) != STUCK]
+    found = {instance(*made.asked.get(name, (name, [], []))): name for name in names}
+    if len(found) != len(names):
+        sys.exit('machine: two instances of a function are taken for one')
+    return found
+
+
 def main():
     library, seconds, seed, folders = sys.argv[1], float(sys.argv[2]), int(sys.argv[3]), sys.argv[4:]
     sys.setrecursionlimit(20000)
     functions = read_crates(folders, 'barrier_engine')
-    names = origins(functions, functions.of('barrier_engine'))
-    machine = Machine({n: functions[n] for n in names})
+    wanted = instances(functions)
+    machine = Machine({n: functions[n] for n in origins(functions, functions.of('barrier_engine'))})
     compare, begin = Compare(machine, library, seed), time.time()
     compare.chosen()
-    never = names = [n for n in names if n != STUCK]
+    never = wanted.values()
     while never or time.time() < begin + seconds:
         compare.round()
-        never = [n for n in names if n not in machine.calls]
+        ran = {instance(*called) for called in machine.ran}
+        never = [name for key, name in wanted.items() if key not in ran]
         if time.time() > begin + PATIENCE:
             sys.exit('machine: never run in %d s: %s' % (PATIENCE, ', '.join(never)))
-    print('machine: %d calls interpreted from the MIR, the same in C, %d of %d functions run (seed %d)' % (compare.count, len(names) - len(never), len(names), seed))
+    print('machine: %d calls interpreted from the MIR, the same in C, %d of %d functions run, the generic ones at each of their types (seed %d)'
+          % (compare.count, len(wanted) - len(never), len(wanted), seed))
 
 
 if __name__ == '__main__':

@@ -40,6 +40,7 @@ class Machine:
     def __init__(self, functions):
         self.functions, self.shapes, self.impls, self.blocks, self.calls, self.next = functions, {}, {}, {}, {}, 0
         self.sizes, self.rowed, self.tags, self.instances, self.masks, self.shaped = {}, {}, {}, {}, {}, {}
+        self.ran = []       # (function, types, dictionaries) of each instance that was called
         for name, f in functions.items():
             for t in f['types']:
                 self.shapes[t['name']] = t['shape']
@@ -54,6 +55,7 @@ class Machine:
             if len(types) != len(f['generics']['types']) or len(dicts) != len(f['generics']['bounds']):
                 raise Stuck('a call at other arguments than %s takes' % name)
             self.instances[key] = f, [filled(l['ty'], types, dicts) for l in f['locals']], self.tree(iter(filled(f['body'], types, dicts)))
+            self.ran.append((name, types, dicts))
         return self.instances[key]
 
     def tree(self, tokens):

@@ -5,8 +5,8 @@ is made of. `lang/antt/made.json` has the toolchain's record of what each of the
 names, `Statement`, `Met` and the contract's `Key` name the function whose theorem it is. `toolchain/made.json` says where in that file a record stands, and its
 SHA-256. For every function that the engine's calls reach, those of the toolchain's own library too, this program sees that the record is the one of that sum, and that
 the two are equal: types, locals and their homes, parameters and every construct of the body. It sees too that the checked modules, the theorem's own among them, are
-there; of the toolchain's own library the kit has those that state a theorem, and not its proof. Then one number in each crate's mir.json is changed, and that has to be
-found.
+there; of the toolchain's own library the kit has those that state a theorem, and not its proof. Two kinds have no theorem of their own: CODE_ALONE, whose statement is
+part of those that call it, and the drop of what holds nothing, which does nothing. Then one number in each crate's mir.json is changed, and that has to be found.
 
 Of the checked modules it sees that the file that holds them, `toolchain/checked.a`, reaches where they stand in it; it does not read them. That they hold what the records say, and that the prover reads them as they stand, is the
 toolchain's to see to, as every proof is.
@@ -69,6 +69,9 @@ def with_symbols(rlibs, body):
             for x in body]
 
 
+# The function of the toolchain's own library of which the kit has the code alone: it is not public.
+CODE_ALONE = 'core::clone::surely'
+
 NOTHING = ['Seq', 'Seq', 'Skip', {'Assign': [{'local': 0, 'steps': []}, {'Opd': 'Unit'}]}, 'Return']
 
 
@@ -82,7 +85,7 @@ def theorem(rlibs, name):
         return None
     f = read['Code/Mir']['Mir']['function']
     # To drop what holds nothing is to do nothing, of which there is no theorem.
-    if not read['Statement'] and f['body'] == NOTHING:
+    if name.endswith('::drop') and not read['Statement'] and f['body'] == NOTHING:
         return f
     if not all(read[part] and read[part][part]['symbol'] == name for part in ('Statement', 'Met')):
         return None
@@ -92,8 +95,7 @@ def theorem(rlibs, name):
         return None
     module = 'Rattle-%s-proofs.%s' % (crate, '.'.join(path))
     whole = all('%s.%s' % (module, part) in of.checked for part in ('Code.Mir', 'Code', 'Statement', 'Proof', 'Met'))
-    # Of the toolchain's own functions that are not public it has the code alone; their statements are part of those that call them.
-    stated = crate == 'core' and 'part/%s.Code' % module in of.checked
+    stated = crate == 'core' and all('part/%s.%s' % (module, part) in of.checked for part in (('Code',) if name == CODE_ALONE else ('Code', 'Statement', 'Met')))
     return dict(f, types=types, body=with_symbols(rlibs, f['body'])) if whole or stated else None
 
 

@@ -65,7 +65,7 @@ fn fill(job: &[u8], text: &mut [u8]) -> usize
     report::report(job, text).unwrap_or(0)
 }
 
-// From the input to the output: the report of the bytes that the input has given, at most so many, and nothing else.
+// From the input to the output: the report of the bytes that the input has given, at most so many, and nothing else, where all is written.
 fn run<R: Read, W: Write>(input: &mut R, output: &mut W) -> io::Result<()>
     ensures { OnOk result (Passes (R.remaining input.old) (R.remaining input.new) (W.contents output.old) (W.contents output.new)) }
 {

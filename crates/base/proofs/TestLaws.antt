@@ -1,6 +1,8 @@
 -- Tests as facts: `&&`, `||`, `some_of` and `filter`.
 -- Assumes nothing.
 use Rattle.std.specs.Prelude.{if◌then◌else◌}
+use Prim.Native.Nat.{ℕ}
+use native.Mathlib.Omega.{arith}
 use mathlib.Core.Path.{◌≡◌, refl, sym, subst, ap}
 use mathlib.Core.Logic.{◌⊎◌, inl, inr}
 use mathlib.Core.Bool.{Bool, true, false, ◌&&◌, not, false≢true}
@@ -9,6 +11,10 @@ use mathlib.Core.List.Memᴰ
 use mathlib.Core.List.{List, [], ◌∷◌, ◌++◌, Memᴰ}
 use Rattle.std.proofs.lemmas.Bool.{or_cases, or_left, or_right}
 use Rattle.base.specs.Choice.{some_of, filter, Passing}
+
+-- Facts that contradict each other, of whatever data: `cc` finds 0 ≡ 1 in them.
+pub impossible : {C : Type 0} → ◌≡◌ {A = ℕ} 0 1 → C
+impossible e = absurd (omega arith)
 
 -- two tests that pass together
 pub same_test : (a b : Bool) → (a ≡ true → b ≡ true) → (b ≡ true → a ≡ true) → a ≡ b

@@ -16,6 +16,7 @@ pub struct HazardReading {
     pub hazard: Hazard,
 }
 
+// `open_memory` tests the same ranges, all at once (`stored_hazard`); reading goes number by number, and `in_range` is for the usual form.
 // The range of the hazard number behind k others, where the hazard begins at start, at the near offset near; these go for the numbers behind them.
 pub fn hazard_range(k: usize, header: Header, start: u64, near: u64) -> Bounds
     requires k_bound { k < 6 }

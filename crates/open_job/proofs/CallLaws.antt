@@ -1,14 +1,14 @@
 -- The calls, step by step: the memory, the name, the hazard, and what is then made.
 -- Assumes nothing.
-use Prim.Native.Nat.{ℕ, ◌≤◌, ◌<◌, ◌*◌}
+use Prim.Native.Nat.{ℕ, ◌≤◌, ◌<◌}
 use native.Mathlib.Omega.{arith}
 use mathlib.Core.Path.{◌≡◌, refl, sym, subst, ap, ◌∙◌}
 use mathlib.Core.Bool.{Bool, true, false}
-use mathlib.Core.List.{List, [], ◌∷◌, append-nil, Memᴰ}
+use mathlib.Core.List.{List, [], ◌∷◌, append-nil}
 use lib.ListN.{length, get_or, take, get_or-map}
 use lib.Seq.{get_or-take}
 use lib.Dec.{leb, eqb}
-use borrow.Author.Tests.{le-leb, eqb-true}
+use borrow.Author.Tests.{eqb-true}
 use Rattle.base.specs.Answer.{Answer, accepted, refused, ◌>>=◌}
 use Rattle.base.specs.Stored.{accepted_or}
 use Rattle.refusal.specs.Refusal.{unless_refuse, refusal}
@@ -27,8 +27,7 @@ use Rattle.job.specs.Reply.{unused, header_reading, header_at, job_header, read_
 use Rattle.job.specs.Hazards.{PlacesFit, stored_rest}
 use Rattle.job.proofs.JobLaws.{job_fits}
 use Rattle.job.proofs.OpeningLaws.{job_header_lem}
-use Rattle.planning.specs.Envelope.{side_overhangs, stands_near, test_hazard, test_hazards, accept_job}
-use Rattle.planning.specs.Required.{job_runs}
+use Rattle.planning.specs.Envelope.{stands_near, test_hazard, test_hazards, accept_job}
 use Rattle.planning.specs.declared.window.Window.{Window}
 use Rattle.planning.specs.Accept.{side_within, side_of_job}
 use Rattle.planning.specs.Rows.{AcceptedFits}

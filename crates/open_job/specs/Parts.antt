@@ -1,6 +1,6 @@
 -- The steps of the calls on the parts of the memory, one state at a time.
 -- Assumes nothing.
-use Rattle.std.specs.Prelude.{Option, Some, None, ℕ, ◌≡◌, Bool, false, ◌&&◌, List, leb, eqb, set, replicate, if◌then◌else◌}
+use Rattle.std.specs.Prelude.{Option, Some, None, ℕ, ◌≡◌, Bool, false, ◌&&◌, List, leb, eqb, get_or, set, replicate, if◌then◌else◌}
 use Rattle.base.specs.Choice.{all_of}
 use Rattle.base.specs.Answer.{Answer, accepted, ◌>>=◌, is_accepted, replied}
 use Rattle.job.specs.declared.Header.{Header}
@@ -56,13 +56,17 @@ module _ (m : OpenStates) where
   abbrev pub Carries : Answer StoredJob → Answer OpenStates → Type 0
   Carries part whole = (states_from (memory_after part m.present) (kept_states m) ≡ memory_after whole as_eight) × (replied part ≡ replied whole)
 
-  -- The memory after a keep: where it is done, the present state is kept under the number; else as it was.
+  -- The memory after a keep: where it is done, the present state is put into the array under the number; else as it was.
   abbrev pub after_keep : (done : Bool) (number : ℕ) → OpenStates
-  after_keep done number = if done then states_from m.present (set (kept_states m) number (kept_from m.present)) else as_eight
+  after_keep done number = if done then record { present = m.present; kept = set m.kept number (kept_from m.present) } else m
 
   -- A keep that the test of its number answers so is the call on the whole memory.
   abbrev pub Keeps : (number : ℕ) → Answer (Unit {0}) → Answer OpenStates → Type 0
-  Keeps number part whole = (after_keep (is_accepted (replied part)) number ≡ memory_after whole as_eight) × (replied part ≡ replied whole)
+  Keeps number part whole = (after_keep (is_accepted (replied part)) number ≡ memory_after whole m) × (replied part ≡ replied whole)
+
+  -- What is found in the array under a number; nothing behind its end.
+  abbrev pub looked_for : (number : ℕ) → KeptState
+  looked_for number = get_or m.kept number nothing_kept
 
   -- The memory after an opening: where it is done, this present state, and nothing kept; else as it was.
   abbrev pub after_opening : (done : Bool) → StoredJob → OpenStates

@@ -89,11 +89,7 @@ pub fn reach(sound: bool, job: StoredJob, name: u16) -> Result<Reach, Refusal>
 pub fn test_state(sound: bool, job: StoredJob, number: u64) -> Result<(), Refusal>
     ensures { answer_of result ≡ under_rules (is_open_job job && sound) (test_state number) }
 {
-    if keeps_rules(sound, job) {
-        tested::test_state(number)
-    } else {
-        Err(Refusal::HeaderRange(0))
-    }
+    tested::test_state(keeps_rules(sound, job), number)
 }
 
 // A return to what was found under the number: the same tests, and 13 where nothing is kept.
@@ -105,9 +101,5 @@ pub fn return_to(
 ) -> Result<StoredJob, Refusal>
     ensures { answer_of result ≡ under_rules (is_open_job job && sound) (kept_job job.header number kept) }
 {
-    if keeps_rules(sound, job) {
-        tested::return_to(job.header, number, kept)
-    } else {
-        Err(Refusal::HeaderRange(0))
-    }
+    tested::return_to(keeps_rules(sound, job), job.header, number, kept)
 }

@@ -8,7 +8,8 @@ use job::{Header, StoredJob, UNUSED};
 use open_memory::places::with_count;
 use open_memory::rules::{Limits, places_pass};
 
-// The open job, kept.
+// The open job, kept. Compiled apart, because what it gives would else be copied within the caller's memory, for which the archive would need C's memmove.
+#[inline(never)]
 pub fn kept_from(present: StoredJob) -> KeptState
     ensures { result ≡ kept_from present }
 {
@@ -21,7 +22,8 @@ pub fn kept_from(present: StoredJob) -> KeptState
     }
 }
 
-// The open job that is kept.
+// The open job that is kept. Compiled apart, as `kept_from`.
+#[inline(never)]
 pub fn state_of(header: Header, kept: KeptState) -> StoredJob
     ensures { result ≡ state_of header kept }
 {

@@ -12,7 +12,7 @@ ghost use Rattle.open_job.specs.Parts.{passes};
 ghost use Rattle.open_job.specs.Calls.{memory_after, open_states, add_in, withdraw_in, schedule_in, reach_in, keep_in, return_in};
 
 use super::kept::{is_sound, kept_from, kept_under, nothing_kept};
-use super::tested::{OpenJob, return_to, test_state};
+use super::tested::OpenJob;
 use super::{KeptState, OpenStates, calls};
 use open_memory::GivenHazard;
 use open_memory::places::empty_state;
@@ -113,7 +113,10 @@ impl OpenStates {
         ensures reply { replied (answer_of result) ≡ replied (keep_in self.old number) }
     {
         self.test()?;
-        test_state(number)?;
+        let present = OpenJob {
+            state: self.present,
+        };
+        present.test_state(number)?;
         let new = kept_from(self.present);
         self.kept[number as usize] = new;
         Ok(())
@@ -125,8 +128,11 @@ impl OpenStates {
         ensures reply { replied (answer_of result) ≡ replied (return_in self.old number) }
     {
         self.test()?;
+        let present = OpenJob {
+            state: self.present,
+        };
         let found = kept_under(&self.kept, number);
-        self.present = return_to(self.present.header, number, found)?;
+        self.present = present.return_to(number, found)?;
         Ok(())
     }
 

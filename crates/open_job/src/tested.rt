@@ -7,7 +7,7 @@ ghost use Rattle.job.specs.Fits.{header_in_range};
 ghost use Rattle.schedule.specs.Plan.{plan, bytes_written, output_after};
 ghost use Rattle.open_memory.specs.Memory.{hazard_given, is_open_job};
 ghost use Rattle.open_job.specs.Parts.{admitted};
-ghost use Rattle.open_job.specs.Calls.{add_to, withdraw_from, reach_under, test_state, kept_job};
+ghost use Rattle.open_job.specs.Calls.{under_rules, add_to, withdraw_from, reach_under, test_state, kept_job};
 
 use super::KeptState;
 use super::kept::{is_used, state_of};
@@ -129,12 +129,29 @@ impl OpenJob {
             Err(Refusal::Name(name as usize))
         }
     }
+
+    // Tests the number of a state: 13 above 7.
+    pub fn test_state(&self, number: u64) -> Result<(), Refusal>
+        ensures { answer_of result ≡ test_state number }
+    {
+        test_state(true, number)
+    }
+
+    // The state that was found under a number, with the header of the present state. Refuses 13 for a number above 7, and where nothing is kept.
+    pub fn return_to(&self, number: u64, kept: KeptState) -> Result<StoredJob, Refusal>
+        ensures { answer_of result ≡ kept_job self.now.state.header number kept }
+    {
+        return_to(true, self.state.header, number, kept)
+    }
 }
 
-// Tests the number of a state: 13 above 7.
-pub fn test_state(number: u64) -> Result<(), Refusal>
-    ensures { answer_of result ≡ test_state number }
+// Tests the number of a state: 13 above 7. `passed` says whether the memory keeps the rules; where it does not, 3 with 0 comes first.
+pub fn test_state(passed: bool, number: u64) -> Result<(), Refusal>
+    ensures { answer_of result ≡ under_rules passed (test_state number) }
 {
+    if !passed {
+        return Err(Refusal::HeaderRange(0));
+    }
     if number <= 7 {
         Ok(())
     } else {
@@ -142,11 +159,16 @@ pub fn test_state(number: u64) -> Result<(), Refusal>
     }
 }
 
-// The state that was found under a number, with the header of the present state. Refuses 13 for a number above 7, and where nothing is kept.
-pub fn return_to(header: Header, number: u64, kept: KeptState) -> Result<StoredJob, Refusal>
-    ensures { answer_of result ≡ kept_job header number kept }
+// The state that was found under a number, with this header. Refuses as `test_state` does, and 13 where nothing is kept.
+pub fn return_to(
+    passed: bool,
+    header: Header,
+    number: u64,
+    kept: KeptState,
+) -> Result<StoredJob, Refusal>
+    ensures { answer_of result ≡ under_rules passed (kept_job header number kept) }
 {
-    test_state(number)?;
+    test_state(passed, number)?;
     if is_used(kept) {
         Ok(state_of(header, kept))
     } else {

@@ -110,7 +110,17 @@ module _ (h : Header) (side : ℕ) (w : Window) (z : Hazard) (hf : HeaderFits h)
       rw (given_own h side w z e o p).is (omega (arith, road.road, road.road_end, b.long, b.ends))
 
   -- It is taken.
-  module _ {keys ends : List ℕ} {count index : ℕ} (ready : SideReady keys ends count h index) (more : index < h.count) where
+  module _ {keys ends : List ℕ} {count index : ℕ} (ready : SideReady keys ends count side h index) (more : index < h.count) where
+    low : side ≤ 1
+    low = omega (arith, (given_own h side w z e o p).on, (hazard_bounds h z zf).side)
+
+    -- There is room for it.
+    pub room_keys : count < length keys
+    room_keys = omega (arith, ready.few, ready.for_keys low, more)
+
+    pub room_ends : count < length ends
+    room_ends = omega (arith, ready.few, ready.for_ends low, more)
+
     pub few : count < 256
     few = omega (arith, ready.few, more, (header_bounds h hf).count)
 
@@ -118,21 +128,19 @@ module _ (h : Header) (side : ℕ) (w : Window) (z : Hazard) (hf : HeaderFits h)
         → side_took (set keys count (key_of e.start e.level count)) (set ends count e.end) (count + 1) new side w h (zs ++ z ∷ [])
     side_more sum new is_new zs took =
         (λ i. record {
-          envelopes = keyed_more keys ends count ready.keyed e few (omega (arith, ready.few, ready.for_keys, more))
-              (omega (arith, ready.few, ready.for_ends, more)) (omega (arith, given_level)) i;
+          envelopes = keyed_more keys ends count ready.keyed e few room_keys room_ends (omega (arith, given_level)) i;
           overhangs = is_new i;
         })
         ∙ ap (λ (c : Cuts). c followed_by record { envelopes = e ∷ []; overhangs = o }) took
         ∙ ap (λ (c : Cuts). cuts_of h side (standing_in w zs) followed_by c) p
         ∙ sym (cuts_last h side w zs z)
 
-    pub side_ready : SideReady (set keys count (key_of e.start e.level count)) (set ends count e.end) (count + 1) h (index + 1)
+    pub side_ready : SideReady (set keys count (key_of e.start e.level count)) (set ends count e.end) (count + 1) side h (index + 1)
     side_ready = record {
-      keyed = more_keyed keys ends count ready.keyed e few (omega (arith, ready.few, ready.for_keys, more))
-          (omega (arith, ready.few, ready.for_ends, more)) (omega (arith, given_level));
+      keyed = more_keyed keys ends count ready.keyed e few room_keys room_ends (omega (arith, given_level));
       few = omega (arith, ready.few);
-      for_keys = omega (arith, ready.for_keys, length-set keys count (key_of e.start e.level count));
-      for_ends = omega (arith, ready.for_ends, length-set ends count e.end);
+      for_keys = λ l. omega (arith, ready.for_keys l, length-set keys count (key_of e.start e.level count));
+      for_ends = λ l. omega (arith, ready.for_ends l, length-set ends count e.end);
     }
 
 -- A hazard that gives no envelope.

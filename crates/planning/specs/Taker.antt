@@ -13,15 +13,15 @@ use Rattle.planning.specs.Reply.{Cuts, cuts_of}
 
 -- The envelopes of a side
 
--- The arrays have room for the envelopes of the hazards from an index on, and those taken say their own indices.
-pub record SideReady (keys ends : List ℕ) (count : ℕ) (h : Header) (index : ℕ) : Type 0 where
+-- The arrays have room for the envelopes of the hazards from an index on, and those taken say their own indices. A side above 1 has none.
+pub record SideReady (keys ends : List ℕ) (count side : ℕ) (h : Header) (index : ℕ) : Type 0 where
   pub keyed : Keyed keys ends count
   pub few : count ≤ index
-  pub for_keys : h.count ≤ length keys
-  pub for_ends : h.count ≤ length ends
+  pub for_keys : side ≤ 1 → h.count ≤ length keys
+  pub for_ends : side ≤ 1 → h.count ≤ length ends
 
 -- A hazard that gives no envelope leaves the room.
-pub side_passed_by : {keys ends : List ℕ} {count : ℕ} {h : Header} {index : ℕ} → SideReady keys ends count h index → SideReady keys ends count h (index + 1)
+pub side_passed_by : {keys ends : List ℕ} {count side : ℕ} {h : Header} {index : ℕ} → SideReady keys ends count side h index → SideReady keys ends count side h (index + 1)
 side_passed_by r = record { keyed = r.keyed; few = omega (arith, r.few); for_keys = r.for_keys; for_ends = r.for_ends }
 
 -- Envelopes in two arrays, and the greatest overhangs among them.

@@ -44,7 +44,7 @@ fn greater_of(a: Overhangs, b: Overhangs) -> Overhangs
 }
 
 impl<'a> Taker for SideTaker<'a> {
-    ghost ready = { λ t h index. SideReady t.keys.now t.ends.now t.count h index };
+    ghost ready = { λ t h index. SideReady t.keys.now t.ends.now t.count t.side h index };
 
     ghost took = { λ t h zs. side_took t.keys.now t.ends.now t.count t.overhangs t.side t.window h zs };
 

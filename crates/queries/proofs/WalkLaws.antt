@@ -3,8 +3,9 @@
 use Prim.Native.Nat.{ℕ, ◌+◌, ◌≤◌, ◌<◌}
 use native.Mathlib.Omega.{arith}
 use native.Mathlib.Decide.{dec_lt}
-use Rattle.std.specs.Prelude.{Result, Ok, Err}
-use mathlib.Core.Path.{◌≡◌, refl, sym, ◌∙◌}
+use Rattle.std.specs.Prelude.{Option, Some, Result, Ok, Err}
+use Rattle.std.specs.Result.{result_ok}
+use mathlib.Core.Path.{◌≡◌, refl, sym, ap, ◌∙◌}
 use mathlib.Core.Bool.{Bool, true, false}
 use mathlib.Core.List.{List, ◌∷◌, ◌++◌}
 use lib.ListN.{length, get_or, drop}
@@ -33,6 +34,14 @@ NoNumber r = (a : Reading) → r ≡ Ok a → ⊥
 pub no_number : {B : Type 0} (at : ℕ) (f : Reading → Answer B) (r : Result Reading Refusal) → NoNumber r → or_ten (answer_of r >>= f) ≡ refused 10 0
 no_number at f (Ok a) k = absurd (k a refl)
 no_number at f (Err x) k = refl
+
+-- What was found, as it is read.
+pub none_found : (r : Result Reading Refusal) (o : Option Reading) → o ≡ result_ok r → ((a : Reading) → o ≡ Some a → ⊥) → NoNumber r
+none_found r o e k = λ a q. k a (e ∙ ap result_ok q)
+
+pub some_found : (r : Result Reading Refusal) (o : Option Reading) → o ≡ result_ok r → (a : Reading) → o ≡ Some a → r ≡ Ok a
+some_found (Ok b) o e a q = cc
+some_found (Err x) o e a q = cc
 
 -- The first two numbers
 

@@ -50,7 +50,7 @@ pub trait Visit {
 fn read_head(s: &[u8]) -> Result<Head, Refusal>
     ensures { answer_of result ≡ as_head (head_at s.now) }
 {
-    let Ok(Reading { next, value: count }) = number::read_number(s, 0) else {
+    let Some(Reading { next, value: count }) = number::find_number(s, 0) else {
         return Err(Refusal::Schedule);
     };
     if 511 < count {
@@ -116,21 +116,21 @@ fn read_record(s: &[u8], at: usize, before: Stretch) -> Result<Record, Refusal>
     requires { before.end ≤ last_station }
     ensures { answer_of result ≡ as_record (record_at before.end before.level s.now at) }
 {
-    let Ok(
+    let Some(
         Reading {
             next: i,
             value: gap,
         },
-    ) = number::read_number(s, at)
+    ) = number::find_number(s, at)
     else {
         return Err(Refusal::Schedule);
     };
-    let Ok(
+    let Some(
         Reading {
             next: j,
             value: length,
         },
-    ) = number::read_number(s, i)
+    ) = number::find_number(s, i)
     else {
         return Err(Refusal::Schedule);
     };

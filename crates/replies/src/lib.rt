@@ -103,7 +103,7 @@ pub struct LayoutReply {
     pub floor: u64,
 }
 
-// A refusal as C has it: its number and what it returns.
+// A refusal as C has it: its number and what it returns. The C interface has numbers for it.
 fn refused(refusal: Refusal) -> Reply
     ensures { result ≡ reply (number_of refusal) (value_of refusal) }
 {

@@ -1,7 +1,10 @@
 -- The memory is tested, then the number, and the present state is kept under it.
 use Rattle.std.proofs.Common.{refl}
-use Rattle.open_job.proofs.WholeLaws.{keep_broken, keep_refused, keep_done}
+use Rattle.open_job.proofs.WholeLaws.{test_passed, keep_broken, keep_refused, keep_done}
 use Rattle.open_job.proofs.OpenStates.keep.Goals as goal
+
+pub invariant_of-present : goal.invariant_of-present
+invariant_of-present c = record { keeps_rules = test_passed c.args.self.now c.in_ok-test.field-0 c.in_ok-test.ensures.sound }
 
 pub returns-in_err-test : goal.returns-in_err-test
 returns-in_err-test c =

@@ -10,8 +10,8 @@ walk-requires-clause-ready_old g c =
     record {
       keyed = none_keyed c.args.keys.now c.args.ends.now;
       few = omega arith;
-      for_keys = omega (arith, c.requires.keys_len, count);
-      for_ends = omega (arith, c.requires.ends_len, count);
+      for_keys = λ l. omega (arith, c.requires.keys_len, count);
+      for_ends = λ l. omega (arith, c.requires.ends_len, count);
     }
 
 pub walk-requires-clause-none_taken : goal.walk-requires-clause-none_taken
