@@ -68,22 +68,23 @@ module _ (m : OpenStates) where
 
   -- Keep
 
-  pub keep_whole : length m.kept ≡ most_kept → (number : ℕ) → Keeps m number (under_rules (are_open_states m) (test_state number)) (keep_in m number)
+  pub keep_whole : (number : ℕ) → Keeps m number (under_rules (are_open_states m) (test_state number)) (keep_in m number)
   unfolding keep_in
-  keep_whole size number = go (under_rules (are_open_states m) (test_state number))
+  keep_whole number = go (under_rules (are_open_states m) (test_state number))
     where
       new : List KeptState
       new = set m.kept number (kept_from m.present)
 
-      stored : record { present = m.present; kept = new } ≡ states_from m.present (set (kept_states m) number (kept_from m.present))
-      stored =
+      stored : length m.kept ≡ most_kept
+          → record { present = m.present; kept = new } ≡ states_from m.present (set (kept_states m) number (kept_from m.present))
+      stored size =
           sym (ap (λ (ks : List KeptState). states_from m.present (set ks number (kept_from m.present))) (eight_same m.kept size)
           ∙ ap (with_kept m.present) (eight_same new (length-set m.kept number (kept_from m.present) ∙ size)))
 
       go : (part : Answer (Unit {0})) → Keeps m number part
           (part >>= λ _. accepted (states_from m.present (set (kept_states m) number (kept_from m.present))))
-      go (accepted u) = (stored, refl)
-      go (refused k v) = (refl, refl)
+      go (accepted u) = (refl, stored, refl)
+      go (refused k v) = (refl, (λ size. refl), refl)
 
   -- Return
 
@@ -107,11 +108,20 @@ module _ (m : OpenStates) where
       back : KeptState → Answer StoredJob
       back k = unless_refuse (is_used k) Row.State >>= λ _. accepted (state_of m.present.header k)
 
-  pub return_whole : (number : ℕ) → Carries m (under_rules (are_open_states m) (kept_job m.present.header number (looked_for m number))) (return_in m number)
+  -- A return to what stands in the array is the return.
+  pub return_found : (number : ℕ) → changed_in m (kept_job m.present.header number (looked_for m number)) ≡ return_in m number
   unfolding return_in
+  return_found number = ap (changed_in m) (return_same number)
+
+  pub return_whole : (number : ℕ) → Carries m (under_rules (are_open_states m) (kept_job m.present.header number (looked_for m number))) (return_in m number)
   return_whole number =
-      subst (λ (call : Answer StoredJob). Carries m (under_rules (are_open_states m) call) (return_in m number)) (sym (return_same number))
-      (change_whole (kept_job m.present.header number (kept_under m number)))
+      let call = kept_job m.present.header number (looked_for m number) in
+      subst (Carries m (under_rules (are_open_states m) call)) (return_found number) (change_whole call)
+
+  -- The same of what is kept.
+  pub return_kept : (number : ℕ) → Carries m (under_rules (are_open_states m) (kept_job m.present.header number (kept_under m number))) (return_in m number)
+  unfolding return_in
+  return_kept number = change_whole (kept_job m.present.header number (kept_under m number))
 
   -- Opening
 
@@ -178,6 +188,11 @@ module _ (m : OpenStates) where
     pub change_done : (u : Unit {0}) → accepted u ≡ test → (a : StoredJob) → accepted a ≡ call → Leaves m whole (accepted tt) (with_kept a m.kept)
     change_done u t a e = changes (accepted a) (e ∙ sym (under_passed u call t)) (accepted tt) refl
 
+  -- A return on a memory that is refused.
+  pub return_broken : (number : ℕ) (r : Result (Unit {0}) Refusal) (q : Refusal) → IsErrAnd r (λ e. e ≡ q) → refusal q ≡ test
+      → Leaves m (return_in m number) (answer_of r) m
+  return_broken number = change_broken (kept_job m.present.header number (looked_for m number)) (return_in m number) (return_whole m number)
+
   -- Keep
 
   pub keep_broken : (number : ℕ) (r : Result (Unit {0}) Refusal) (q : Refusal) → IsErrAnd r (λ e. e ≡ q) → refusal q ≡ test
@@ -193,8 +208,8 @@ module _ (m : OpenStates) where
     keeps : (part : Answer (Unit {0})) → part ≡ under_rules (are_open_states m) (test_state number) → (how : Answer (Unit {0})) → replied how ≡ replied part
         → Leaves m (keep_in m number) how (after_keep m (is_accepted (replied part)) number)
     keeps part p how e =
-        let w = keep_whole m size number in
-        record { memory = ap (λ (x : Answer (Unit {0})). after_keep m (is_accepted (replied x)) number) p ∙ w.0; reply = e ∙ ap replied p ∙ w.1 }
+        let w = keep_whole m number in
+        record { memory = ap (λ (x : Answer (Unit {0})). after_keep m (is_accepted (replied x)) number) p ∙ w.1 size; reply = e ∙ ap replied p ∙ w.2 }
 
     pub keep_refused : (u : Unit {0}) → accepted u ≡ test → (r : Result (Unit {0}) Refusal) (q : Refusal) → IsErrAnd r (λ e. e ≡ q)
         → refusal q ≡ test_state number → Leaves m (keep_in m number) (answer_of r) m

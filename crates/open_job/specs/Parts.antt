@@ -1,6 +1,6 @@
 -- The steps of the calls on the parts of the memory, one state at a time.
 -- Assumes nothing.
-use Rattle.std.specs.Prelude.{Option, Some, None, ℕ, ◌≡◌, Bool, false, ◌&&◌, List, leb, eqb, get_or, set, replicate, if◌then◌else◌}
+use Rattle.std.specs.Prelude.{Option, Some, None, ℕ, ◌≡◌, Bool, false, ◌&&◌, List, length, leb, eqb, get_or, set, replicate, if◌then◌else◌}
 use Rattle.base.specs.Choice.{all_of}
 use Rattle.base.specs.Answer.{Answer, accepted, ◌>>=◌, is_accepted, replied}
 use Rattle.job.specs.declared.Header.{Header}
@@ -56,13 +56,20 @@ module _ (m : OpenStates) where
   abbrev pub Carries : Answer StoredJob → Answer OpenStates → Type 0
   Carries part whole = (states_from (memory_after part m.present) (kept_states m) ≡ memory_after whole as_eight) × (replied part ≡ replied whole)
 
+  -- The eight states after a keep: where it is done, the present state is put among them under the number; else as they were.
+  abbrev pub eight_after_keep : (done : Bool) (number : ℕ) → OpenStates
+  eight_after_keep done number = if done then states_from m.present (set (kept_states m) number (kept_from m.present)) else as_eight
+
   -- The memory after a keep: where it is done, the present state is put into the array under the number; else as it was.
   abbrev pub after_keep : (done : Bool) (number : ℕ) → OpenStates
   after_keep done number = if done then record { present = m.present; kept = set m.kept number (kept_from m.present) } else m
 
-  -- A keep that the test of its number answers so is the call on the whole memory.
+  -- A keep that the test of its number answers so is the call on the whole memory: as eight states of any list, and in an array of eight as it lies.
   abbrev pub Keeps : (number : ℕ) → Answer (Unit {0}) → Answer OpenStates → Type 0
-  Keeps number part whole = (after_keep (is_accepted (replied part)) number ≡ memory_after whole m) × (replied part ≡ replied whole)
+  Keeps number part whole =
+      (eight_after_keep (is_accepted (replied part)) number ≡ memory_after whole as_eight)
+      × (length m.kept ≡ most_kept → after_keep (is_accepted (replied part)) number ≡ memory_after whole m)
+      × (replied part ≡ replied whole)
 
   -- What is found in the array under a number; nothing behind its end.
   abbrev pub looked_for : (number : ℕ) → KeptState

@@ -17,3 +17,6 @@ pub struct Overhangs {
     pub before: u64,
     pub after: u64,
 }
+
+#[cfg(test)]
+mod tests;

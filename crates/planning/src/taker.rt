@@ -1,5 +1,5 @@
 // What is taken of the hazards that a walk gives: the envelopes of a side, or the one hazard asked for.
-ghost use Rattle.std.specs.Prelude.{◌≡◌, refl};
+ghost use Rattle.std.specs.Prelude.{◌≡◌, refl, length};
 ghost use Rattle.std.proofs.Common.{◌∙◌};
 ghost use Rattle.planning.specs.Envelope.{greater};
 ghost use Rattle.planning.specs.Taker.{SideReady, side_took, asked_took, side_passed_by};
@@ -48,7 +48,7 @@ impl<'a> Taker for SideTaker<'a> {
 
     ghost took = { λ t h zs. side_took t.keys.now t.ends.now t.count t.overhangs t.side t.window h zs };
 
-    ghost same = { λ a b. (a.keys.ghost_name ≡ b.keys.ghost_name) × (a.ends.ghost_name ≡ b.ends.ghost_name) × (a.side ≡ b.side) × (a.window ≡ b.window) };
+    ghost same = { λ a b. (a.keys.ghost_name ≡ b.keys.ghost_name) × (a.ends.ghost_name ≡ b.ends.ghost_name) × (a.side ≡ b.side) × (a.window ≡ b.window) × (length a.keys.now ≡ length b.keys.now) × (length a.ends.now ≡ length b.ends.now) };
 
     #[inline(always)]
     fn take(&mut self, index: usize, tested: Tested) {
@@ -64,9 +64,9 @@ impl<'a> Taker for SideTaker<'a> {
 
     ghost passed_by = { λ t h index ready. side_passed_by ready };
 
-    ghost same_at_once = { λ t. (refl, refl, refl, refl) };
+    ghost same_at_once = { λ t. (refl, refl, refl, refl, refl, refl) };
 
-    ghost same_later = { λ a b c e f. (e.0 ∙ f.0, e.1 ∙ f.1, e.2 ∙ f.2, e.3 ∙ f.3) };
+    ghost same_later = { λ a b c e f. (e.0 ∙ f.0, e.1 ∙ f.1, e.2 ∙ f.2, e.3 ∙ f.3, e.4 ∙ f.4, e.5 ∙ f.5) };
 }
 
 impl Taker for Asked {

@@ -109,7 +109,7 @@ pub use Rattle.open_promises.proofs.ReachLaws.{reach_promise}
 -- Where literal words and computing forms stand side by side
 pub use Rattle.station_level.proofs.NearestLaws.{level_found_lem, level_lower}
 pub use Rattle.clear_offset.proofs.SearchLaws.{least_exactly, none_exactly}
-pub use Rattle.open_job.proofs.WholeLaws.{test_whole, open_whole, change_whole, keep_whole, return_whole}
+pub use Rattle.open_job.proofs.WholeLaws.{test_whole, open_whole, change_whole, keep_whole, return_whole, return_kept}
 -- What has to be believed
 pub use Rattle.panels.proofs.BestLaws.{best_first, best_none}
 pub use Rattle.base.proofs.LeastLaws.{multiple_divided, multiple_from, multiple_least}

@@ -2,7 +2,7 @@
 use Rattle.std.proofs.Common.{refl}
 use Rattle.open_job.specs.Calls.{kept_job, return_in}
 use Rattle.open_job.specs.Parts.{looked_for}
-use Rattle.open_job.proofs.WholeLaws.{test_passed, return_whole, change_broken, change_refused, change_done}
+use Rattle.open_job.proofs.WholeLaws.{test_passed, return_whole, return_broken, change_refused, change_done}
 use Rattle.open_job.proofs.OpenStates.return_to.Goals as goal
 
 pub invariant_of-present : goal.invariant_of-present
@@ -10,10 +10,7 @@ invariant_of-present c = record { keeps_rules = test_passed c.args.self.now c.in
 
 pub returns-in_err-test : goal.returns-in_err-test
 returns-in_err-test c =
-    let m = c.args.self.now in
-    let call = kept_job m.present.header c.args.number (looked_for m c.args.number) in
-    let leaves = change_broken m call (return_in m c.args.number) (return_whole m c.args.number) c.from_residual.result c.in_err-test.field-0.0
-    c.from_residual.ensures.1 c.in_err-test.ensures.sound in
+    let leaves = return_broken c.args.self.now c.args.number c.from_residual.result c.in_err-test.field-0.0 c.from_residual.ensures.1 c.in_err-test.ensures.sound in
     record { memory = leaves.memory; reply = leaves.reply }
 
 pub returns-in_err-self : goal.returns-in_err-self
