@@ -14,7 +14,8 @@ const PRINTED: [u8; 34] = [
     154, 12, 208, 232, 12, 136, 39, 168, 70, 3,
 ];
 
-// The walk over it, for a side: how many envelopes were taken, and how long the arrays are afterwards. None where the job is refused.
+// The walk over it, for a side: how many envelopes were taken, and how long the arrays are afterwards. `None` where the job is refused. A side above 1 has no
+// envelopes and asks for no room.
 fn walked(side: u64, keys: &mut [u64], ends: &mut [u64]) -> Option<[usize; 3]>
     requires { side ≤ 1 → (256 ≤ length keys.old) × (256 ≤ length ends.old) }
 {
@@ -50,6 +51,10 @@ fn arrays_keep_their_lengths(rt: HostRuntime) {
     );
     assert_eq!(rt;
         walked(1, &mut keys[..], &mut ends[..]),
+        Some([0, 256, 256])
+    );
+    assert_eq!(rt;
+        walked(2, &mut keys[..], &mut ends[..]),
         Some([0, 256, 256])
     );
     assert_eq!(rt; walked(2, &mut [], &mut []), Some([0, 0, 0]));
