@@ -15,7 +15,7 @@ run:
 	@mkdir -p target
 	@cd crates/barrier && rt run <stdin 2>"$(CURDIR)/target/run.log" || { cat "$(CURDIR)/target/run.log"; exit 1; }
 
-# Everything. The toolchain's gate comes last: each crate proved, each must-fail edit refused, each program run.
+# Everything. The toolchain's gate comes last: each crate proved, each must-fail edit refused, each program and each test of a crate run.
 # Before it the log is told what was built and tested, which make dist reads there.
 test: promises calls hand vendor-test portable-test
 	@python3 -B delivery/gate.py
