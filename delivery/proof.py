@@ -28,7 +28,7 @@ gate: %(last)s
 '''
 
 WORDS = '''All of this stands in the log of the gate (make test), which ran on that commit: the last line is the toolchain's own tally of crates proved, wrong edits
-refused and programs run. Of each crate stands here the SHA-256 of what sha256sum prints of its files, in the order of their paths, and of its MIR, which the C's head names.
+refused, and programs and tests of crates run. Of each crate stands here the SHA-256 of what sha256sum prints of its files, in the order of their paths, and of its MIR, which the C's head names.
 The toolchain proved each of them: in that run, or in an earlier one on that machine of the same files over the same libraries. Of the archive and the program stand here the
 verdict of the prover where they were built, which may rest on what it had checked there before, and what it takes as an axiom; the sum= in a verdict is that of the prover's logic. This file is a statement and proves nothing by itself: in the repository, at that commit, with the toolchain,
 make dist-check DIST=FOLDER proves and builds all again and compares.'''

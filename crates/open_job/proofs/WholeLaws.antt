@@ -108,7 +108,7 @@ module _ (m : OpenStates) where
       back : KeptState → Answer StoredJob
       back k = unless_refuse (is_used k) Row.State >>= λ _. accepted (state_of m.present.header k)
 
-  -- A return to what stands in the array is the return.
+  -- A return to what stands in the array under the number is the return.
   pub return_found : (number : ℕ) → changed_in m (kept_job m.present.header number (looked_for m number)) ≡ return_in m number
   unfolding return_in
   return_found number = ap (changed_in m) (return_same number)
@@ -118,7 +118,7 @@ module _ (m : OpenStates) where
       let call = kept_job m.present.header number (looked_for m number) in
       subst (Carries m (under_rules (are_open_states m) call)) (return_found number) (change_whole call)
 
-  -- The same of what is kept.
+  -- The same of what is kept under the number, as the definition has it.
   pub return_kept : (number : ℕ) → Carries m (under_rules (are_open_states m) (kept_job m.present.header number (kept_under m number))) (return_in m number)
   unfolding return_in
   return_kept number = change_whole (kept_job m.present.header number (kept_under m number))
@@ -188,7 +188,7 @@ module _ (m : OpenStates) where
     pub change_done : (u : Unit {0}) → accepted u ≡ test → (a : StoredJob) → accepted a ≡ call → Leaves m whole (accepted tt) (with_kept a m.kept)
     change_done u t a e = changes (accepted a) (e ∙ sym (under_passed u call t)) (accepted tt) refl
 
-  -- A return on a memory that is refused.
+  -- A return on memory that breaks the rules is refused, and alters nothing.
   pub return_broken : (number : ℕ) (r : Result (Unit {0}) Refusal) (q : Refusal) → IsErrAnd r (λ e. e ≡ q) → refusal q ≡ test
       → Leaves m (return_in m number) (answer_of r) m
   return_broken number = change_broken (kept_job m.present.header number (looked_for m number)) (return_in m number) (return_whole m number)

@@ -64,7 +64,7 @@ module _ (m : OpenStates) where
   abbrev pub after_keep : (done : Bool) (number : ℕ) → OpenStates
   after_keep done number = if done then record { present = m.present; kept = set m.kept number (kept_from m.present) } else m
 
-  -- A keep that the test of its number answers so is the call on the whole memory: as eight states of any list, and in an array of eight as it lies.
+  -- A keep whose tests answer `part` is the call on the whole memory: of any list, read as eight states, and of an array of eight as it lies.
   abbrev pub Keeps : (number : ℕ) → Answer (Unit {0}) → Answer OpenStates → Type 0
   Keeps number part whole =
       (eight_after_keep (is_accepted (replied part)) number ≡ memory_after whole as_eight)

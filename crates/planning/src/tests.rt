@@ -45,17 +45,9 @@ fn walked(side: u64, keys: &mut [u64], ends: &mut [u64]) -> Option<[usize; 3]>
 fn arrays_keep_their_lengths(rt: HostRuntime) {
     let mut keys = [0u64; 256];
     let mut ends = [0u64; 256];
-    assert_eq!(rt;
-        walked(0, &mut keys[..], &mut ends[..]),
-        Some([1, 256, 256])
-    );
-    assert_eq!(rt;
-        walked(1, &mut keys[..], &mut ends[..]),
-        Some([0, 256, 256])
-    );
-    assert_eq!(rt;
-        walked(2, &mut keys[..], &mut ends[..]),
-        Some([0, 256, 256])
-    );
+    for (side, count) in [(0, 1), (1, 0), (2, 0)] {
+        let after = walked(side, &mut keys[..], &mut ends[..]);
+        assert_eq!(rt; after, Some([count, 256, 256]), "side {side}");
+    }
     assert_eq!(rt; walked(2, &mut [], &mut []), Some([0, 0, 0]));
 }
